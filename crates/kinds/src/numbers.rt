@@ -1,0 +1,369 @@
+// Statuses, procedures, limits and answers as constants of their types, and the numbers of records and blocks.
+ghost use mathlib.Core.Path.{_≡_};
+ghost use Rattle.kinds.specs.Numbers.{statuses, procedures, limits, answers, messages, kinds, zeroWords};
+
+// The number of an object, of a name record and of a block: three types, so that none is taken for another.
+pub struct ObjectNumber(pub usize);
+
+pub struct NameNumber(pub usize);
+
+pub struct BlockNumber(pub usize);
+
+// An NFS version 3 status, RFC 1813 section 2.6.
+pub struct Status(pub u32);
+
+impl Status {
+    pub const OK: Status = Status(0);
+
+    pub const NOENT: Status = Status(2);
+
+    pub const ACCES: Status = Status(13);
+
+    pub const EXIST: Status = Status(17);
+
+    pub const NOTDIR: Status = Status(20);
+
+    pub const INVAL: Status = Status(22);
+
+    pub const FBIG: Status = Status(27);
+
+    pub const NOSPC: Status = Status(28);
+
+    pub const NAMETOOLONG: Status = Status(63);
+
+    pub const NOTEMPTY: Status = Status(66);
+
+    pub const STALE: Status = Status(70);
+
+    pub const BADHANDLE: Status = Status(10001);
+
+    pub const NOT_SYNC: Status = Status(10002);
+
+    pub const BAD_COOKIE: Status = Status(10003);
+
+    pub const NOTSUPP: Status = Status(10004);
+
+    pub const TOOSMALL: Status = Status(10005);
+
+    // The numbers of the constants above, in their order.
+    pub fn numbers() -> [u32; 16]
+        ensures { λ r. ⌜ r ≡ statuses ⌝ }
+    {
+        [
+            Status::OK.0,
+            Status::NOENT.0,
+            Status::ACCES.0,
+            Status::EXIST.0,
+            Status::NOTDIR.0,
+            Status::INVAL.0,
+            Status::FBIG.0,
+            Status::NOSPC.0,
+            Status::NAMETOOLONG.0,
+            Status::NOTEMPTY.0,
+            Status::STALE.0,
+            Status::BADHANDLE.0,
+            Status::NOT_SYNC.0,
+            Status::BAD_COOKIE.0,
+            Status::NOTSUPP.0,
+            Status::TOOSMALL.0,
+        ]
+    }
+}
+
+// A procedure of NFS version 3, RFC 1813 section 3.
+pub struct Procedure(pub u32);
+
+impl Procedure {
+    pub const NULL: u32 = 0;
+
+    pub const GETATTR: u32 = 1;
+
+    pub const SETATTR: u32 = 2;
+
+    pub const LOOKUP: u32 = 3;
+
+    pub const ACCESS: u32 = 4;
+
+    pub const READLINK: u32 = 5;
+
+    pub const READ: u32 = 6;
+
+    pub const WRITE: u32 = 7;
+
+    pub const CREATE: u32 = 8;
+
+    pub const MKDIR: u32 = 9;
+
+    pub const SYMLINK: u32 = 10;
+
+    pub const MKNOD: u32 = 11;
+
+    pub const REMOVE: u32 = 12;
+
+    pub const RMDIR: u32 = 13;
+
+    pub const RENAME: u32 = 14;
+
+    pub const LINK: u32 = 15;
+
+    pub const READDIR: u32 = 16;
+
+    pub const READDIRPLUS: u32 = 17;
+
+    pub const FSSTAT: u32 = 18;
+
+    pub const FSINFO: u32 = 19;
+
+    pub const PATHCONF: u32 = 20;
+
+    pub const COMMIT: u32 = 21;
+
+    // The zero words of a failure body with no live handle, by procedure.
+    pub const ZERO_WORDS: [usize; 22] = [
+        0,
+        0,
+        2,
+        1,
+        1,
+        1,
+        1,
+        2,
+        2,
+        2,
+        2,
+        2,
+        2,
+        2,
+        4,
+        3,
+        1,
+        1,
+        1,
+        1,
+        1,
+        2,
+    ];
+
+    // The numbers of the constants above, in their order.
+    pub fn numbers() -> [u32; 22]
+        ensures { λ r. ⌜ r ≡ procedures ⌝ }
+    {
+        [
+            Procedure::NULL,
+            Procedure::GETATTR,
+            Procedure::SETATTR,
+            Procedure::LOOKUP,
+            Procedure::ACCESS,
+            Procedure::READLINK,
+            Procedure::READ,
+            Procedure::WRITE,
+            Procedure::CREATE,
+            Procedure::MKDIR,
+            Procedure::SYMLINK,
+            Procedure::MKNOD,
+            Procedure::REMOVE,
+            Procedure::RMDIR,
+            Procedure::RENAME,
+            Procedure::LINK,
+            Procedure::READDIR,
+            Procedure::READDIRPLUS,
+            Procedure::FSSTAT,
+            Procedure::FSINFO,
+            Procedure::PATHCONF,
+            Procedure::COMMIT,
+        ]
+    }
+
+    // The table of zero words.
+    pub fn zero_words() -> [usize; 22]
+        ensures { λ r. ⌜ r ≡ zeroWords ⌝ }
+    {
+        Procedure::ZERO_WORDS
+    }
+}
+
+// What a message must say to be a call of NFS version 3, and what a reply says, RFC 5531 section 9.
+pub struct Message(pub u32);
+
+impl Message {
+    pub const CALL: u32 = 0;
+
+    pub const REPLY: u32 = 1;
+
+    pub const ACCEPTED: u32 = 0;
+
+    pub const DENIED: u32 = 1;
+
+    pub const RPC_MISMATCH: u32 = 0;
+
+    pub const RPC_VERSION: u32 = 2;
+
+    pub const PROGRAM: u32 = 100003;
+
+    pub const VERSION: u32 = 3;
+
+    pub const SUCCESS: u32 = 0;
+
+    pub const PROG_UNAVAIL: u32 = 1;
+
+    pub const PROG_MISMATCH: u32 = 2;
+
+    pub const PROC_UNAVAIL: u32 = 3;
+
+    pub const GARBAGE_ARGS: u32 = 4;
+
+    // The numbers of the constants above, in their order.
+    pub fn numbers() -> [u32; 13]
+        ensures { λ r. ⌜ r ≡ messages ⌝ }
+    {
+        [
+            Message::CALL,
+            Message::REPLY,
+            Message::ACCEPTED,
+            Message::DENIED,
+            Message::RPC_MISMATCH,
+            Message::RPC_VERSION,
+            Message::PROGRAM,
+            Message::VERSION,
+            Message::SUCCESS,
+            Message::PROG_UNAVAIL,
+            Message::PROG_MISMATCH,
+            Message::PROC_UNAVAIL,
+            Message::GARBAGE_ARGS,
+        ]
+    }
+}
+
+// The type of an object.
+pub struct Kind(pub u32);
+
+impl Kind {
+    pub const FREE: u32 = 0;
+
+    pub const REGULAR: u32 = 1;
+
+    pub const DIRECTORY: u32 = 2;
+
+    // The numbers of the constants above, in their order.
+    pub fn numbers() -> [u32; 3]
+        ensures { λ r. ⌜ r ≡ kinds ⌝ }
+    {
+        [Kind::FREE, Kind::REGULAR, Kind::DIRECTORY]
+    }
+}
+
+// The largest and the exact numbers of document 01.
+pub struct Limit(pub u64);
+
+impl Limit {
+    // The least reply space, and the largest call.
+    pub const REPLY_SPACE: usize = 4224;
+
+    pub const CALL: usize = 8192;
+
+    // Nanoseconds are below this.
+    pub const NANOSECONDS: u32 = 1000000000;
+
+    // The largest counts of a store.
+    pub const OBJECTS: usize = 64;
+
+    pub const NAMES: usize = 128;
+
+    pub const BLOCKS: usize = 1024;
+
+    // The bytes of an object record, a name record and a block.
+    pub const OBJECT_BYTES: usize = 80;
+
+    pub const NAME_BYTES: usize = 44;
+
+    pub const BLOCK_BYTES: usize = 512;
+
+    // The blocks of one object, the number of an unused one, and the largest file.
+    pub const FILE_BLOCKS: usize = 16;
+
+    pub const UNUSED_BLOCK: u16 = 65535;
+
+    pub const FILE: u64 = 8192;
+
+    // The generation that is never given out, and the largest mode.
+    pub const GENERATION: u32 = 4294967295;
+
+    pub const MODE: u32 = 4095;
+
+    // The longest name, the bytes of our handles, the longest handle, and the longest credential or verifier.
+    pub const NAME: usize = 32;
+
+    pub const HANDLE: usize = 12;
+
+    pub const ANY_HANDLE: usize = 64;
+
+    pub const CREDENTIAL: usize = 400;
+
+    // The most bytes that one READ or WRITE moves.
+    pub const TRANSFER: usize = 4096;
+
+    // The numbers of the constants above, in their order.
+    pub fn numbers() -> [u64; 19]
+        ensures { λ r. ⌜ r ≡ limits ⌝ }
+    {
+        [
+            Limit::REPLY_SPACE as u64,
+            Limit::CALL as u64,
+            Limit::NANOSECONDS as u64,
+            Limit::OBJECTS as u64,
+            Limit::NAMES as u64,
+            Limit::BLOCKS as u64,
+            Limit::OBJECT_BYTES as u64,
+            Limit::NAME_BYTES as u64,
+            Limit::BLOCK_BYTES as u64,
+            Limit::FILE_BLOCKS as u64,
+            Limit::UNUSED_BLOCK as u64,
+            Limit::FILE,
+            Limit::GENERATION as u64,
+            Limit::MODE as u64,
+            Limit::NAME as u64,
+            Limit::HANDLE as u64,
+            Limit::ANY_HANDLE as u64,
+            Limit::CREDENTIAL as u64,
+            Limit::TRANSFER as u64,
+        ]
+    }
+}
+
+// The answer of an entry: its number, and the length of the reply.
+#[repr(C)]
+pub struct Answer {
+    pub number: u32,
+    pub length: u32,
+}
+
+impl Answer {
+    pub const DONE: u32 = 0;
+
+    pub const STORE: u32 = 1;
+
+    pub const REPLY_SPACE: u32 = 2;
+
+    pub const CLOCK: u32 = 3;
+
+    pub const CALL: u32 = 4;
+
+    pub const HEADER: u32 = 5;
+
+    pub const FORMAT: u32 = 6;
+
+    // The numbers of the constants above, in their order.
+    pub fn numbers() -> [u32; 7]
+        ensures { λ r. ⌜ r ≡ answers ⌝ }
+    {
+        [
+            Answer::DONE,
+            Answer::STORE,
+            Answer::REPLY_SPACE,
+            Answer::CLOCK,
+            Answer::CALL,
+            Answer::HEADER,
+            Answer::FORMAT,
+        ]
+    }
+}
