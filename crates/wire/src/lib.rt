@@ -1,0 +1,114 @@
+// Big-endian numbers in byte slices.
+ghost use mathlib.Core.Path.{_≡_};
+ghost use Prim.Native.Nat.{_+_, _≤_, _<_};
+ghost use lib.ListN.{length, replicate};
+ghost use Rattle.spec.specs.Bytes.{beAt, overlay, bytesOf, part, sameBytes};
+
+// A byte as a number of 32 bits.
+fn wide(x: u8) -> u32
+    ensures { λ r. ⌜ (r ≡ x) × (r < 256) ⌝ }
+{
+    x as u32
+}
+
+// The number in the two bytes from `at`.
+pub fn get_u16(s: &[u8], at: usize) -> u16
+    requires { ⌜ at + 2 ≤ length (now s) ⌝ }
+    ensures { λ r. ⌜ r ≡ beAt (now (s .entry)) at 2 ⌝ }
+{
+    (wide(s[at]) * 256 + wide(s[at + 1])) as u16
+}
+
+// The number in the four bytes from `at`.
+pub fn get_u32(s: &[u8], at: usize) -> u32
+    requires { ⌜ at + 4 ≤ length (now s) ⌝ }
+    ensures { λ r. ⌜ r ≡ beAt (now (s .entry)) at 4 ⌝ }
+{
+    ((wide(s[at]) * 256 + wide(s[at + 1])) * 256 + wide(s[at + 2])) * 256 + wide(s[at + 3])
+}
+
+// Writes v into the two bytes from `at`.
+pub fn put_u16(s: &mut [u8], at: usize, v: u16)
+    requires { ⌜ at + 2 ≤ length (now s) ⌝ }
+    ensures { λ _. ⌜ now (s .exit) ≡ overlay (now (s .entry)) at (bytesOf 2 v) ⌝ }
+{
+    s[at] = (v / 256 % 256) as u8;
+    s[at + 1] = (v % 256) as u8;
+}
+
+// Writes v into the four bytes from `at`.
+pub fn put_u32(s: &mut [u8], at: usize, v: u32)
+    requires { ⌜ at + 4 ≤ length (now s) ⌝ }
+    ensures { λ _. ⌜ now (s .exit) ≡ overlay (now (s .entry)) at (bytesOf 4 v) ⌝ }
+{
+    s[at] = (v / 16777216 % 256) as u8;
+    s[at + 1] = (v / 65536 % 256) as u8;
+    s[at + 2] = (v / 256 % 256) as u8;
+    s[at + 3] = (v % 256) as u8;
+}
+
+// The number in the eight bytes from `at`.
+pub fn get_u64(s: &[u8], at: usize) -> u64
+    requires { ⌜ at + 8 ≤ length (now s) ⌝ }
+    ensures { λ r. ⌜ r ≡ beAt (now (s .entry)) at 8 ⌝ }
+{
+    let high = get_u32(s, at) as u64;
+    let low = get_u32(s, at + 4) as u64;
+    high * 4294967296 + low
+}
+
+// Writes v into the eight bytes from `at`.
+pub fn put_u64(s: &mut [u8], at: usize, v: u64)
+    requires { ⌜ at + 8 ≤ length (now s) ⌝ }
+    ensures { λ _. ⌜ now (s .exit) ≡ overlay (now (s .entry)) at (bytesOf 8 v) ⌝ }
+{
+    s[at] = (v / 72057594037927936 % 256) as u8;
+    s[at + 1] = (v / 281474976710656 % 256) as u8;
+    s[at + 2] = (v / 1099511627776 % 256) as u8;
+    s[at + 3] = (v / 4294967296 % 256) as u8;
+    s[at + 4] = (v / 16777216 % 256) as u8;
+    s[at + 5] = (v / 65536 % 256) as u8;
+    s[at + 6] = (v / 256 % 256) as u8;
+    s[at + 7] = (v % 256) as u8;
+}
+
+// Copies the len bytes of src from `from` into dst from `at`.
+pub fn copy_bytes(dst: &mut [u8], at: usize, src: &[u8], from: usize, len: usize)
+    requires { ⌜ at + len ≤ length (now dst) ⌝ }
+    requires { ⌜ from + len ≤ length (now src) ⌝ }
+    ensures { λ _. ⌜ now (dst .exit) ≡ overlay (now (dst .entry)) at (part (now (src .entry)) from len) ⌝ }
+{
+    let mut i = 0;
+    while i < len {
+        dst[at + i] = src[from + i];
+        i += 1;
+    }
+}
+
+// Makes the len bytes of dst from `at` zero.
+pub fn clear_bytes(dst: &mut [u8], at: usize, len: usize)
+    requires { ⌜ at + len ≤ length (now dst) ⌝ }
+    ensures { λ _. ⌜ now (dst .exit) ≡ overlay (now (dst .entry)) at (replicate len 0) ⌝ }
+{
+    let mut i = 0;
+    while i < len {
+        dst[at + i] = 0;
+        i += 1;
+    }
+}
+
+// Whether the len bytes of a from `at` are those of b from `from`.
+pub fn same_bytes(a: &[u8], at: usize, b: &[u8], from: usize, len: usize) -> bool
+    requires { ⌜ at + len ≤ length (now a) ⌝ }
+    requires { ⌜ from + len ≤ length (now b) ⌝ }
+    ensures { λ r. ⌜ r ≡ sameBytes (part (now (a .entry)) at len) (part (now (b .entry)) from len) ⌝ }
+{
+    let mut i = 0;
+    while i < len {
+        if a[at + i] != b[from + i] {
+            return false;
+        }
+        i += 1;
+    }
+    true
+}
