@@ -1,0 +1,145 @@
+-- LOOKUP, CREATE and MKDIR.
+use Prim.Native.Nat.{ℕ}
+use lib.ListN.{replicate}
+use mathlib.Core.Bool.{Bool, true, false, _&&_, _||_, not, cond}
+use mathlib.Core.List.{List}
+use mathlib.Core.Option.{Option, some, none}
+use Rattle.kinds.specs.Numbers.{NOENT, EXIST, INVAL, NOSPC, NOTSUPP, REGULAR, DIRECTORY}
+use Rattle.kinds.specs.declared.object.Time.{Time}
+use Rattle.kinds.specs.declared.object.Object.{Object}
+use Rattle.kinds.specs.declared.object.Context.{Context}
+use Rattle.kinds.specs.declared.call.SetSize.{SetSize}
+use Rattle.kinds.specs.declared.call.SetSize.the-variants as SetSize
+use Rattle.kinds.specs.declared.call.Settable.{Settable}
+use Rattle.kinds.specs.declared.call.How.{How}
+use Rattle.kinds.specs.declared.call.How.the-variants as How
+use Rattle.spec.specs.Checked.{Checked, _>>=_, _>>_, refuseIf, present, absent, refused, passed}
+use Rattle.spec.specs.Edits.{withAttributes, setAttributes, onlyCtime, mtimeAndCtime, resize, createObject}
+use Rattle.spec.specs.Handles.{handleOf, reachDirectory, checkName, attributes, change}
+use Rattle.spec.specs.Image.{Store, nameAt}
+use Rattle.spec.specs.Names.{isDot, isDotDot, isDots}
+use Rattle.spec.specs.Procedures.Attributes.{isGiven, sizeSet, badAttributes, lacksRoom, resizeTo}
+use Rattle.spec.specs.Results.{Done, unchanged, failShowing, failChanging, settle, found, created}
+use Rattle.spec.specs.Room.{isRegular, sizeOf, availableObject, availableName, findName, parent}
+
+abbrev pub childOf : Store → Checked ℕ → Checked ℕ
+childOf s (refused status) = refused status
+childOf s (passed n) = passed (nameAt s n .child)
+
+-- ""." itself, ".." the parent (the root's is the root); else NOENT"
+unfoldable pub lookIn : Store → ℕ → List ℕ → Checked ℕ
+lookIn s d text = cond (isDot text) (passed d) (cond (isDotDot text) (passed (parent s d)) (childOf s (present NOENT (findName s d text))))
+
+-- the directory and the object that was found
+unfoldable pub checkLookup : Store → List ℕ → List ℕ → Checked (ℕ × ℕ)
+checkLookup s h text = do
+  d ← reachDirectory s h
+  checkName text
+  o ← lookIn s d text
+  passed (d, o)
+
+unfoldable pub lookup : Store → List ℕ → List ℕ → Done
+lookup s h text =
+    settle s (failShowing s h) (checkLookup s h text) (λ f. unchanged s (found (handleOf s (f .1)) (attributes s (f .1)) (attributes s (f .0))))
+
+-- "NOSPC for a new object: no available object, no free name, or too few blocks for its size."
+unfoldable pub roomForNew : Store → ℕ → Checked (ℕ × ℕ)
+roomForNew s size = do
+  o ← present NOSPC (availableObject s)
+  n ← present NOSPC (availableName s)
+  refuseIf (lacksRoom s 0 size) NOSPC
+  passed (o, n)
+
+-- "New: unset fields 0, unset times the clock."
+unfoldable pub newObject : Time → ℕ → Settable → Object
+newObject clock kind a =
+    withAttributes clock a
+    (record { kind = kind; generation = 0; mode = 0; uid = 0; gid = 0; size = 0; atime = clock; mtime = clock; ctime = clock; blocks = replicate 16 65535 })
+
+-- "Added or removed names set the directory's mtime and ctime."
+abbrev pub touchDirectory : Store → Context → ℕ → Store
+touchDirectory s c d = setAttributes s (c .clock) d mtimeAndCtime
+
+unfoldable pub newEdit : Store → Context → ℕ → ℕ → ℕ → ℕ → List ℕ → Settable → Store
+newEdit s c kind o n d text a =
+    touchDirectory (resizeTo (createObject s o n (newObject (c .clock) kind a) d text) o (a .size)) c d
+
+-- the object's handle and attributes, and the directory's change
+abbrev pub createdIn : Store → Store → ℕ → ℕ → Done
+createdIn s t d o = record { result = created (handleOf t o) (attributes t o) (change s t d); store = t }
+
+-- what CREATE's checks find: room for a new file, or the file of that name
+pub data Target : Type 0 where
+  new : ℕ → ℕ → Target
+  existing : ℕ → Target
+
+abbrev pub isNew : Checked (ℕ × ℕ) → Checked Target
+isNew (refused status) = refused status
+isNew (passed p) = passed (new (p .0) (p .1))
+
+-- "UNCHECKED on a regular file obeys the size only (.. NOSPC possible); other existing names EXIST."
+unfoldable pub checkExisting : Store → Bool → Settable → ℕ → Checked Target
+checkExisting s unchecked a o = do
+  refuseIf (not (unchecked && isRegular s o)) EXIST
+  refuseIf (lacksRoom s (sizeOf s o) (sizeSet (a .size) (sizeOf s o))) NOSPC
+  passed (existing o)
+
+abbrev pub targetOf : Store → Bool → Settable → Option ℕ → Checked Target
+targetOf s unchecked a none = isNew (roomForNew s (sizeSet (a .size) 0))
+targetOf s unchecked a (some n) = checkExisting s unchecked a (nameAt s n .child)
+
+-- the checks of a name to be made: ""." or "..", EXIST. INVAL on attributes as SETATTR."
+unfoldable pub checkNew : Store → ℕ → List ℕ → Bool → Checked (Unit {0})
+checkNew s d text invalid = do
+  checkName text
+  refuseIf (isDots text) EXIST
+  refuseIf invalid INVAL
+
+unfoldable pub checkAttributed : Store → ℕ → List ℕ → Bool → Settable → Checked Target
+checkAttributed s d text unchecked a = do
+  checkNew s d text (badAttributes a)
+  targetOf s unchecked a (findName s d text)
+
+-- "EXCLUSIVE gives NOTSUPP before name checks."
+abbrev pub checkHow : Store → ℕ → List ℕ → How → Checked Target
+checkHow s d text (How.Unchecked a) = checkAttributed s d text true a
+checkHow s d text (How.Guarded a) = checkAttributed s d text false a
+checkHow s d text (How.Exclusive verifier) = refused NOTSUPP
+
+-- the directory and the target
+unfoldable pub checkCreate : Store → List ℕ → List ℕ → How → Checked (ℕ × Target)
+checkCreate s h text manner = do
+  d ← reachDirectory s h
+  t ← checkHow s d text manner
+  passed (d, t)
+
+abbrev pub settableOf : How → Settable
+settableOf (How.Unchecked a) = a
+settableOf (How.Guarded a) = a
+settableOf (How.Exclusive verifier) = onlyCtime
+
+-- "(one given sets mtime and ctime; ..)"
+abbrev pub existingEdit : Store → Context → ℕ → SetSize → Store
+existingEdit s c o SetSize.Keep = s
+existingEdit s c o (SetSize.To n) = setAttributes (resize s o n) (c .clock) o mtimeAndCtime
+
+abbrev pub createEdit : Store → Context → ℕ → List ℕ → Settable → Target → Done
+createEdit s c d text a (new o n) = createdIn s (newEdit s c REGULAR o n d text a) d o
+createEdit s c d text a (existing o) = createdIn s (existingEdit s c o (a .size)) d o
+
+unfoldable pub create : Store → Context → List ℕ → List ℕ → How → Done
+create s c h text manner =
+    settle s (failChanging s h) (checkCreate s h text manner) (λ p. createEdit s c (p .0) text (settableOf manner) (p .1))
+
+-- "MKDIR: as GUARDED CREATE; a size given is INVAL.": the directory, the object and the name record
+unfoldable pub checkMkdir : Store → List ℕ → List ℕ → Settable → Checked (ℕ × ℕ × ℕ)
+checkMkdir s h text a = do
+  d ← reachDirectory s h
+  checkNew s d text (badAttributes a || isGiven (a .size))
+  absent EXIST (findName s d text)
+  p ← roomForNew s 0
+  passed (d, p .0, p .1)
+
+unfoldable pub mkdir : Store → Context → List ℕ → List ℕ → Settable → Done
+mkdir s c h text a =
+    settle s (failChanging s h) (checkMkdir s h text a) (λ p. createdIn s (newEdit s c DIRECTORY (p .1) (p .2) (p .0) text a) (p .0) (p .1))

@@ -1,0 +1,91 @@
+-- REMOVE, RMDIR and RENAME.
+use Prim.Native.Nat.{ℕ}
+use lib.Dec.{eqb}
+use mathlib.Core.Bool.{Bool, _&&_, _||_, not}
+use mathlib.Core.List.{List}
+use mathlib.Core.Option.{Option, some, none}
+use Rattle.kinds.specs.Numbers.{OK, NOENT, ACCES, EXIST, NOTDIR, INVAL, NOTEMPTY}
+use Rattle.kinds.specs.declared.object.Change.{Change}
+use Rattle.kinds.specs.declared.object.Context.{Context}
+use Rattle.spec.specs.Checked.{Checked, _>>=_, _>>_, refuseIf, present, absent, passed}
+use Rattle.spec.specs.Count.{some-below}
+use Rattle.spec.specs.Edits.{setAttributes, onlyCtime, removeObject, moveName}
+use Rattle.spec.specs.Handles.{reachDirectory, checkName, change, handleChange}
+use Rattle.spec.specs.Image.{Store, objects, names, nameAt}
+use Rattle.spec.specs.Names.{isDots}
+use Rattle.spec.specs.Procedures.Attributes.{edited}
+use Rattle.spec.specs.Procedures.Names.{touchDirectory}
+use Rattle.spec.specs.Results.{Result, Done, failChanging, settle, dead, renamed}
+use Rattle.spec.specs.Room.{isDirectory, isIn, findName, above}
+
+-- ""." or "..", ACCES; NOENT; directory, ACCES": the directory and the name record
+unfoldable pub checkRemove : Store → List ℕ → List ℕ → Checked (ℕ × ℕ)
+checkRemove s h text = do
+  d ← reachDirectory s h
+  checkName text
+  refuseIf (isDots text) ACCES
+  n ← present NOENT (findName s d text)
+  refuseIf (isDirectory s (nameAt s n .child)) ACCES
+  passed (d, n)
+
+-- some name is in directory d
+unfoldable pub hasEntries : Store → ℕ → Bool
+hasEntries s d = some-below (names s) (isIn s d)
+
+-- ""." or "..", INVAL; NOENT; file, NOTDIR; NOTEMPTY."
+unfoldable pub checkRmdir : Store → List ℕ → List ℕ → Checked (ℕ × ℕ)
+checkRmdir s h text = do
+  d ← reachDirectory s h
+  checkName text
+  refuseIf (isDots text) INVAL
+  n ← present NOENT (findName s d text)
+  refuseIf (not (isDirectory s (nameAt s n .child))) NOTDIR
+  refuseIf (hasEntries s (nameAt s n .child)) NOTEMPTY
+  passed (d, n)
+
+unfoldable pub removeFrom : Store → Context → List ℕ → Checked (ℕ × ℕ) → Done
+removeFrom s c h checks = settle s (failChanging s h) checks (λ p. edited s (p .0) (touchDirectory (removeObject s (p .1)) c (p .0)))
+
+unfoldable pub remove : Store → Context → List ℕ → List ℕ → Done
+remove s c h text = removeFrom s c h (checkRemove s h text)
+
+unfoldable pub rmdir : Store → Context → List ℕ → List ℕ → Done
+rmdir s c h text = removeFrom s c h (checkRmdir s h text)
+
+-- "a directory into itself or below": d is o, or o is above d
+unfoldable pub isWithin : Store → ℕ → ℕ → Bool
+isWithin s o d = isDirectory s o && some-below (objects s) (λ k. eqb (above s k d) o)
+
+-- "RENAME checks both directories, from first, then both names."; "either name "." or "..", INVAL; NOENT; target name exists, EXIST; a
+-- directory into itself or below, INVAL": both directories and the name record
+unfoldable pub checkRename : Store → List ℕ → List ℕ → List ℕ → List ℕ → Checked (ℕ × ℕ × ℕ)
+checkRename s h text g title = do
+  d ← reachDirectory s h
+  e ← reachDirectory s g
+  checkName text
+  checkName title
+  refuseIf (isDots text || isDots title) INVAL
+  n ← present NOENT (findName s d text)
+  absent EXIST (findName s e title)
+  refuseIf (isWithin s (nameAt s n .child) e) INVAL
+  passed (d, e, n)
+
+-- "The name record is rewritten in place; the object's ctime and both directories' times set."
+unfoldable pub renameEdit : Store → Context → ℕ → ℕ → ℕ → List ℕ → Store
+renameEdit s c d e n title =
+    touchDirectory (touchDirectory (setAttributes (moveName s n e title) (c .clock) (nameAt s n .child) onlyCtime) c d) c e
+
+abbrev pub renamedOr : ℕ → Option Change → Option Change → Result
+renamedOr status none none = dead status
+renamedOr status none (some b) = renamed status none (some b)
+renamedOr status (some a) b = renamed status (some a) b
+
+unfoldable pub failRenaming : Store → List ℕ → List ℕ → ℕ → Result
+failRenaming s h g status = renamedOr status (handleChange s s h) (handleChange s s g)
+
+abbrev pub renamedTo : Store → ℕ → ℕ → Store → Done
+renamedTo s d e t = record { result = renamed OK (some (change s t d)) (some (change s t e)); store = t }
+
+unfoldable pub rename : Store → Context → List ℕ → List ℕ → List ℕ → List ℕ → Done
+rename s c h text g title =
+    settle s (failRenaming s h g) (checkRename s h text g title) (λ p. renamedTo s (p .0) (p .1) (renameEdit s c (p .0) (p .1) (p .2) title))
