@@ -1,2 +1,9 @@
 pub mod Bytes
 pub mod Range
+pub mod Apart
+pub mod Count
+pub mod Records
+pub mod Names
+pub mod Shape
+pub mod Writes
+pub mod RecordRange
