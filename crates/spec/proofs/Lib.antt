@@ -1,3 +1,10 @@
+pub mod Apart
 pub mod Bytes
+pub mod Count
+pub mod Names
 pub mod Range
+pub mod RecordRange
+pub mod Records
+pub mod Shape
 pub mod Starred
+pub mod Writes
