@@ -18,6 +18,11 @@ pub data Read (A : Type 0) : Type 0 where
   got : A → ℕ → Read A
   bad : ℕ → Read A
 
+-- the place of a refusal; where there is none, the position after the value
+abbrev pub placeOf : {A : Type 0} → Read A → ℕ
+placeOf (got a p) = p
+placeOf (bad p) = p
+
 abbrev pub wordOf : WordRead → Read ℕ
 wordOf (W.Got n c) = got n (c .at)
 wordOf (W.Bad p) = bad p

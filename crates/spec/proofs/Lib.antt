@@ -8,3 +8,5 @@ pub mod Records
 pub mod Shape
 pub mod Starred
 pub mod Writes
+pub mod Words
+pub mod Xdr

@@ -1,0 +1,163 @@
+// Reads one XDR field of a call at a cursor, and answers its value with the cursor after it, or the place of the refusal.
+ghost use mathlib.Core.Path.{_≡_};
+ghost use Prim.Native.Nat.{_+_, _≤_};
+ghost use lib.ListN.{length};
+ghost use lib.Dec.{leb, eqb};
+ghost use Rattle.kinds.specs.Reading.{wordOf, longOf, flagOf, partOf, skipOf};
+ghost use Rattle.spec.specs.Bytes.{beAt, padding};
+ghost use Rattle.spec.specs.Xdr.{word, long, choice, flag, bytes, pad, opaque, end};
+use kinds::call::Cursor;
+use kinds::call::Part;
+use kinds::reading::FlagRead;
+use kinds::reading::LongRead;
+use kinds::reading::PartRead;
+use kinds::reading::SkipRead;
+use kinds::reading::WordRead;
+
+// Whether n bytes stand at a position.
+fn holds(s: &[u8], at: usize, n: usize) -> bool
+    ensures { λ r. ⌜ r ≡ leb (at + n) (length (now (s .entry))) ⌝ }
+{
+    if s.len() < at {
+        return false;
+    }
+    s.len() - at >= n
+}
+
+// Whether the n bytes from `at` are zero.
+fn all_zero(s: &[u8], at: usize, n: usize) -> bool
+    requires { ⌜ at + n ≤ length (now s) ⌝ }
+    ensures { λ r. ⌜ r ≡ eqb (beAt (now (s .entry)) at n) 0 ⌝ }
+{
+    let mut i = 0;
+    while i < n {
+        if s[at + i] != 0 {
+            return false;
+        }
+        i += 1;
+    }
+    true
+}
+
+// How many bytes pad n bytes to a multiple of four.
+pub fn padding(n: usize) -> usize
+    ensures { λ r. ⌜ r ≡ padding n ⌝ }
+{
+    (4 - n % 4) % 4
+}
+
+// An unsigned int.
+pub fn word(s: &[u8], c: Cursor) -> WordRead
+    ensures { λ r. ⌜ wordOf r ≡ word (now (s .entry)) (c .at) ⌝ }
+{
+    let at = c.at;
+    if holds(s, at, 4) {
+        WordRead::Got(wire::get_u32(s, at), Cursor { at: at + 4 })
+    } else {
+        WordRead::Bad(at)
+    }
+}
+
+// An unsigned hyper, or 8 bytes of fixed-length opaque data as a number.
+pub fn long(s: &[u8], c: Cursor) -> LongRead
+    ensures { λ r. ⌜ longOf r ≡ long (now (s .entry)) (c .at) ⌝ }
+{
+    let at = c.at;
+    if holds(s, at, 8) {
+        LongRead::Got(wire::get_u64(s, at), Cursor { at: at + 8 })
+    } else {
+        LongRead::Bad(at)
+    }
+}
+
+// An enumeration of the numbers 0 to `top`.
+pub fn choice(s: &[u8], c: Cursor, top: u32) -> WordRead
+    ensures { λ r. ⌜ wordOf r ≡ choice top (now (s .entry)) (c .at) ⌝ }
+{
+    let WordRead::Got(n, next) = word(s, c) else {
+        return WordRead::Bad(c.at);
+    };
+    if n <= top {
+        WordRead::Got(n, next)
+    } else {
+        WordRead::Bad(c.at)
+    }
+}
+
+// A bool.
+pub fn flag(s: &[u8], c: Cursor) -> FlagRead
+    ensures { λ r. ⌜ flagOf r ≡ flag (now (s .entry)) (c .at) ⌝ }
+{
+    let answer = choice(s, c, 1);
+    let WordRead::Got(n, next) = answer else {
+        return FlagRead::Bad(answer.place());
+    };
+    FlagRead::Got(n == 1, next)
+}
+
+// The next n bytes.
+pub fn bytes(s: &[u8], c: Cursor, n: usize) -> PartRead
+    ensures { λ r. ⌜ partOf r ≡ bytes n (now (s .entry)) (c .at) ⌝ }
+{
+    let at = c.at;
+    if holds(s, at, n) {
+        PartRead::Got(
+            Part {
+                start: at,
+                length: n,
+            },
+            Cursor { at: at + n },
+        )
+    } else {
+        PartRead::Bad(at)
+    }
+}
+
+// n bytes of padding, each of them zero.
+pub fn pad(s: &[u8], c: Cursor, n: usize) -> SkipRead
+    ensures { λ r. ⌜ skipOf r ≡ pad n (now (s .entry)) (c .at) ⌝ }
+{
+    let at = c.at;
+    if holds(s, at, n) {
+        let next = at + n;
+        if all_zero(s, at, n) {
+            SkipRead::Got(Cursor { at: next })
+        } else {
+            SkipRead::Bad(next)
+        }
+    } else {
+        SkipRead::Bad(at)
+    }
+}
+
+// Variable-length opaque data of at most `most` bytes, with its padding.
+pub fn opaque(s: &[u8], c: Cursor, most: usize) -> PartRead
+    ensures { λ r. ⌜ partOf r ≡ opaque most (now (s .entry)) (c .at) ⌝ }
+{
+    let WordRead::Got(n, c1) = word(s, c) else {
+        return PartRead::Bad(c.at);
+    };
+    let length = n as usize;
+    if most < length {
+        return PartRead::Bad(c.at);
+    }
+    let PartRead::Got(part, c2) = bytes(s, c1, length) else {
+        return PartRead::Bad(c.at);
+    };
+    let SkipRead::Got(c3) = pad(s, c2, padding(length)) else {
+        return PartRead::Bad(c.at);
+    };
+    PartRead::Got(part, c3)
+}
+
+// The end of the call: nothing is left over.
+pub fn end(s: &[u8], c: Cursor) -> SkipRead
+    ensures { λ r. ⌜ skipOf r ≡ end (now (s .entry)) (c .at) ⌝ }
+{
+    let at = c.at;
+    if at == s.len() {
+        SkipRead::Got(c)
+    } else {
+        SkipRead::Bad(at)
+    }
+}

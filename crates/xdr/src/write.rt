@@ -1,0 +1,54 @@
+// Writes XDR at a place of the reply space, and answers the place behind it.
+ghost use Prim.Native.Nat.{_+_, _*_, _≤_};
+ghost use mathlib.Core.List.{[], _∷_};
+ghost use lib.ListN.{length};
+ghost use Rattle.spec.specs.Bytes.{words, part, padding, opaqueBytes};
+ghost use Rattle.xdr.specs.Wrote.{Wrote};
+use crate::read::padding;
+
+// One word.
+pub fn put_word(reply: &mut [u8], at: usize, v: u32) -> usize
+    requires { ⌜ at + 4 ≤ length (now reply) ⌝ }
+    ensures { λ r. ⌜ Wrote 4 (now (reply .entry)) (now (reply .exit)) at r (words (v ∷ [])) ⌝ }
+{
+    wire::put_u32(reply, at, v);
+    at + 4
+}
+
+// Words, one behind the other.
+pub fn put_words(reply: &mut [u8], at: usize, ws: &[u32]) -> usize
+    requires { ⌜ at + 4 * length (now ws) ≤ length (now reply) ⌝ }
+    ensures { λ r. ⌜ Wrote (4 * length (now (ws .entry))) (now (reply .entry)) (now (reply .exit)) at r (words (now (ws .entry))) ⌝ }
+{
+    let mut i = 0;
+    let mut next = at;
+    while i < ws.len() {
+        next = put_word(reply, next, ws[i]);
+        i += 1;
+    }
+    next
+}
+
+// The len bytes of src from `from`.
+pub fn put_bytes(reply: &mut [u8], at: usize, src: &[u8], from: usize, len: usize) -> usize
+    requires { ⌜ at + len ≤ length (now reply) ⌝ }
+    requires { ⌜ from + len ≤ length (now src) ⌝ }
+    ensures { λ r. ⌜ Wrote len (now (reply .entry)) (now (reply .exit)) at r (part (now (src .entry)) from len) ⌝ }
+{
+    wire::copy_bytes(reply, at, src, from, len);
+    at + len
+}
+
+// Variable-length opaque data: the length, the len bytes of src from `from`, and zeros up to a multiple of four.
+pub fn put_opaque(reply: &mut [u8], at: usize, src: &[u8], from: usize, len: usize) -> usize
+    requires { ⌜ len ≤ 4294967295 ⌝ }
+    requires { ⌜ at + (4 + len + padding len) ≤ length (now reply) ⌝ }
+    requires { ⌜ from + len ≤ length (now src) ⌝ }
+    ensures { λ r. ⌜ Wrote (4 + len + padding len) (now (reply .entry)) (now (reply .exit)) at r (opaqueBytes (part (now (src .entry)) from len)) ⌝ }
+{
+    let start = put_word(reply, at, len as u32);
+    let end = put_bytes(reply, start, src, from, len);
+    let zeros = padding(len);
+    wire::clear_bytes(reply, end, zeros);
+    end + zeros
+}
