@@ -10,3 +10,5 @@ pub mod Starred
 pub mod Writes
 pub mod Words
 pub mod Xdr
+pub mod Setting
+pub mod Edges
