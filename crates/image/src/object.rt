@@ -123,3 +123,60 @@ pub fn save_object(store: &mut [u8], o: ObjectNumber, v: Object)
     let blocks = v.blocks;
     save_blocks(store, at + 48, blocks);
 }
+
+// Single fields of a record.
+pub fn kind_of(store: &[u8], o: ObjectNumber) -> u32
+    requires { ⌜ objectStart (o .0) + 80 ≤ length (now store) ⌝ }
+    ensures { λ r. ⌜ r ≡ objectAt (now (store .entry)) (o .0) .kind ⌝ }
+{
+    let at = object_start(store, o);
+    wire::get_u32(store, at)
+}
+
+pub fn generation_of(store: &[u8], o: ObjectNumber) -> u32
+    requires { ⌜ objectStart (o .0) + 80 ≤ length (now store) ⌝ }
+    ensures { λ r. ⌜ r ≡ objectAt (now (store .entry)) (o .0) .generation ⌝ }
+{
+    let at = object_start(store, o);
+    wire::get_u32(store, at + 4)
+}
+
+pub fn size_of(store: &[u8], o: ObjectNumber) -> u32
+    requires { ⌜ objectStart (o .0) + 80 ≤ length (now store) ⌝ }
+    ensures { λ r. ⌜ r ≡ sizeOf (now (store .entry)) (o .0) ⌝ }
+{
+    let at = object_start(store, o);
+    wire::get_u32(store, at + 20)
+}
+
+// The k-th of the 16 block numbers of a record.
+pub fn block_of(store: &[u8], o: ObjectNumber, k: usize) -> BlockNumber
+    requires { ⌜ objectStart (o .0) + 80 ≤ length (now store) ⌝ }
+    requires { ⌜ k < 16 ⌝ }
+    ensures { λ r. ⌜ r .0 ≡ getD (objectAt (now (store .entry)) (o .0) .blocks) k 0 ⌝ }
+{
+    let at = object_start(store, o);
+    BlockNumber(wire::get_u16(store, at + 48 + 2 * k) as usize)
+}
+
+// Whether an object is live, a regular file, or a directory.
+pub fn is_live(store: &[u8], o: ObjectNumber) -> bool
+    requires { ⌜ objectStart (o .0) + 80 ≤ length (now store) ⌝ }
+    ensures { λ r. ⌜ r ≡ isLive (now (store .entry)) (o .0) ⌝ }
+{
+    kind_of(store, o) != Kind::FREE
+}
+
+pub fn is_regular(store: &[u8], o: ObjectNumber) -> bool
+    requires { ⌜ objectStart (o .0) + 80 ≤ length (now store) ⌝ }
+    ensures { λ r. ⌜ r ≡ isRegular (now (store .entry)) (o .0) ⌝ }
+{
+    kind_of(store, o) == Kind::REGULAR
+}
+
+pub fn is_directory(store: &[u8], o: ObjectNumber) -> bool
+    requires { ⌜ objectStart (o .0) + 80 ≤ length (now store) ⌝ }
+    ensures { λ r. ⌜ r ≡ isDirectory (now (store .entry)) (o .0) ⌝ }
+{
+    kind_of(store, o) == Kind::DIRECTORY
+}
