@@ -7,6 +7,9 @@ pub mod RecordRange
 pub mod Records
 pub mod Shape
 pub mod Starred
-pub mod Writes
+pub mod Tests
+pub mod Valid
 pub mod Words
+pub mod Writes
 pub mod Xdr
+pub mod Zeros
