@@ -1,10 +1,12 @@
 pub mod Apart
 pub mod Bytes
 pub mod Count
+pub mod Formatted
 pub mod Names
 pub mod Range
 pub mod RecordRange
 pub mod Records
+pub mod Searches
 pub mod Shape
 pub mod Starred
 pub mod Tests

@@ -316,6 +316,14 @@ free-from s at e z =
     number : (p k : ℕ) → p ≡ at + 8 + k → k + 4 ≤ 72 → beAt s p 4 ≡ 0
     number p k q h = be-zero s p 4 (within p k 4 q h)
 
+pub free-zeros : (s : Store) (o : ℕ) → part s (objectStart o) 80 ≡ zeros 80 → objectAt s o ≡ freeObject 0
+unfolding objectAt
+free-zeros s o z =
+    let at = objectStart o in
+    let k : part s (at + 0) 4 ≡ zeros 4 = zero-within s at 80 0 4 z (lit≤ tt) in
+    free-from s at (be-zero s at 4 (rw add-zero at k)) (zero-within s at 80 8 72 z (lit≤ tt))
+    ∙ ap freeObject (be-zero s (at + 4) 4 (zero-within s at 80 4 4 z (lit≤ tt)))
+
 -- and its bytes, from the record
 free-zero : (s : Store) (at g : ℕ) → at + 80 ≤ length s → objectFrom s at ≡ freeObject g → part s (at + 8) 72 ≡ zeros 72
 unfolding objectFrom timeAt
@@ -424,11 +432,11 @@ good-name text h =
     rw (le-leb 1 (length text) (h .some-byte), le-leb (length text) 32 (h .short), good-bytes text (h .bytes), no-dots text (h .no-dot) (h .no-dots))
 
 -- a free name record, from its bytes, and its bytes
-free-name : (s : Store) (n : ℕ) → nameStart s n + 44 ≤ length s → nameLength s n ≡ 0 → isZero (part s (nameStart s n) 44) ≡ true → FreeName s n
+pub free-name : (s : Store) (n : ℕ) → part s (nameStart s n) 44 ≡ zeros 44 → FreeName s n
 unfolding nameAt nameFrom nameLength part
-free-name s n h e z =
+free-name s n w =
     let at = nameStart s n in
-    let w : part s at 44 ≡ zeros 44 = zeros-isZero (part s at 44) 44 (part-length s at 44 h) z in
+    let e : beAt s (at + 8) 4 ≡ 0 = be-zero s (at + 8) 4 (zero-within s at 44 8 4 w (lit≤ tt)) in
     let d : part s (at + 0) 4 ≡ zeros 4 = zero-within s at 44 0 4 w (lit≤ tt) in
     record {
       empty = e;
@@ -500,7 +508,8 @@ module _ (s : Store) (n : ℕ) (h : nameStart s n + 48 ≤ length s) where
   name-record e =
       by-bool (isUsedName s n)
       (λ t. _⊎_.inr (used-name (rw t at e)))
-      (λ t. _⊎_.inl (free-name s n (omega arith) (used-false s n t) (rw t at e)))
+      (λ t. let z = part s (nameStart s n) 44 in
+      _⊎_.inl (free-name s n (zeros-isZero z 44 (part-length s (nameStart s n) 44 (omega arith)) (rw t at e))))
 
   pub record-good : GoodNameRecord s n → goodNameRecord s n ≡ true
   unfolding goodNameRecord
