@@ -2,6 +2,7 @@ pub mod Apart
 pub mod Bytes
 pub mod Count
 pub mod Formatted
+pub mod Kept
 pub mod Names
 pub mod Range
 pub mod RecordRange
