@@ -1,5 +1,7 @@
 pub mod Apart
+pub mod BlockLists
 pub mod Bytes
+pub mod ClearBlocks
 pub mod Count
 pub mod Formatted
 pub mod GoodKept
@@ -10,11 +12,13 @@ pub mod RecordRange
 pub mod Records
 pub mod SameReads
 pub mod Searches
+pub mod SetAttributes
 pub mod Shape
 pub mod Starred
 pub mod Structure
 pub mod Tests
 pub mod Valid
+pub mod WordRange
 pub mod Words
 pub mod Writes
 pub mod Xdr
