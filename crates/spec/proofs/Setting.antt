@@ -9,7 +9,7 @@ use Rattle.spec.specs.Check.{isZero, goodCounts, goodShape, goodTime, go
 use Rattle.spec.specs.Count.{sum, count, every, some-below, passing, lowest, times, iterate}
 use Rattle.spec.specs.Edits.{withAttributes, setAttributes, clearBlocks, clearTail, blockNumbers, withSize, resize, withGeneration, createObject, removeObject, moveName, writeThrough, readThrough, writeFile, readFile}
 use Rattle.spec.specs.Handles.{handleOf, reach, reachDirectory, checkName, shownSize, usedBytes, linkCount, attributes, before, change, handleChange}
-use Rattle.spec.specs.Header.{credential, header}
+use Rattle.spec.specs.Header.{credential, callHeader, header}
 use Rattle.spec.specs.Image.{Store, volumes, stamp, objects, names, blocks, halvesAt, halvesBytes, timeAt, timeBytes, objectFrom, headBytes, timesBytes, objectBytes, objectAt, putObject, nameFrom, nameBytes, nameAt, nameLength, putName}
 use Rattle.spec.specs.Names.{isDot, isDotDot, goodByte, goodBytes, goodName}
 use Rattle.spec.specs.Procedures.{act}
@@ -125,5 +125,5 @@ fileRead fileid bytes =
 
 -- what computing an entry unfolds: naming `computing` on an `unfolding` line unfolds all of these
 unfoldable pub computing : ℕ
-unfolding handle unbounded nameIn time setNumber setSize setTime settable guard how setattrArguments accessArguments readArguments writeArguments createArguments mkdirArguments renameArguments readdirArguments commitArguments arguments part overlay digits beOf bytesOf beAt words opaqueBytes sameBytes allBytes isZero goodCounts goodShape goodTime goodBlock goodSize goodLive goodFree goodObject goodRoot goodUsed goodNameRecord isDistinct isNamedOnce isUsedOnce leadsToRoot passes sum every some-below passing lowest times iterate withAttributes setAttributes clearBlocks clearTail blockNumbers withSize resize withGeneration createObject removeObject moveName writeThrough readThrough writeFile readFile handleOf reach reachDirectory checkName shownSize usedBytes linkCount attributes before change handleChange credential header volumes stamp objects names blocks halvesAt halvesBytes timeAt timeBytes objectFrom headBytes timesBytes objectBytes objectAt putObject nameFrom nameBytes nameAt nameLength putName isDot isDotDot goodByte goodBytes goodName act badAttributes lacksRoom sizeTouches getattr checkSetattr setattrEdit setattr grantedBits access reachRegular readLength readResult read checkWrite writeEdit writeStore writeDone write commit entryOf dotEntries entries entriesAbove fitting checkListing checkReaddir readdir lookIn checkLookup lookup roomForNew newObject newEdit checkExisting checkNew checkAttributed checkCreate create checkMkdir mkdir checkRemove hasEntries checkRmdir removeFrom remove rmdir isWithin checkRename renameEdit failRenaming rename fsstat fsinfo pathconf fattr3 postOp preOp wccData entryBytes entriesBytes resultBytes failShowing failChanging isLive isRegular isDirectory sizeOf held uses isFreeBlock freeBlocks freeBlockCount isAvailable availableCount availableObject isUsedName availableName freeNameCount isNaming namings isIn isNamed findName subdirectories parent above byteAt denied accepted judge mismatch serve check formatted format number word long choice flag bytes pad opaque end
+unfolding handle unbounded nameIn time setNumber setSize setTime settable guard how setattrArguments accessArguments readArguments writeArguments createArguments mkdirArguments renameArguments readdirArguments commitArguments arguments part overlay digits beOf bytesOf beAt words opaqueBytes sameBytes allBytes isZero goodCounts goodShape goodTime goodBlock goodSize goodLive goodFree goodObject goodRoot goodUsed goodNameRecord isDistinct isNamedOnce isUsedOnce leadsToRoot passes sum every some-below passing lowest times iterate withAttributes setAttributes clearBlocks clearTail blockNumbers withSize resize withGeneration createObject removeObject moveName writeThrough readThrough writeFile readFile handleOf reach reachDirectory checkName shownSize usedBytes linkCount attributes before change handleChange credential callHeader header volumes stamp objects names blocks halvesAt halvesBytes timeAt timeBytes objectFrom headBytes timesBytes objectBytes objectAt putObject nameFrom nameBytes nameAt nameLength putName isDot isDotDot goodByte goodBytes goodName act badAttributes lacksRoom sizeTouches getattr checkSetattr setattrEdit setattr grantedBits access reachRegular readLength readResult read checkWrite writeEdit writeStore writeDone write commit entryOf dotEntries entries entriesAbove fitting checkListing checkReaddir readdir lookIn checkLookup lookup roomForNew newObject newEdit checkExisting checkNew checkAttributed checkCreate create checkMkdir mkdir checkRemove hasEntries checkRmdir removeFrom remove rmdir isWithin checkRename renameEdit failRenaming rename fsstat fsinfo pathconf fattr3 postOp preOp wccData entryBytes entriesBytes resultBytes failShowing failChanging isLive isRegular isDirectory sizeOf held uses isFreeBlock freeBlocks freeBlockCount isAvailable availableCount availableObject isUsedName availableName freeNameCount isNaming namings isIn isNamed findName subdirectories parent above byteAt denied accepted judge mismatch serve check formatted format number word long choice flag bytes pad opaque end
 computing = 0
