@@ -25,3 +25,4 @@ pub mod Xdr
 pub mod Setting
 pub mod Edges
 pub mod Zeros
+pub mod Arguments
