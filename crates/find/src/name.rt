@@ -35,12 +35,12 @@ pub fn find_free_name(store: &[u8]) -> FoundName
     ensures { λ r. ⌜ foundName r ≡ availableName (now (store .entry)) ⌝ }
 {
     let total = name_count(store);
-    let mut i = 0;
-    while i < total {
-        if is_free_name(store, NameNumber(i)) {
-            return FoundName::At(NameNumber(i));
+    let mut n = 0;
+    while n < total {
+        if is_free_name(store, NameNumber(n)) {
+            return FoundName::At(NameNumber(n));
         }
-        i += 1;
+        n += 1;
     }
     FoundName::Nothing
 }

@@ -12,10 +12,10 @@ use Rattle.find.proofs.name.find_free_name.Statement.{statement}
 use Rattle.find.proofs.name.find_free_name.Tie as tie
 
 abbrev Inv-loop : tie.InvT-loop
-Inv-loop store total i₀ i = (i ≤ total) × (lowest i (λ n. not (isUsedName store n)) ≡ none)
+Inv-loop store total n₀ n = (n ≤ total) × (lowest n (λ m. not (isUsedName store m)) ≡ none)
 
 abbrev μ-loop : tie.MeasureT-loop
-μ-loop store total i₀ i = total - i
+μ-loop store total n₀ n = total - n
 
 name-count-requires : tie.Need-name-count-requires Inv-loop μ-loop
 name-count-requires c κs = search needs
@@ -32,10 +32,10 @@ unfolding availableName
 returns c =
     let l = c .before .before .before .loop in
     let a = c .before .before .before .before .before .before .args in
-    sym (lowest-hit (λ n. not (isUsedName (a .store .now) n)) (l .i) (names (a .store .now)) (l .inv .1) (sym (c .before .is-free-name .ensures) ∙ c .if1 .taken) (omega arith))
+    sym (lowest-hit (λ n. not (isUsedName (a .store .now) n)) (l .n) (names (a .store .now)) (l .inv .1) (sym (c .before .is-free-name .ensures) ∙ c .if1 .taken) (omega arith))
 
-add-i : tie.Need-add-i Inv-loop μ-loop
-add-i c = search needs
+add-n : tie.Need-add-n Inv-loop μ-loop
+add-n c = search needs
 
 loop-less : tie.Need-loop-less Inv-loop μ-loop
 loop-less c = search needs
@@ -43,12 +43,12 @@ loop-less c = search needs
 loop-again : tie.Need-loop-again Inv-loop μ-loop
 loop-again c =
     let l = c .before .before .before .loop in
-    (omega arith, lowest-more _ (l .i) (l .inv .1) (sym (c .before .is-free-name .ensures) ∙ c .if1 .left))
+    (omega arith, lowest-more _ (l .n) (l .inv .1) (sym (c .before .is-free-name .ensures) ∙ c .if1 .left))
 
 returns-2 : tie.Need-returns-2 Inv-loop μ-loop
 unfolding availableName
 returns-2 c =
-    let e : c .before .loop .i ≡ names (c .before .before .before .before .args .store .now) = omega arith in
+    let e : c .before .loop .n ≡ names (c .before .before .before .before .args .store .now) = omega arith in
     sym (rw e at (c .before .loop .inv .1))
 
 pub find-free-name-spec : {M : Type 1} → statement M
@@ -61,7 +61,7 @@ find-free-name-spec =
     loop-holds
     is-free-name-requires
     returns
-    add-i
+    add-n
     loop-less
     loop-again
     returns-2)

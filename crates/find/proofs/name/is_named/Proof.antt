@@ -1,4 +1,5 @@
-use mathlib.Core.Path.{sym, ap, _∙_}
+use native.Mathlib.Omega.{arith}
+use mathlib.Core.Path.{_≡_, sym, ap, _∙_}
 use Prim.Native.Nat.{ℕ, _+_}
 use Rattle.spec.specs.Bytes.{part, sameBytes}
 use Rattle.spec.proofs.Bytes.{part-length}
@@ -24,7 +25,7 @@ returns-2 c =
     let st = c .before .before .before .before .before .before .before .before .before in
     let a = st .args in
     sym (named-longer (a .store .now) (a .directory .0) (a .n .0) (textOf (a .call .now) (a .name))
-    (λ e. c .if2 .taken (c .before .before .name-length .ensures ∙ e ∙ part-length (a .call .now) (a .name .start) (a .name .length) (st .pre .1 .1))))
+    (λ e. omega (arith, e, c .if2 .taken, c .before .before .name-length .ensures, part-length (a .call .now) (a .name .start) (a .name .length) (st .pre .1 .1))))
 
 returns-3 : tie.Need-returns-3
 returns-3 c =
@@ -53,11 +54,12 @@ returns-4 c =
     let s = a .store .now in
     let text = textOf (a .call .now) (a .name) in
     let len = nl .name-length .result in
+    let same : len ≡ a .name .length = omega (arith, long .if2 .left) in
     c .same-bytes .ensures
-    ∙ ap (λ (m : ℕ). sameBytes (part s (at .name-start .result + 12) len) (part (a .call .now) (a .name .start) m)) (long .if2 .left)
+    ∙ ap (λ (m : ℕ). sameBytes (part s (at .name-start .result + 12) len) (part (a .call .now) (a .name .start) m)) same
     ∙ ap (λ (q : ℕ). sameBytes (part s (q + 12) len) text) (at .name-start .ensures)
     ∙ named-same s (a .directory .0) (a .n .0) text len (sym (nd .name-directory .ensures) ∙ dir .if1 .left) (sym (nl .name-length .ensures))
-    (part-length (a .call .now) (a .name .start) (a .name .length) (st .pre .1 .1) ∙ sym (long .if2 .left)) (empty .if3 .left)
+    (part-length (a .call .now) (a .name .start) (a .name .length) (st .pre .1 .1) ∙ sym same) (empty .if3 .left)
 
 pub is-named-spec : {M : Type 1} → statement M
 is-named-spec =
