@@ -66,6 +66,10 @@ unfolding sum
 sum-zero zero f h = refl
 sum-zero (suc n) f h = let r = sum-zero n f (λ i l. h i (omega arith)) in let e = h n (omega arith) in omega arith
 
+-- a count whose next number passes or not
+pub count-more : (p : ℕ → Bool) (i k r : ℕ) (t : Bool) → k ≡ count i p → r ≡ bit t → t ≡ p i → k + r ≡ count (i + 1) p
+count-more p i k r t e q b = rw (q, b) (omega (arith, e, sum-more i (λ j. bit (p j))))
+
 -- a count is at most the bound
 pub count-bound : (n : ℕ) (p : ℕ → Bool) → count n p ≤ n
 unfolding sum
