@@ -3,13 +3,17 @@ pub mod BlockLists
 pub mod Bytes
 pub mod ClearBlocks
 pub mod Count
+pub mod CreateObject
 pub mod Formatted
+pub mod FreeCount
 pub mod GoodKept
 pub mod Kept
+pub mod MoveName
 pub mod Names
 pub mod Range
 pub mod RecordRange
 pub mod Records
+pub mod RemoveObject
 pub mod SameReads
 pub mod Searches
 pub mod SetAttributes
