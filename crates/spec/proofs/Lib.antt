@@ -1,9 +1,11 @@
 pub mod Apart
+pub mod ArgumentRange
 pub mod BlockLists
 pub mod Bytes
 pub mod ClearBlocks
 pub mod Count
 pub mod CreateObject
+pub mod Error
 pub mod Formatted
 pub mod FreeCount
 pub mod GoodKept
@@ -17,6 +19,7 @@ pub mod RemoveObject
 pub mod Resize
 pub mod SameReads
 pub mod Searches
+pub mod Served
 pub mod SetAttributes
 pub mod Shape
 pub mod Starred
@@ -28,4 +31,3 @@ pub mod Words
 pub mod Writes
 pub mod Xdr
 pub mod Zeros
-pub mod Errors
