@@ -12,6 +12,7 @@ pub mod GoodKept
 pub mod Kept
 pub mod MoveName
 pub mod Names
+pub mod Passed
 pub mod Range
 pub mod RecordRange
 pub mod Records
