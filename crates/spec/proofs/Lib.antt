@@ -9,6 +9,7 @@ pub mod Error
 pub mod Formatted
 pub mod FreeCount
 pub mod GoodKept
+pub mod GoodRecords
 pub mod Kept
 pub mod MoveName
 pub mod Names
@@ -26,6 +27,7 @@ pub mod Shape
 pub mod Starred
 pub mod Structure
 pub mod Tests
+pub mod Unique
 pub mod Valid
 pub mod WordRange
 pub mod Words
