@@ -1,3 +1,4 @@
+pub mod ActGood
 pub mod Apart
 pub mod ArgumentRange
 pub mod BlockLists
