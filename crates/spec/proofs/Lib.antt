@@ -7,8 +7,10 @@ pub mod ClearBlocks
 pub mod Count
 pub mod CreateObject
 pub mod Error
+pub mod FileData
 pub mod Formatted
 pub mod FreeCount
+pub mod FreeRoom
 pub mod GoodKept
 pub mod GoodRecords
 pub mod Kept
