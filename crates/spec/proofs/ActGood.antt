@@ -33,7 +33,7 @@ use Rattle.spec.specs.Room.{sizeOf, need, freeBlockCount}
 use Rattle.spec.specs.Serve.{serve}
 use Rattle.spec.proofs.ArgumentRange.{FitsHow, FitsArguments, arguments-fit}
 use Rattle.spec.proofs.BlockLists.{held-range}
-use Rattle.spec.proofs.ClearBlocks.{write-file}
+use Rattle.spec.proofs.BlockWrites.{write-file}
 use Rattle.spec.proofs.Count.{by-bool, true-false}
 use Rattle.spec.proofs.CreateObject.{create-object, create-object-uses}
 use Rattle.spec.proofs.Error.{getattr-store, lookup-store, access-store, read-store, readdir-store, fsstat-store, fsinfo-store, pathconf-store, commit-store}

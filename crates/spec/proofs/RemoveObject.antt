@@ -14,7 +14,7 @@ use Rattle.spec.specs.Edits.{clearBlocks, removeObject}
 use Rattle.spec.specs.Image.{Store, objects, names, blocks, objectAt, putObject, nameAt, freeName}
 use Rattle.spec.specs.Room.{held, uses, freeBlockCount}
 use Rattle.spec.proofs.BlockLists.{InRange}
-use Rattle.spec.proofs.ClearBlocks.{clear-blocks}
+use Rattle.spec.proofs.BlockWrites.{clear-blocks}
 use Rattle.spec.proofs.CreateObject.{no-blocks}
 use Rattle.spec.proofs.FreeCount.{free-count-set}
 use Rattle.spec.proofs.GoodKept.{good-objects-both, record-kept, uses-object-set}

@@ -15,7 +15,7 @@ use Rattle.spec.specs.Image.{Store, objects, blocks, objectAt}
 use Rattle.spec.specs.Room.{sizeOf, need, held, uses, freeBlocks, freeBlockCount}
 use Rattle.spec.proofs.BlockLists.{InRange, range-append, range-take, range-drop, held-length, held-range, free-length, free-range}
 use Rattle.spec.proofs.Bytes.{lt-or-le}
-use Rattle.spec.proofs.ClearBlocks.{clear-blocks, clear-tail}
+use Rattle.spec.proofs.BlockWrites.{clear-blocks, clear-tail}
 use Rattle.spec.proofs.Count.{times-append}
 use Rattle.spec.proofs.FreeCount.{times-take, free-or-used, free-count-set}
 use Rattle.spec.proofs.GoodKept.{good-objects-set, uses-object-set, uses-at}
