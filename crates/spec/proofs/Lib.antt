@@ -18,6 +18,7 @@ pub mod Kept
 pub mod MoveName
 pub mod Names
 pub mod Passed
+pub mod PlainObject
 pub mod Range
 pub mod RecordRange
 pub mod Records

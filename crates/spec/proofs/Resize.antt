@@ -213,7 +213,9 @@ module _ (s : Store) (o size : ℕ) (h : Sound s) (l : o < objects s) (v : LiveO
       }
 
   pub resize-objects : objectAt s o .kind ≡ REGULAR → GoodObjects s → GoodObjects (resize s o size)
-  resize-objects k = good-objects-set s (resize s o size) o (resized s o size) resize-object (_⊎_.inr (resized-live k))
+  resize-objects k =
+      let e = resize-object in
+      good-objects-set s (resize s o size) o (resized s o size) (e .shape) (e .object) (e .other-objects) (_⊎_.inr (resized-live k))
 
   -- names, types and generations stay
   pub resize-tree : SameTree s (resize s o size)
