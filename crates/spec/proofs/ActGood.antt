@@ -33,7 +33,7 @@ use Rattle.spec.specs.Room.{sizeOf, need, freeBlockCount}
 use Rattle.spec.specs.Serve.{serve}
 use Rattle.spec.proofs.ArgumentRange.{FitsHow, FitsArguments, arguments-fit}
 use Rattle.spec.proofs.BlockLists.{held-range}
-use Rattle.spec.proofs.ClearBlocks.{write-file}
+use Rattle.spec.proofs.BlockWrites.{write-file}
 use Rattle.spec.proofs.Count.{by-bool, true-false}
 use Rattle.spec.proofs.CreateObject.{create-object, create-object-uses}
 use Rattle.spec.proofs.Error.{getattr-store, lookup-store, access-store, read-store, readdir-store, fsstat-store, fsinfo-store, pathconf-store, commit-store}
@@ -241,15 +241,15 @@ module _ (s : Store) (c : Context) (v : Valid s) (b : Below 256 s) (k : GoodCloc
 
   removed-file : (h text : List ℕ) (d n : ℕ) → RemovePassed s h text d n → StillGood s (touchDirectory (removeObject s n) c d)
   removed-file h text d n p =
-      let (l, u, i, j) = found-record s d text n (p .found) in
-      remove-edit d n l u (p .reached .below) (p .directory) (λ e. p .file (rw e at (p .directory)))
+      let (l, u, i, j) = found-record s d text n (p .entry .found) in
+      remove-edit d n l u (p .entry .reached .below) (p .entry .directory) (λ e. p .file (rw e at (p .entry .directory)))
       (λ m a b e. p .file (rw e at (used-of s m b (v .good-names m a) .in-directory)))
 
   removed-directory : (h text : List ℕ) (d n : ℕ) → RmdirPassed s h text d n → StillGood s (touchDirectory (removeObject s n) c d)
   removed-directory h text d n p =
-      let (l, u, i, j) = found-record s d text n (p .found) in
+      let (l, u, i, j) = found-record s d text n (p .entry .found) in
       let none-in : (m : ℕ) → m < names s → Used s m → nameAt s m .directory ≢ nameAt s n .child = λ m a b. no-entries s (nameAt s n .child) m (p .empty) a b in
-      remove-edit d n l u (p .reached .below) (p .directory) (λ e. none-in n l u (i ∙ e)) none-in
+      remove-edit d n l u (p .entry .reached .below) (p .entry .directory) (λ e. none-in n l u (i ∙ e)) none-in
 
   removal : (h : List ℕ) (checks : Checked (ℕ × ℕ)) → ((p : ℕ × ℕ) → checks ≡ passed p → StillGood s (touchDirectory (removeObject s (p .1)) c (p .0)))
       → StillGood s (removeFrom s c h checks .store)

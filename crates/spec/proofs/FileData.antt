@@ -10,7 +10,7 @@ use Rattle.spec.specs.Edits.{writeThrough, readThrough, writeFile, readF
 use Rattle.spec.specs.Image.{Store, objects, blocks, objectAt}
 use Rattle.spec.specs.Room.{sizeOf, byteAt}
 use Rattle.spec.proofs.Bytes.{part-cons, overlay-length, overlay-join, overlay-none}
-use Rattle.spec.proofs.ClearBlocks.{write-file}
+use Rattle.spec.proofs.BlockWrites.{write-file}
 use Rattle.spec.proofs.Kept.{Sound}
 use Rattle.spec.proofs.Range.{Below}
 use Rattle.spec.proofs.Structure.{kept-structure, byteAt-same}

@@ -13,7 +13,7 @@ use Rattle.spec.specs.Edits.{setAttributes, resize, createObject, remove
 use Rattle.spec.specs.Image.{Store, objects, names, blocks, objectAt, nameAt}
 use Rattle.spec.specs.Room.{sizeOf, need, freeBlockCount}
 use Rattle.spec.proofs.BlockLists.{held-range}
-use Rattle.spec.proofs.ClearBlocks.{write-file}
+use Rattle.spec.proofs.BlockWrites.{write-file}
 use Rattle.spec.proofs.CreateObject.{create-object, create-object-objects, create-object-names, create-object-blocks}
 use Rattle.spec.proofs.GoodKept.{good-objects-kept, used-of}
 use Rattle.spec.proofs.Kept.{Sound, valid-sound}

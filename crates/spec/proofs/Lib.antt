@@ -2,8 +2,8 @@ pub mod ActGood
 pub mod Apart
 pub mod ArgumentRange
 pub mod BlockLists
+pub mod BlockWrites
 pub mod Bytes
-pub mod ClearBlocks
 pub mod Count
 pub mod CreateObject
 pub mod Error
@@ -13,10 +13,12 @@ pub mod FreeCount
 pub mod FreeRoom
 pub mod GoodKept
 pub mod GoodRecords
+pub mod Handles
 pub mod Kept
 pub mod MoveName
 pub mod Names
 pub mod Passed
+pub mod PlainObject
 pub mod Range
 pub mod RecordRange
 pub mod Records

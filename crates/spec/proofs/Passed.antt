@@ -366,60 +366,53 @@ mkdir-passed s h text a p e =
     subst (λ (y : ℕ × ℕ × ℕ). MkdirPassed s h text a (y .0) (y .1) (y .2)) q v))))
 
 -- ---- REMOVE and RMDIR
-pub record RemovePassed (s : Store) (h text : List ℕ) (d n : ℕ) : Type 0 where
+-- a good name, found in the directory
+pub record EntryPassed (s : Store) (h text : List ℕ) (d n : ℕ) : Type 0 where
   pub reached : Reached s h d
   pub directory : objectAt s d .kind ≡ DIRECTORY
   pub good : GoodName text
   pub found : findName s d text ≡ some n
+
+entry-passed : {B P : Type 0} (s : Store) (h text : List ℕ) (status : ℕ) (k : ℕ → ℕ → Checked B) (b : B)
+    → bind (reachDirectory s h) (λ d. bind (checkName text) (λ _. bind (refuseIf (isDots text) status) (λ _. bind (present NOENT (findName s d text)) (k d)))) ≡ passed b
+    → ((d n : ℕ) → EntryPassed s h text d n → k d n ≡ passed b → P) → P
+entry-passed s h text status k b e f =
+    bind-passed (reachDirectory s h) _ b e (λ d e₁ f₁.
+    name-passed text _ b f₁ (λ m f₂.
+    refuse-passed (isDots text) status _ b f₂ (λ t f₃.
+    present-passed NOENT (findName s d text) (k d) b f₃ (λ n e₄ f₄.
+    let z = directory-passed s h d e₁ in
+    f d n (record { reached = z .0; directory = z .1; good = passed-good text m t; found = e₄ }) f₄))))
+
+pub record RemovePassed (s : Store) (h text : List ℕ) (d n : ℕ) : Type 0 where
+  pub entry : EntryPassed s h text d n
   pub file : objectAt s (nameAt s n .child) .kind ≢ DIRECTORY
 
 pub remove-passed : (s : Store) (h text : List ℕ) (p : ℕ × ℕ) → checkRemove s h text ≡ passed p → RemovePassed s h text (p .0) (p .1)
 unfolding checkRemove
 remove-passed s h text p e =
-    bind-passed (reachDirectory s h) _ p e (λ d e₁ f₁.
-    name-passed text _ p f₁ (λ m f₂.
-    refuse-passed (isDots text) ACCES _ p f₂ (λ t₃ f₃.
-    present-passed NOENT (findName s d text) _ p f₃ (λ n e₄ f₄.
-    refuse-passed (isDirectory s (nameAt s n .child)) ACCES _ p f₄ (λ t₅ f₅.
-    let z = directory-passed s h d e₁ in
-    let q : _≡_ {A = ℕ × ℕ} (d, n) p = same-passed (d, n) p f₅ in
-    let v : RemovePassed s h text d n = record {
-      reached = z .0;
-      directory = z .1;
-      good = passed-good text m t₃;
-      found = e₄;
-      file = λ k. true-false (sym (true-directory s (nameAt s n .child) k) ∙ t₅);
-    } in
-    subst (λ (x : ℕ × ℕ). RemovePassed s h text (x .0) (x .1)) q v)))))
+    entry-passed s h text ACCES _ p e (λ d n a f.
+    refuse-passed (isDirectory s (nameAt s n .child)) ACCES _ p f (λ t g.
+    let v : RemovePassed s h text d n = record { entry = a; file = λ k. true-false (sym (true-directory s (nameAt s n .child) k) ∙ t) } in
+    subst (λ (x : ℕ × ℕ). RemovePassed s h text (x .0) (x .1)) (same-passed (d, n) p g) v))
 
 pub record RmdirPassed (s : Store) (h text : List ℕ) (d n : ℕ) : Type 0 where
-  pub reached : Reached s h d
-  pub directory : objectAt s d .kind ≡ DIRECTORY
-  pub good : GoodName text
-  pub found : findName s d text ≡ some n
+  pub entry : EntryPassed s h text d n
   pub child-directory : objectAt s (nameAt s n .child) .kind ≡ DIRECTORY
   pub empty : hasEntries s (nameAt s n .child) ≡ false
 
 pub rmdir-passed : (s : Store) (h text : List ℕ) (p : ℕ × ℕ) → checkRmdir s h text ≡ passed p → RmdirPassed s h text (p .0) (p .1)
 unfolding checkRmdir
 rmdir-passed s h text p e =
-    bind-passed (reachDirectory s h) _ p e (λ d e₁ f₁.
-    name-passed text _ p f₁ (λ m f₂.
-    refuse-passed (isDots text) INVAL _ p f₂ (λ t₃ f₃.
-    present-passed NOENT (findName s d text) _ p f₃ (λ n e₄ f₄.
-    refuse-passed (not (isDirectory s (nameAt s n .child))) NOTDIR _ p f₄ (λ t₅ f₅.
-    refuse-passed (hasEntries s (nameAt s n .child)) NOTEMPTY _ p f₅ (λ t₆ f₆.
-    let z = directory-passed s h d e₁ in
-    let q : _≡_ {A = ℕ × ℕ} (d, n) p = same-passed (d, n) p f₆ in
+    entry-passed s h text INVAL _ p e (λ d n a f.
+    refuse-passed (not (isDirectory s (nameAt s n .child))) NOTDIR _ p f (λ t g.
+    refuse-passed (hasEntries s (nameAt s n .child)) NOTEMPTY _ p g (λ u w.
     let v : RmdirPassed s h text d n = record {
-      reached = z .0;
-      directory = z .1;
-      good = passed-good text m t₃;
-      found = e₄;
-      child-directory = directory-true s (nameAt s n .child) (not-false (isDirectory s (nameAt s n .child)) t₅);
-      empty = t₆;
+      entry = a;
+      child-directory = directory-true s (nameAt s n .child) (not-false (isDirectory s (nameAt s n .child)) t);
+      empty = u;
     } in
-    subst (λ (x : ℕ × ℕ). RmdirPassed s h text (x .0) (x .1)) q v))))))
+    subst (λ (x : ℕ × ℕ). RmdirPassed s h text (x .0) (x .1)) (same-passed (d, n) p w) v)))
 
 -- no used name is in a directory without entries
 pub no-entries : (s : Store) (d m : ℕ) → hasEntries s d ≡ false → m < names s → Used s m → nameAt s m .directory ≢ d

@@ -1,13 +1,13 @@
 -- What the call entry leaves of the store: as it was, or as the procedure that ran left it. Assumes nothing.
 use mathlib.Core.Path.{_≡_, refl, ap, _∙_}
-use mathlib.Core.Logic.{_≢_, _⊎_, ⊎-elim}
+use mathlib.Core.Logic.{_≢_, _⊎_, ⊎-elim, by-cases}
+use native.Mathlib.Decide.{ℕ-discrete}
 use mathlib.Core.Bool.{true, false}
 use mathlib.Core.List.{List}
 use Prim.Native.Nat.{ℕ, _≤_, _<_}
 use lib.Dec.{ltb}
 use lib.ListN.{length}
 use borrow.Author.Tests.{ltb-false, ltb-true}
-use Rattle.kinds.specs.Numbers.{OK}
 use Rattle.kinds.specs.Reading.{Read, got, bad}
 use Rattle.kinds.specs.declared.object.Context.{Context}
 use Rattle.kinds.specs.declared.call.CallHeader.{CallHeader}
@@ -24,7 +24,7 @@ use Rattle.spec.specs.Procedures.{act}
 use Rattle.spec.specs.Rpc.{nfs, judge}
 use Rattle.spec.specs.Serve.{Outcome, send, finish, perform, answer, respond, complete, outcome, serve}
 use Rattle.spec.proofs.Count.{by-bool}
-use Rattle.spec.proofs.Error.{shownStatus, act-shown, status-word}
+use Rattle.spec.proofs.Error.{statusOf, NotDone, act-kept, status-word}
 
 -- a procedure ran: every test before it passed
 pub record Ran (call : List ℕ) (s : Store) (space : List ℕ) (c : Context) : Type 0 where
@@ -108,7 +108,11 @@ module _ (call : List ℕ) (s : Store) (space : List ℕ) (c : Context) where
 
   -- a reply whose status word is not 0 leaves the store
   pub serve-error : beAt (serve call s space c .space) 24 4 ≢ 0 → serve call s space c .store ≡ s
-  serve-error n = ⊎-elim (λ e. e) (λ r. ap (λ (o : Outcome). o .store) (r .outcome) ∙ act-shown s c call (r .asked) (λ z. n (word r z))) serve-ran
+  serve-error n = ⊎-elim (λ e. e) (λ r. ap (λ (o : Outcome). o .store) (r .outcome) ∙ act-kept s c call (r .asked) (not-done r)) serve-ran
     where
-      word : (r : Ran call s space c) → shownStatus (act s c call (r .asked) .result) ≡ OK → beAt (serve call s space c .space) 24 4 ≡ 0
-      word r z = rw (r .outcome) (status-word space (r .head .xid) (r .head .procedure) (act s c call (r .asked) .result) z)
+      not-done : (r : Ran call s space c) → NotDone (act s c call (r .asked) .result)
+      not-done r =
+          by-cases (ℕ-discrete (statusOf (act s c call (r .asked) .result)) 0)
+          (λ e. ⊎-elim (λ z. _⊎_.inr z) (λ z. absurd (n (rw (r .outcome) z)))
+          (status-word space (r .head .xid) (r .head .procedure) (act s c call (r .asked) .result) e))
+          (λ d. _⊎_.inl d)
