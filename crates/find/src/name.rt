@@ -4,7 +4,7 @@ ghost use mathlib.Core.Bool.{_&&_, not};
 ghost use Prim.Native.Nat.{_+_, _<_, _≤_};
 ghost use lib.ListN.{length};
 ghost use Rattle.spec.specs.Count.{lowest};
-ghost use Rattle.spec.specs.Image.{nameRecordLength, objects, names, nameStart, nameAt, nameLength};
+ghost use Rattle.spec.specs.Image.{nameRecordLength, names, nameStart, nameAt, nameLength};
 ghost use Rattle.spec.specs.Room.{isUsedName, isNaming, isIn, isNamed, isDirectory, availableName, freeNameCount, findName, subdirectories, parent};
 ghost use Rattle.image.specs.Shaped.{Shaped, SoundNames};
 ghost use Rattle.image.specs.Text.{textOf};

@@ -3,7 +3,7 @@ ghost use mathlib.Core.Path.{_≡_};
 ghost use Prim.Native.Nat.{_+_, _<_, _≤_};
 ghost use lib.ListN.{length};
 ghost use Rattle.spec.specs.Bytes.{part};
-ghost use Rattle.spec.specs.Image.{nameRecordLength, objects, nameStart, nameAt, nameLength, putName, freeName};
+ghost use Rattle.spec.specs.Image.{nameRecordLength, nameStart, nameAt, nameLength, putName, freeName};
 ghost use Rattle.spec.specs.Room.{isUsedName};
 ghost use Rattle.image.specs.Text.{nameOf, textOf};
 use crate::counts::name_start;
