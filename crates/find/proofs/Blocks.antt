@@ -25,7 +25,7 @@ listed-more xs k x e h =
     let q : 16 - k ≡ suc (16 - (k + 1)) = omega arith in
     rw q (set-at xs 65535 (replicate (16 - (k + 1)) 65535) x k (sym e) ∙ sym (append-snoc xs x (replicate (16 - (k + 1)) 65535)))
 
--- of the numbers below i, the first k that pass are listed, and no more of them than are wanted pass
+-- the list has the k numbers below i that pass, not more than are wanted, and 65535 in its other places
 pub record Listed (p : ℕ → Bool) (wanted i k : ℕ) (list : List ℕ) : Type 0 where
   pub few : k ≤ wanted
   pub long : length list ≡ 16

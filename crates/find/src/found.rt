@@ -1,4 +1,4 @@
-// What a search finds: a number, or nothing.
+// What a search finds, and what a count adds.
 use kinds::numbers::NameNumber;
 use kinds::numbers::ObjectNumber;
 ghost use mathlib.Core.Path.{_≡_};

@@ -4,7 +4,7 @@ ghost use mathlib.Core.Bool.{_&&_, not};
 ghost use Prim.Native.Nat.{_+_, _<_, _≤_};
 ghost use lib.ListN.{length};
 ghost use Rattle.spec.specs.Count.{lowest};
-ghost use Rattle.spec.specs.Image.{objects, names, nameStart, nameAt, nameLength};
+ghost use Rattle.spec.specs.Image.{nameRecordLength, names, nameStart, nameAt, nameLength};
 ghost use Rattle.spec.specs.Room.{isUsedName, isNaming, isIn, isNamed, isDirectory, availableName, freeNameCount, findName, subdirectories, parent};
 ghost use Rattle.image.specs.Shaped.{Shaped, SoundNames};
 ghost use Rattle.image.specs.Text.{textOf};
@@ -23,7 +23,7 @@ use kinds::numbers::NameNumber;
 use kinds::numbers::ObjectNumber;
 
 fn is_free_name(store: &[u8], n: NameNumber) -> bool
-    requires { ⌜ nameStart (now store) (n .0) + 44 ≤ length (now store) ⌝ }
+    requires { ⌜ nameStart (now store) (n .0) + nameRecordLength ≤ length (now store) ⌝ }
     ensures { λ r. ⌜ r ≡ not (isUsedName (now (store .entry)) (n .0)) ⌝ }
 {
     !is_used_name(store, n)
@@ -61,7 +61,7 @@ pub fn free_name_count(store: &[u8]) -> usize
 
 // Whether a record is used, and names an object.
 pub fn is_naming(store: &[u8], n: NameNumber, o: ObjectNumber) -> bool
-    requires { ⌜ nameStart (now store) (n .0) + 44 ≤ length (now store) ⌝ }
+    requires { ⌜ nameStart (now store) (n .0) + nameRecordLength ≤ length (now store) ⌝ }
     ensures { λ r. ⌜ r ≡ isNaming (now (store .entry)) (o .0) (n .0) ⌝ }
 {
     let child = name_child(store, n);
@@ -101,7 +101,7 @@ pub fn parent_of(store: &[u8], o: ObjectNumber) -> ObjectNumber
 
 // Whether a record is used, and in a directory.
 pub fn is_in(store: &[u8], n: NameNumber, directory: ObjectNumber) -> bool
-    requires { ⌜ nameStart (now store) (n .0) + 44 ≤ length (now store) ⌝ }
+    requires { ⌜ nameStart (now store) (n .0) + nameRecordLength ≤ length (now store) ⌝ }
     ensures { λ r. ⌜ r ≡ isIn (now (store .entry)) (directory .0) (n .0) ⌝ }
 {
     let d = name_directory(store, n);
@@ -119,7 +119,7 @@ pub fn is_named(
     call: &[u8],
     name: Part,
 ) -> bool
-    requires { ⌜ nameStart (now store) (n .0) + 44 ≤ length (now store) ⌝ }
+    requires { ⌜ nameStart (now store) (n .0) + nameRecordLength ≤ length (now store) ⌝ }
     requires { ⌜ nameLength (now store) (n .0) ≤ 32 ⌝ }
     requires { ⌜ name .start + name .length ≤ length (now call) ⌝ }
     ensures { λ r. ⌜ r ≡ isNamed (now (store .entry)) (directory .0) (textOf (now (call .entry)) name) (n .0) ⌝ }

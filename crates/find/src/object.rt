@@ -2,7 +2,7 @@
 ghost use mathlib.Core.Path.{_≡_};
 ghost use Prim.Native.Nat.{_+_, _≤_};
 ghost use lib.ListN.{length};
-ghost use Rattle.spec.specs.Image.{objectStart};
+ghost use Rattle.spec.specs.Image.{objectLength, objectStart};
 ghost use Rattle.spec.specs.Room.{isAvailable, availableObject, availableCount};
 ghost use Rattle.image.specs.Shaped.{Shaped};
 ghost use Rattle.find.specs.Found.{foundObject};
@@ -16,7 +16,7 @@ use kinds::numbers::Limit;
 use kinds::numbers::ObjectNumber;
 
 pub fn is_available(store: &[u8], o: ObjectNumber) -> bool
-    requires { ⌜ objectStart (o .0) + 80 ≤ length (now store) ⌝ }
+    requires { ⌜ objectStart (o .0) + objectLength ≤ length (now store) ⌝ }
     ensures { λ r. ⌜ r ≡ isAvailable (now (store .entry)) (o .0) ⌝ }
 {
     if kind_of(store, o) != Kind::FREE {

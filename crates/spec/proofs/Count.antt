@@ -54,7 +54,7 @@ unfolding sum
 sum-add zero f g = refl
 sum-add (suc n) f g = let r = sum-add n f g in omega arith
 
--- a term is at most the sum, and a sum that is not 0 has a term that is not 0
+-- a term is at most the sum, and where every term is 0 the sum is 0
 pub sum-at : (n i : ℕ) (f : ℕ → ℕ) → i < n → f i ≤ sum n f
 unfolding sum
 sum-at zero i f l = absurd (not-suc-le-zero l)
