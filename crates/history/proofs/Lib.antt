@@ -1,0 +1,11 @@
+pub mod Sum
+pub mod Lists
+pub mod View
+pub mod Tree
+pub mod Change
+pub mod Created
+pub mod Removed
+pub mod Moved
+pub mod Handles
+pub mod Walk
+pub mod Agree
