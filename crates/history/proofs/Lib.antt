@@ -9,3 +9,5 @@ pub mod Moved
 pub mod Handles
 pub mod Walk
 pub mod Agree
+pub mod Issue
+pub mod Room
