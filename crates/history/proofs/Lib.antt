@@ -11,3 +11,5 @@ pub mod Walk
 pub mod Agree
 pub mod Issue
 pub mod Room
+pub mod Seen
+pub mod Bridge
