@@ -120,8 +120,11 @@ module _ (s : Store) (K : Valid s) where
         fits = held-fits;
         alone = λ b. by-cases (decLt b (blocks s))
             (λ l. omega (arith, uses-same s b, K .used-once b l))
-            (λ n. omega (arith, sum-zero (objects s) (λ i. times b (heldBy s i)) (λ i l. by-cases (ℕ-discrete (times b (heldBy s i)) 0) (λ e. e)
-            (λ m. absurd (omega (arith, times-all (λ c. c < blocks s) (heldBy s i) b (held-fits i) (omega arith)))))));
+            (λ n. omega (
+              arith,
+              sum-zero (objects s) (λ i. times b (heldBy s i)) (λ i l. by-cases (ℕ-discrete (times b (heldBy s i)) 0) (λ e. e)
+                  (λ m. absurd (omega (arith, times-all (λ c. c < blocks s) (heldBy s i) b (held-fits i) (omega arith))))),
+            ));
       }
 
 -- ---- and back

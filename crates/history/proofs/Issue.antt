@@ -96,10 +96,14 @@ module _ (P Q σ : ℕ) (v w : View) (o q k d : ℕ) (t : List ℕ) (given : Lis
     each = λ h. (
       (λ m. ⊎-elim
           (λ (e : h ≡ handleIn σ v o). (o, v .gen o, e, omega (arith, one-more)))
-          (λ (x : List·Memᴰ h given). let (i, g, e, l) = A .each h .0 x in
-          (i, g, e, by-cases (ℕ-discrete i o)
-              (λ z. omega (arith, one-more, none-yet, ap (issued w) z, ap (issued v) z))
-              (λ n. omega (arith, others i n))))
+          (λ (x : List·Memᴰ h given). let (i, g, e, l) = A .each h .0 x in (
+            i,
+            g,
+            e,
+            by-cases (ℕ-discrete i o)
+                (λ z. omega (arith, one-more, none-yet, ap (issued w) z, ap (issued v) z))
+                (λ n. omega (arith, others i n)),
+          ))
           (List·Memᴰ·cases-cons m)),
       (λ x. let (i, g, e, l) = x in
           by-cases (ℕ-discrete i o)
