@@ -2,13 +2,17 @@ pub mod Apart
 pub mod Bytes
 pub mod Count
 pub mod Formatted
+pub mod GoodKept
+pub mod Kept
 pub mod Names
 pub mod Range
 pub mod RecordRange
 pub mod Records
+pub mod SameReads
 pub mod Searches
 pub mod Shape
 pub mod Starred
+pub mod Structure
 pub mod Tests
 pub mod Valid
 pub mod Words

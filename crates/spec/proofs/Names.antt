@@ -34,10 +34,10 @@ name-part b at n h =
     let e = be-part b at n 8 4 (omega arith) in
     sym (cc (be-part b at n 0 4 (omega arith), add-zero at, be-part b at n 4 4 (omega arith), e, part-part b at n 12 (beAt (part b at n) 8 4) (omega arith)))
 
-length-by-part : (b b′ : List ℕ) (at n : ℕ) → 12 ≤ n → part b′ at n ≡ part b at n → beAt b′ (at + 8) 4 ≡ beAt b (at + 8) 4
+pub length-by-part : (b b′ : List ℕ) (at n : ℕ) → 12 ≤ n → part b′ at n ≡ part b at n → beAt b′ (at + 8) 4 ≡ beAt b (at + 8) 4
 length-by-part b b′ at n h e = sym (be-part b′ at n 8 4 (omega arith)) ∙ ap (λ (x : List ℕ). beAt x 8 4) e ∙ be-part b at n 8 4 (omega arith)
 
-name-by-part : (b b′ : List ℕ) (at n : ℕ) → 12 + beAt b (at + 8) 4 ≤ n → part b′ at n ≡ part b at n → nameFrom b′ at ≡ nameFrom b at
+pub name-by-part : (b b′ : List ℕ) (at n : ℕ) → 12 + beAt b (at + 8) 4 ≤ n → part b′ at n ≡ part b at n → nameFrom b′ at ≡ nameFrom b at
 name-by-part b b′ at n h e =
     let q = length-by-part b b′ at n (omega arith) e in
     name-part b′ at n (omega arith) ∙ ap (λ (x : List ℕ). nameFrom x 0) e ∙ sym (name-part b at n h)
@@ -76,7 +76,7 @@ module _ (s : Store) (n : ℕ) (v : Name) (h : nameStart s n + 44 ≤ length s) 
   unfolding putName
   objects-same = objects-apart s (nameStart s n) (nameBytes v) fits (omega arith)
 
-  bytes-same : part (putName s n v) (nameStart s n) 44 ≡ nameBytes v
+  pub bytes-same : part (putName s n v) (nameStart s n) 44 ≡ nameBytes v
   unfolding putName
   bytes-same = part-same s (nameStart s n) (nameBytes v) fits 44 (name-length v (f .text))
 

@@ -3,9 +3,12 @@ use mathlib.Core.Path.{_≡_, refl, sym, ap, _∙_}
 use mathlib.Core.Bool.{Bool, true, false}
 use mathlib.Core.Option.{Option, some, none}
 use mathlib.Core.List.{List, []}
-use Prim.Native.Nat.{ℕ, zero, suc, _<_}
+use Prim.Native.Nat.{ℕ, zero, suc, _+_, _<_}
 use Rattle.spec.specs.Count.{bit, sum, count, passing, first, lowest, iterate}
-use Rattle.spec.proofs.Count.{sum-ext, sum-zero, passing-ext}
+use native.Mathlib.Decide.{decLt, ℕ-discrete}
+use mathlib.Core.Logic.{_≢_, by-cases, ite}
+use native.Mathlib.Omega.{arith}
+use Rattle.spec.proofs.Count.{sum-ext, sum-upd, sum-zero, passing-ext}
 
 pub count-ext : (n : ℕ) (p q : ℕ → Bool) → ((i : ℕ) → i < n → p i ≡ q i) → count n p ≡ count n q
 count-ext n p q f = sum-ext n (λ i. bit (p i)) (λ i. bit (q i)) (λ i l. ap bit (f i l))
@@ -35,3 +38,12 @@ pub iterate-ext : (n : ℕ) (f g : ℕ → ℕ) (x : ℕ) → ((y : ℕ) → f y
 unfolding iterate
 iterate-ext zero f g x e = refl
 iterate-ext (suc n) f g x e = e (iterate n f x) ∙ ap g (iterate-ext n f g x e)
+
+-- one place below the bound changes
+pub sum-upd-below : (n o : ℕ) (f g : ℕ → ℕ) → o < n → ((i : ℕ) → i < n → i ≢ o → g i ≡ f i) → sum n g + f o ≡ sum n f + g o
+unfolding sum
+sum-upd-below zero o f g l h = absurd (omega arith)
+sum-upd-below (suc n) o f g l h =
+    by-cases (ℕ-discrete o n)
+    (λ e. let r = sum-ext n g f (λ i k. h i (omega arith) (λ q. omega arith)) in let a = ap f e in let b = ap g e in omega arith)
+    (λ d. let r = sum-upd-below n o f g (omega arith) (λ i k q. h i (omega arith) q) in let a = h n (omega arith) (λ e. d (sym e)) in omega arith)
