@@ -13,3 +13,4 @@ pub mod Issue
 pub mod Room
 pub mod Seen
 pub mod Bridge
+pub mod Replies
