@@ -26,18 +26,9 @@ use Rattle.spec.proofs.RecordRange.{object-bytes, below-zeros}
 use Rattle.spec.proofs.Records.{FitsTime, FitsObject, object-length, object-part, object-again}
 use Rattle.spec.proofs.Searches.{count-nothing, lowest-nothing, iterate-fixed}
 use Rattle.spec.proofs.Valid.{Shaped, LiveObject, FreeObject, GoodObject, FreeName, Live, Valid, free-zeros, free-name, false-used, passes-valid}
+use Rattle.spec.proofs.WordRange.{below-words, below-same}
 use Rattle.spec.proofs.Words.{words-one, words-length}
 use Rattle.spec.proofs.Zeros.{part-zeros}
-
-below-words : (ws : List ℕ) → Below 256 (words ws)
-unfolding words
-below-words [] k = lit< tt
-below-words (w ∷ ws) k = below-append 256 (bytesOf 4 w) (words ws) (below-bytes 4 w) (below-words ws) k
-
-below-same : (m n x : ℕ) → 0 < m → x < m → Below m (replicate n x)
-below-same m zero x p h k = p
-below-same m (suc n) x p h zero = h
-below-same m (suc n) x p h (suc k) = below-same m n x p h k
 
 -- the root's record fits its places, and is as the check demands
 pub root-fits : (clock : Time) → FitsTime clock → FitsObject (rootObject clock)

@@ -13,7 +13,7 @@ use Rattle.spec.proofs.Range.{Below, below-append, below-drop, below-ta
 use Rattle.spec.proofs.Records.{FitsTime, FitsObject, halves-count}
 use Rattle.spec.proofs.Names.{FitsName}
 
-one-below : (m x : ℕ) → x < m → Below m (x ∷ [])
+pub one-below : (m x : ℕ) → x < m → Below m (x ∷ [])
 one-below m x h zero = h
 one-below m x h (suc k) = omega arith
 
