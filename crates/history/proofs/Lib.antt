@@ -14,3 +14,4 @@ pub mod Room
 pub mod Seen
 pub mod Bridge
 pub mod Replies
+pub mod Asked
