@@ -1,8 +1,8 @@
 -- The third edit: an object in a free record, named by a free name record. Assumes nothing.
-use mathlib.Core.Path.{_≡_, refl, sym, ap, _∙_}
-use mathlib.Core.Logic.{_≢_, _⊎_, by-cases}
+use mathlib.Core.Path.{_≡_, ap, _∙_}
+use mathlib.Core.Logic.{_⊎_, by-cases}
 use mathlib.Core.List.{List, []}
-use Prim.Native.Nat.{ℕ, _+_, _^_, _≤_, _<_}
+use Prim.Native.Nat.{ℕ, _^_, _≤_, _<_}
 use native.Mathlib.Omega.{arith}
 use native.Mathlib.Decide.{ℕ-discrete}
 use lib.ListN.{length}
@@ -14,13 +14,12 @@ use Rattle.spec.specs.Edits.{withGeneration, createObject}
 use Rattle.spec.specs.Image.{Store, objects, names, blocks, blockStart, objectAt, putObject, Name, nameAt}
 use Rattle.spec.specs.Room.{sizeOf, held, uses}
 use Rattle.spec.proofs.GoodKept.{good-objects-both, record-kept, used-set, uses-object-set}
-use Rattle.spec.proofs.Kept.{Sound, ObjectSet, NameSet, BothSet, put-object, put-name, object-name}
-use Rattle.spec.proofs.Names.{FitsName}
+use Rattle.spec.proofs.Kept.{Sound, BothSet, put-object, put-name, object-name}
 use Rattle.spec.proofs.Range.{Below}
 use Rattle.spec.proofs.RecordRange.{objectAt-fits}
 use Rattle.spec.proofs.Records.{FitsObject}
-use Rattle.spec.proofs.Valid.{LiveObject, GoodObjects, GoodName, GoodNames, Live, BlocksUsedOnce, live-kind}
-use Rattle.spec.proofs.Writes.{ObjectWritten, NameWritten, object-written, name-written}
+use Rattle.spec.proofs.Valid.{LiveObject, GoodObjects, GoodName, GoodNames, BlocksUsedOnce, live-kind}
+use Rattle.spec.proofs.Writes.{object-written, name-written}
 
 -- object o as the name `text` in directory d
 abbrev pub newName : ℕ → ℕ → List ℕ → Name

@@ -1,31 +1,30 @@
 -- The store that format makes: its counts, its records, that it is bytes and that it passes the check. Assumes nothing.
 use mathlib.Core.Path.{_≡_, refl, sym, ap, _∙_}
-use mathlib.Core.Logic.{_≢_, _⊎_, by-cases}
-use mathlib.Core.Bool.{true, false, _&&_}
-use mathlib.Core.Option.{none}
+use mathlib.Core.Logic.{_⊎_, by-cases}
+use mathlib.Core.Bool.{true, false}
 use mathlib.Core.List.{List, [], _∷_, _++_}
-use Prim.Native.Nat.{ℕ, zero, suc, _+_, _-_, _*_, _^_, _≤_, _<_}
+use Prim.Native.Nat.{ℕ, _+_, _-_, _*_, _^_, _≤_, _<_}
 use native.Mathlib.Omega.{arith}
 use native.Mathlib.Nat.{add-zero}
 use native.Mathlib.Decide.{ℕ-discrete}
-use lib.Dec.{lit<, lit≤, eqb}
-use lib.ListN.{length, take, getD, replicate, length-append, length-replicate, getD-replicate}
+use lib.Dec.{lit<, lit≤}
+use lib.ListN.{length, length-append, length-replicate, getD-replicate}
 use Rattle.kinds.specs.Objects.{rootObject, freeObject}
 use Rattle.kinds.specs.declared.object.Time.{Time}
 use Rattle.kinds.specs.declared.object.Object.{Object}
 use Rattle.spec.specs.Bytes.{part, beOf, bytesOf, beAt, words, zeros}
-use Rattle.spec.specs.Count.{count, times, lowest}
-use Rattle.spec.specs.Image.{Store, volumes, stamp, objects, names, blocks, objectStart, nameStart, objectFrom, objectBytes, objectAt, nameAt, nameLength, freeName}
-use Rattle.spec.specs.Room.{isLive, sizeOf, need, held, uses, isUsedName, isNaming, namings, directoryOf, parent, above}
+use Rattle.spec.specs.Count.{times}
+use Rattle.spec.specs.Image.{volumes, stamp, objects, names, blocks, objectStart, objectFrom, objectBytes, objectAt}
+use Rattle.spec.specs.Room.{sizeOf, held, uses, isNaming, namings, parent, above}
 use Rattle.spec.specs.Check.{imageLength, passes}
 use Rattle.spec.specs.Serve.{formatted}
-use Rattle.spec.proofs.Bytes.{part-left, part-right, part-whole, be-bytes, bytes-length}
+use Rattle.spec.proofs.Bytes.{part-left, part-right, part-whole, be-bytes}
 use Rattle.spec.proofs.Count.{sum-zero}
-use Rattle.spec.proofs.Range.{Below, below-append, below-bytes}
+use Rattle.spec.proofs.Range.{Below, below-append}
 use Rattle.spec.proofs.RecordRange.{object-bytes, below-zeros}
 use Rattle.spec.proofs.Records.{FitsTime, FitsObject, object-length, object-part, object-again}
 use Rattle.spec.proofs.Searches.{count-nothing, lowest-nothing, iterate-fixed}
-use Rattle.spec.proofs.Valid.{Shaped, LiveObject, FreeObject, GoodObject, FreeName, Live, Valid, free-zeros, free-name, false-used, passes-valid}
+use Rattle.spec.proofs.Valid.{Shaped, LiveObject, GoodObject, FreeName, Live, Valid, free-zeros, free-name, false-used, passes-valid}
 use Rattle.spec.proofs.WordRange.{below-words, below-same}
 use Rattle.spec.proofs.Words.{words-one, words-length}
 use Rattle.spec.proofs.Zeros.{part-zeros}

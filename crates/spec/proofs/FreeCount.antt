@@ -1,20 +1,18 @@
 -- How many blocks are free: those that are not used, and so all but those that sizes need. Assumes nothing.
-use mathlib.Core.Path.{_≡_, refl, sym, ap, ap₂, _∙_}
+use mathlib.Core.Path.{_≡_, refl, sym, ap, _∙_}
 use mathlib.Core.Logic.{_≢_, by-cases}
-use mathlib.Core.Bool.{Bool, true, false}
-use mathlib.Core.List.{List, [], _∷_, _++_}
+use mathlib.Core.List.{List, [], _∷_}
 use Prim.Native.Nat.{ℕ, zero, suc, _+_, _≤_, _<_}
 use native.Mathlib.Omega.{arith}
 use native.Mathlib.Decide.{ℕ-discrete}
 use lib.Dec.{eqb}
-use lib.ListN.{length, take, drop, getD, take-append-drop}
+use lib.ListN.{length, take, drop, take-append-drop}
 use borrow.Author.Tests.{eqb-true, eqb-false, eq-eqb, ne-eqb}
 use Rattle.spec.specs.Count.{bit, sum, times}
-use Rattle.spec.specs.Image.{Store, objects, blocks, objectAt}
-use Rattle.spec.specs.Room.{sizeOf, need, held, uses, isFreeBlock, freeBlocks, freeBlockCount}
+use Rattle.spec.specs.Image.{Store, objects, blocks}
+use Rattle.spec.specs.Room.{held, uses, isFreeBlock, freeBlocks, freeBlockCount}
 use Rattle.spec.proofs.BlockLists.{InRange}
-use Rattle.spec.proofs.Count.{by-bool, sum-ext, sum-add, sum-zero, sum-at, times-append, times-passing}
-use Rattle.spec.proofs.Searches.{sum-upd-below}
+use Rattle.spec.proofs.Count.{by-bool, sum-ext, sum-add, sum-zero, times-append, times-passing}
 use Rattle.spec.proofs.Valid.{BlocksUsedOnce}
 
 -- ---- sums

@@ -14,6 +14,7 @@ pub mod Range
 pub mod RecordRange
 pub mod Records
 pub mod RemoveObject
+pub mod Resize
 pub mod SameReads
 pub mod Searches
 pub mod SetAttributes

@@ -1,6 +1,6 @@
 -- The fifth edit: a name record is rewritten in place. Assumes nothing.
-use mathlib.Core.Path.{_≡_, refl, ap, _∙_}
-use mathlib.Core.Logic.{_≢_, _⊎_, by-cases}
+use mathlib.Core.Path.{_≡_, ap, _∙_}
+use mathlib.Core.Logic.{_⊎_, by-cases}
 use mathlib.Core.List.{List}
 use Prim.Native.Nat.{ℕ, _^_, _≤_, _<_}
 use native.Mathlib.Omega.{arith}
@@ -13,12 +13,11 @@ use Rattle.spec.specs.Edits.{moveName}
 use Rattle.spec.specs.Image.{Store, objects, names, blocks, blockStart, objectAt, Name, nameAt}
 use Rattle.spec.proofs.GoodKept.{good-objects-kept, record-kept, used-set}
 use Rattle.spec.proofs.Kept.{Sound, NameSet, put-name}
-use Rattle.spec.proofs.Names.{FitsName}
 use Rattle.spec.proofs.Range.{Below}
 use Rattle.spec.proofs.RecordRange.{nameAt-fits}
 use Rattle.spec.proofs.SameReads.{held-reads, uses-reads}
 use Rattle.spec.proofs.Valid.{GoodObjects, GoodName, GoodNames, Live, BlocksUsedOnce}
-use Rattle.spec.proofs.Writes.{NameWritten, name-written}
+use Rattle.spec.proofs.Writes.{name-written}
 
 -- record n with the name `text` in directory d, for the same child
 abbrev pub movedName : Store → ℕ → ℕ → List ℕ → Name

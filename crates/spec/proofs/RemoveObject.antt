@@ -1,8 +1,8 @@
 -- The fourth edit: an object, its blocks and its name record are free. Assumes nothing.
-use mathlib.Core.Path.{_≡_, refl, sym, ap, _∙_}
+use mathlib.Core.Path.{_≡_, refl, ap}
 use mathlib.Core.Logic.{_≢_, _⊎_, by-cases}
-use mathlib.Core.List.{List, []}
-use Prim.Native.Nat.{ℕ, _+_, _^_, _≤_, _<_}
+use mathlib.Core.List.{[]}
+use Prim.Native.Nat.{ℕ, _+_, _^_, _<_}
 use native.Mathlib.Omega.{arith}
 use native.Mathlib.Decide.{ℕ-discrete}
 use lib.Dec.{lit<, lit≤}
@@ -11,15 +11,14 @@ use Rattle.kinds.specs.Objects.{freeObject}
 use Rattle.kinds.specs.declared.object.Object.{Object}
 use Rattle.spec.specs.Count.{times}
 use Rattle.spec.specs.Edits.{clearBlocks, removeObject}
-use Rattle.spec.specs.Image.{Store, objects, names, blocks, objectAt, putObject, Name, nameAt, freeName}
+use Rattle.spec.specs.Image.{Store, objects, names, blocks, objectAt, putObject, nameAt, freeName}
 use Rattle.spec.specs.Room.{held, uses, freeBlockCount}
 use Rattle.spec.proofs.BlockLists.{InRange}
 use Rattle.spec.proofs.ClearBlocks.{clear-blocks}
 use Rattle.spec.proofs.CreateObject.{no-blocks}
 use Rattle.spec.proofs.FreeCount.{free-count-set}
 use Rattle.spec.proofs.GoodKept.{good-objects-both, record-kept, uses-object-set}
-use Rattle.spec.proofs.Kept.{Sound, NameIs, RecordsKept, ObjectSet, NameSet, BothSet, put-object, put-name, kept-object, object-name}
-use Rattle.spec.proofs.Names.{FitsName}
+use Rattle.spec.proofs.Kept.{Sound, NameIs, BothSet, put-object, put-name, kept-object, object-name}
 use Rattle.spec.proofs.Records.{FitsObject}
 use Rattle.spec.proofs.Valid.{FreeName, GoodObjects, GoodNames, Used, BlocksUsedOnce}
 use Rattle.spec.proofs.WordRange.{below-same}

@@ -1,25 +1,24 @@
 -- The first edit: an object's attributes and times. Assumes nothing.
-use mathlib.Core.Path.{_≡_, refl, sym, ap, _∙_}
+use mathlib.Core.Path.{_≡_, refl}
 use mathlib.Core.Logic.{_⊎_}
 use mathlib.Core.Bool.{Bool, true, false, _||_, cond}
-use Prim.Native.Nat.{ℕ, _+_, _^_, _≤_, _<_}
+use Prim.Native.Nat.{ℕ, _^_, _≤_, _<_}
 use native.Mathlib.Omega.{arith}
-use lib.Dec.{ltb, leb, lit<, lit≤}
-use lib.ListN.{getD, replicate, getD-replicate}
+use lib.Dec.{ltb, lit<, lit≤}
+use lib.ListN.{getD-replicate}
 use borrow.Author.Tests.{ltb-false, leb-false}
 use Rattle.kinds.specs.Numbers.{REGULAR, DIRECTORY}
 use Rattle.kinds.specs.declared.object.Time.{Time}
 use Rattle.kinds.specs.declared.object.Object.{Object}
 use Rattle.kinds.specs.declared.call.SetNumber.{SetNumber}
 use Rattle.kinds.specs.declared.call.SetNumber.the-variants as SetNumber
-use Rattle.kinds.specs.declared.call.SetSize.{SetSize}
 use Rattle.kinds.specs.declared.call.SetSize.the-variants as SetSize
 use Rattle.kinds.specs.declared.call.SetTime.{SetTime}
 use Rattle.kinds.specs.declared.call.SetTime.the-variants as SetTime
 use Rattle.kinds.specs.declared.call.Settable.{Settable}
 use Rattle.spec.specs.Bytes.{part}
 use Rattle.spec.specs.Edits.{numberSet, timeSet, withAttributes, setAttributes, onlyCtime, mtimeAndCtime}
-use Rattle.spec.specs.Image.{Store, objects, blocks, blockStart, objectAt, putObject}
+use Rattle.spec.specs.Image.{Store, objects, blocks, blockStart, objectAt}
 use Rattle.spec.specs.Procedures.Attributes.{isGiven, sizeSet, numberOver, badTime, badAttributes, orServer, sizeTouches}
 use Rattle.spec.specs.Procedures.Names.{newObject}
 use Rattle.spec.proofs.GoodKept.{good-objects-set}
@@ -28,9 +27,9 @@ use Rattle.spec.proofs.RecordRange.{objectAt-fits}
 use Rattle.spec.proofs.Records.{FitsTime, FitsObject}
 use Rattle.spec.proofs.Structure.{SameStructure, set-structure}
 use Rattle.spec.proofs.Tests.{or-none}
-use Rattle.spec.proofs.Valid.{LiveObject, GoodObject, GoodObjects}
+use Rattle.spec.proofs.Valid.{LiveObject, GoodObjects}
 use Rattle.spec.proofs.WordRange.{below-same}
-use Rattle.spec.proofs.Writes.{ObjectWritten, object-written}
+use Rattle.spec.proofs.Writes.{object-written}
 
 -- ---- attributes whose numbers fit their places, as those of the code's type do
 abbrev pub FitsNumber : SetNumber → Type 0
