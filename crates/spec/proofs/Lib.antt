@@ -28,3 +28,4 @@ pub mod Words
 pub mod Writes
 pub mod Xdr
 pub mod Zeros
+pub mod Errors
