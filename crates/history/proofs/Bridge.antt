@@ -14,7 +14,7 @@ use Rattle.spec.specs.Image.{Store, objects, names, blocks, objectAt, objectFro
 use Rattle.spec.specs.Room.{isNamed, held, sizeOf, need, uses, above}
 use Rattle.spec.proofs.Count.{sum-zero, sum-at}
 use Rattle.spec.proofs.Records.{halves-count}
-use Rattle.spec.proofs.Valid.{Shaped, LiveObject, GoodObject, GoodObjects, FreeName, UsedName, GoodNameRecord, GoodNames, Valid, live-kind, live-size}
+use Rattle.spec.proofs.Valid.{Shaped, LiveObject, GoodObject, GoodObjects, FreeName, UsedName, GoodNameRecord, GoodNames, BlocksUsedOnce, Valid, live-kind, live-size}
 use Rattle.history.proofs.Sum.{holds, ind, ind-yes}
 use Rattle.history.proofs.Lists.{All, all-times, times-all, times-place}
 use Rattle.history.proofs.View.{View, Live, Used, Names, At, names?, at?, namings, entries, Path, named-by, entry-by}
@@ -128,14 +128,14 @@ module _ (s : Store) (K : Valid s) where
       }
 
 -- ---- and back
-pub valid-of : (s : Store) → Shaped s → GoodObjects s → GoodNames s → Tree (objects s) (names s) (view s) → Room (objects s) (blocks s) (heldBy s) → Valid s
-valid-of s w g n T M =
+pub valid-of : (s : Store) → Shaped s → GoodObjects s → GoodNames s → Tree (objects s) (names s) (view s) → BlocksUsedOnce s → Valid s
+valid-of s w g n T u =
     record {
       shaped = w;
       root = sym (kind-at s 0 (w .some-object)) ∙ T .flat .root;
       good-objects = g;
       good-names = n;
-      distinct = λ m l u.
+      distinct = λ m l x.
           let d = nameAt s m .directory in
           let t = nameAt s m .text in
           let here : At (view s) m d t = (omega (arith, ap length (text-at s m l), text-long s n m l), dir-at s m l, text-at s m l) in
@@ -152,7 +152,7 @@ valid-of s w g n T M =
             named = λ o l z h. omega (arith, namings-same s n o, T .flat .once o z (omega (arith, kind-at s o l)));
             few = λ o l z h. omega (arith, namings-same s n o, T .flat .once o z (omega (arith, kind-at s o l)));
           };
-      used-once = λ r l. omega (arith, uses-same s r, M .alone r);
+      used-once = u;
       leads = λ o l h.
           let x : Live (view s) o = omega (arith, kind-at s o l) in
           let r = T .leads o x in

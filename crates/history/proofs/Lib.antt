@@ -15,3 +15,5 @@ pub mod Seen
 pub mod Bridge
 pub mod Replies
 pub mod Asked
+pub mod Frames
+pub mod Inv
