@@ -131,54 +131,71 @@ module _ (s t : Store) (e : SameTree s t) where
   pub same-inv : (σ p q r : ℕ) (L : Ledger) → Inv σ p q r s L → Sound t → GoodObjects t → BlocksUsedOnce t → Inv σ p q r t L
   same-inv σ p q r L I h g u = seen-inv σ p q r s t L I (e .shape) (same-valid h g u (I .valid)) (h .bytes) same-objects same-names
 
-  pub same-grew : Grew (view s) (view t)
-  same-grew = grew-same (view s) (view t) same-objects
-
 -- what an edit owes: the invariant, with the ledger after it, and that the view has grown
 pub record Owes (σ p q r : ℕ) (s t : Store) (L : Ledger) : Type 0 where
   pub inv : Inv σ p q r t L
   pub grew : Grew (view s) (view t)
 
+-- where no object is removed: generations stay, and the types of live objects
+pub record Keeps (σ p q r : ℕ) (s t : Store) (L : Ledger) : Type 0 where
+  pub owes : Owes σ p q r s t L
+  pub kinds : (i : ℕ) → Live (view s) i → view t .kind i ≡ view s .kind i
+  pub gens : (i : ℕ) → view t .gen i ≡ view s .gen i
+
+pub owes-trans : (σ p q r : ℕ) (s t u : Store) (K L : Ledger) → Owes σ p q r s t K → Owes σ p q r t u L → Owes σ p q r s u L
+owes-trans σ p q r s t u K L a b = record { inv = b .inv; grew = grew-trans (view s) (view t) (view u) (a .grew) (b .grew) }
+
+pub keeps-trans : (σ p q r : ℕ) (s t u : Store) (K L : Ledger) → Keeps σ p q r s t K → Keeps σ p q r t u L → Keeps σ p q r s u L
+keeps-trans σ p q r s t u K L a b =
+    record {
+      owes = owes-trans σ p q r s t u K L (a .owes) (b .owes);
+      kinds = λ i l. b .kinds i (omega (arith, a .kinds i l)) ∙ a .kinds i l;
+      gens = λ i. b .gens i ∙ a .gens i;
+    }
+
+pub keeps-refl : (σ p q r : ℕ) (s : Store) (L : Ledger) → Inv σ p q r s L → Keeps σ p q r s s L
+keeps-refl σ p q r s L I =
+    record { owes = record { inv = I; grew = grew-same (view s) (view s) (λ i. (refl, refl)) }; kinds = λ i l. refl; gens = λ i. refl }
+
+pub same-keeps : (s t : Store) → SameTree s t → (σ p q r : ℕ) (L : Ledger) → Inv σ p q r s L → Sound t → GoodObjects t → BlocksUsedOnce t → Keeps σ p q r s t L
+same-keeps s t e σ p q r L I h g u =
+    record {
+      owes = record { inv = same-inv s t e σ p q r L I h g u; grew = grew-same (view s) (view t) (same-objects s t e) };
+      kinds = λ i l. same-objects s t e i .0;
+      gens = λ i. same-objects s t e i .1;
+    }
+
 -- ---- the first edit: attributes and times
 pub touch-inv : (σ p q r : ℕ) (s : Store) (L : Ledger) → Inv σ p q r s L → (clock : Time) (o : ℕ) (a : Settable) → Live (view s) o
-    → FitsTime clock → clock .nanoseconds < 1000000000 → FitsSettable a → Allowed a → Owes σ p q r s (setAttributes s clock o a) L
+    → FitsTime clock → clock .nanoseconds < 1000000000 → FitsSettable a → Allowed a → Keeps σ p q r s (setAttributes s clock o a) L
 touch-inv σ p q r s L I clock o a l c n f g =
     let h = sound σ p q r s L I in
     let k = live-in s o l in
     let t = setAttributes s clock o a in
     let e = set-attributes-structure s clock o a h k c f in
-    record {
-      inv = same-inv s t (e .tree) σ p q r L I (set-attributes s clock o a h k c f .sound)
-          (set-attributes-good s clock o a h k c f n g (live-record σ p q r s L I o l) (I .valid .good-objects))
-          (structure-blocks s t e (I .valid .used-once));
-      grew = same-grew s t (e .tree);
-    }
+    same-keeps s t (e .tree) σ p q r L I (set-attributes s clock o a h k c f .sound)
+    (set-attributes-good s clock o a h k c f n g (live-record σ p q r s L I o l) (I .valid .good-objects))
+    (structure-blocks s t e (I .valid .used-once))
 
 -- ---- no record is written: file data
-pub kept-inv : (σ p q r : ℕ) (s t : Store) (L : Ledger) → Inv σ p q r s L → RecordsKept s t → Owes σ p q r s t L
+pub kept-inv : (σ p q r : ℕ) (s t : Store) (L : Ledger) → Inv σ p q r s L → RecordsKept s t → Keeps σ p q r s t L
 kept-inv σ p q r s t L I k =
     let e = kept-structure s t k in
-    record {
-      inv = same-inv s t (e .tree) σ p q r L I (k .sound) (good-objects-kept s t (k .shape) (k .each-object) (I .valid .good-objects))
-          (structure-blocks s t e (I .valid .used-once));
-      grew = same-grew s t (e .tree);
-    }
+    same-keeps s t (e .tree) σ p q r L I (k .sound) (good-objects-kept s t (k .shape) (k .each-object) (I .valid .good-objects))
+    (structure-blocks s t e (I .valid .used-once))
 
 -- ---- the second edit: a file's size
 pub resize-inv : (σ p q r : ℕ) (s : Store) (L : Ledger) → Inv σ p q r s L → (o size : ℕ) → view s .kind o ≡ 1 → size ≤ 8192
-    → need size - need (sizeOf s o) ≤ freeBlockCount s → Owes σ p q r s (resize s o size) L
+    → need size - need (sizeOf s o) ≤ freeBlockCount s → Keeps σ p q r s (resize s o size) L
 resize-inv σ p q r s L I o size k small room =
     let l = live-in s o (omega arith) in
     let h = sound σ p q r s L I in
     let v = live-record σ p q r s L I o (omega arith) in
     let t = resize s o size in
     let e = resize-tree s o size h l v small room in
-    record {
-      inv = same-inv s t e σ p q r L I (resize-object s o size h l v small room .sound)
-          (resize-objects s o size h l v small room (sym (kind-at s o l) ∙ k) (I .valid .good-objects))
-          (resize-blocks s o size h l v small room (I .valid .used-once));
-      grew = same-grew s t e;
-    }
+    same-keeps s t e σ p q r L I (resize-object s o size h l v small room .sound)
+    (resize-objects s o size h l v small room (sym (kind-at s o l) ∙ k) (I .valid .good-objects))
+    (resize-blocks s o size h l v small room (I .valid .used-once))
 
 -- ---- the third edit: an object and its name
 module _ (σ p q r : ℕ) (s : Store) (L : Ledger) (I : Inv σ p q r s L) (o n : ℕ) (v : Object) (d : ℕ) (text : List ℕ)
@@ -252,6 +269,15 @@ module _ (σ p q r : ℕ) (s : Store) (L : Ledger) (I : Inv σ p q r s L) (o n :
           older = λ i. by-cases (ℕ-discrete i o) (λ x. rw x (omega (arith, created-of .obj .gen))) (λ x. omega (arith, created-of .obj .other i x .1));
           stays = λ i l x. by-cases (ℕ-discrete i o) (λ y. absurd (omega (arith, ap (view s .kind) y, created-of .was-free))) (λ y. created-of .obj .other i y .0);
         };
+      }
+
+  pub create-keeps : Keeps σ p q r s (createObject s o n v d text)
+      (record { book = record { handle = handleIn σ (view s) o; kind = v .kind; standing = under (handleIn σ (view s) d) text } ∷ L .book; given = handleIn σ (view s) o ∷ L .given })
+  create-keeps =
+      record {
+        owes = create-inv;
+        kinds = λ i l. by-cases (ℕ-discrete i o) (λ y. absurd (omega (arith, ap (view s .kind) y, created-of .was-free))) (λ y. created-of .obj .other i y .0);
+        gens = λ i. by-cases (ℕ-discrete i o) (λ y. rw y (created-of .obj .gen)) (λ y. created-of .obj .other i y .1);
       }
 
 -- ---- the fourth edit: an object and its name are removed
@@ -399,3 +425,7 @@ module _ (σ p q r : ℕ) (s : Store) (L : Ledger) (I : Inv σ p q r s L) (n d :
             };
         grew = grew-same (view s) (view m) (λ i. (moved-of .kinds i, moved-of .gens i));
       }
+
+  pub move-keeps : Keeps σ p q r s (moveName s n d text)
+      (record { book = moveLines (handleIn σ (view s) (view s .dir n)) (view s .text n) (handleIn σ (view s) d) text (L .book); given = L .given })
+  move-keeps = record { owes = move-inv; kinds = λ i l. moved-of .kinds i; gens = λ i. moved-of .gens i }

@@ -17,3 +17,5 @@ pub mod Replies
 pub mod Asked
 pub mod Frames
 pub mod Inv
+pub mod Checks
+pub mod Ranges

@@ -18,28 +18,10 @@ use Rattle.spec.specs.Replies.{resultBytes, fattr3, postOp, preOp, wccData, wcc
 use Rattle.spec.specs.Results.{Result, null, dead, failed, changed, renamed, gotAttributes, found, granted, gotBytes, wrote, created, listed, gotRoom, gotLimits, gotNaming, committed}
 use Rattle.spec.specs.Rpc.{accepted}
 use Rattle.spec.proofs.Bytes.{part-left, part-right, part-whole, be-add}
+use Rattle.spec.proofs.Errors.{statusOf}
 use Rattle.spec.proofs.Words.{words-append, words-length}
 use Rattle.history.specs.Book.{handleBytes, statusIn, isOk, handleAt}
 use Rattle.history.proofs.Handles.{word-in}
-
--- the status of a result
-abbrev pub statusOf : Result → ℕ
-statusOf null = 0
-statusOf (dead status) = status
-statusOf (failed status a) = status
-statusOf (changed status c) = status
-statusOf (renamed status c d) = status
-statusOf (gotAttributes a) = 0
-statusOf (found h a d) = 0
-statusOf (granted a bits) = 0
-statusOf (gotBytes a eof bytes) = 0
-statusOf (wrote c count verifier) = 0
-statusOf (created h a d) = 0
-statusOf (listed a es eof) = 0
-statusOf (gotRoom a total free objects available) = 0
-statusOf (gotLimits a) = 0
-statusOf (gotNaming a) = 0
-statusOf (committed c verifier) = 0
 
 -- an accepted reply whose results begin with the words ws
 abbrev pub Begins : List ℕ → ℕ → List ℕ → List ℕ → Type 0
@@ -129,7 +111,7 @@ only-words p r ws e = record { ws = ws; rest = []; is = e ∙ sym (append-nil (w
 
 -- every result but NULL's begins with its status
 pub starts : (p : ℕ) (r : Result) → r ≢ null → Starts p r
-unfolding resultBytes
+unfolding resultBytes statusOf
 starts p null n = absurd (n refl)
 starts p (dead status) n = only-words p (dead status) (replicate (getD zeroWords p 0) 0) refl
 starts p (failed status a) n = only-words p (failed status a) (postOp a) refl
