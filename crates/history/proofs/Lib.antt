@@ -19,3 +19,4 @@ pub mod Frames
 pub mod Inv
 pub mod Checks
 pub mod Ranges
+pub mod Sizes
