@@ -20,3 +20,6 @@ pub mod Inv
 pub mod Checks
 pub mod Ranges
 pub mod Sizes
+pub mod Noted
+pub mod Making
+pub mod Create
