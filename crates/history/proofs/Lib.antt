@@ -23,3 +23,4 @@ pub mod Sizes
 pub mod Noted
 pub mod Making
 pub mod Create
+pub mod Removing
