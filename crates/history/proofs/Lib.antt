@@ -24,3 +24,4 @@ pub mod Noted
 pub mod Making
 pub mod Create
 pub mod Removing
+pub mod Next
