@@ -25,3 +25,4 @@ pub mod Making
 pub mod Create
 pub mod Removing
 pub mod Next
+pub mod Lines
