@@ -26,3 +26,4 @@ pub mod Create
 pub mod Removing
 pub mod Next
 pub mod Lines
+pub mod Counts

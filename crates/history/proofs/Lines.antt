@@ -32,7 +32,7 @@ use Rattle.history.proofs.Making.{handle-seen}
 use Rattle.history.proofs.Sizes.{seen-live}
 
 -- ---- sums over lists
-pub total : {A : Type 0} → (A → ℕ) → List A → ℕ
+unfoldable pub total : {A : Type 0} → (A → ℕ) → List A → ℕ
 total f [] = 0
 total f (x ∷ xs) = f x + total f xs
 
@@ -52,10 +52,10 @@ total-ext f g [] h = refl
 total-ext f g (x ∷ xs) h = omega (arith, total-ext f g xs (h .1), h .0)
 
 -- a term with a factor of 0 or 1
-factor-no : (k x : ℕ) → k ≡ 0 → k * x ≡ 0
+pub factor-no : (k x : ℕ) → k ≡ 0 → k * x ≡ 0
 factor-no k x e = ap (λ (j : ℕ). j * x) e ∙ zero-mul x
 
-factor-yes : (k x : ℕ) → k ≡ 1 → k * x ≡ x
+pub factor-yes : (k x : ℕ) → k ≡ 1 → k * x ≡ x
 factor-yes k x e = ap (λ (j : ℕ). j * x) e ∙ one-mul x
 
 sum-single : (n x : ℕ) (f : ℕ → ℕ) → x < n → sum n (λ i. bit (eqb x i) * f i) ≡ f x
