@@ -27,3 +27,5 @@ pub mod Removing
 pub mod Next
 pub mod Lines
 pub mod Counts
+pub mod Paths
+pub mod Later

@@ -58,7 +58,7 @@ factor-no k x e = ap (λ (j : ℕ). j * x) e ∙ zero-mul x
 pub factor-yes : (k x : ℕ) → k ≡ 1 → k * x ≡ x
 factor-yes k x e = ap (λ (j : ℕ). j * x) e ∙ one-mul x
 
-sum-single : (n x : ℕ) (f : ℕ → ℕ) → x < n → sum n (λ i. bit (eqb x i) * f i) ≡ f x
+pub sum-single : (n x : ℕ) (f : ℕ → ℕ) → x < n → sum n (λ i. bit (eqb x i) * f i) ≡ f x
 unfolding sum
 sum-single zero x f l = absurd (not-suc-le-zero l)
 sum-single (suc n) x f l = by-cases (ℕ-discrete x n)
