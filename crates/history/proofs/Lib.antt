@@ -29,3 +29,4 @@ pub mod Lines
 pub mod Counts
 pub mod Paths
 pub mod Later
+pub mod Answers
