@@ -104,6 +104,7 @@ module _ (s : Store) (x : Request) where
   pub record Idle : Type 0 where
     pub store : outcome s x .store ≡ s
     pub ledger : (L : Ledger) → note (x .call) (replyTo s x) L ≡ L
+    pub unasked : isOk (replyTo s x) ≡ true → asked (x .call) ≡ none
 
   refused-idle : (n : ℕ) → outcome s x ≡ refuse n (x .space) s → Idle
   unfolding replyTo note isOk
@@ -111,6 +112,7 @@ module _ (s : Store) (x : Request) where
       record {
         store = ap (λ (o : Outcome). o .store) e;
         ledger = λ L. ap (λ (o : Outcome). note (x .call) (take (o .length) (o .space)) L) e;
+        unasked = λ t. true-false (sym t ∙ ap (λ (o : Outcome). isOk (take (o .length) (o .space))) e);
       }
 
   unasked-idle : asked (x .call) ≡ none → outcome s x ≡ respond s (x .context) (x .call) (x .space) (header (x .call) 0) → Idle
@@ -119,6 +121,7 @@ module _ (s : Store) (x : Request) where
       record {
         store = ap (λ (o : Outcome). o .store) e ∙ unanswered (header (x .call) 0) n;
         ledger = λ L. by-bool (isOk (replyTo s x)) (λ t. rw (t, n)) (λ t. rw t);
+        unasked = λ t. n;
       }
 
   -- what becomes of a request

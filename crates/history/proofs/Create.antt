@@ -33,17 +33,18 @@ use Rattle.spec.proofs.RecordRange.{below-part}
 use Rattle.spec.proofs.SetAttributes.{FitsSettable, Allowed, allowed}
 use Rattle.spec.proofs.Tests.{or-none}
 use Rattle.spec.proofs.Valid.{GoodName}
-use Rattle.history.specs.Book.{Ledger, handleBytes, madeHandle, add, noted, note}
+use Rattle.history.specs.Book.{Ledger, handleBytes, madeHandle, isOk, add, noted, note}
 use Rattle.history.proofs.View.{View, Live, Used, At, entries}
 use Rattle.history.proofs.Agree.{handleIn}
+use Rattle.history.proofs.Issue.{Current}
 use Rattle.history.proofs.Seen.{view, kind-at, gen-at, child-at, live-in}
 use Rattle.history.proofs.Inv.{Inv, Owes, Keeps, keeps-refl, tree}
 use Rattle.history.proofs.Checks.{Reached, reached-directory, passed-bind, passed-then, passed-absent, found-name, no-name, Spare, room-passed, new-passed}
 use Rattle.history.proofs.Replies.{made-is}
 use Rattle.history.proofs.Ranges.{FitsHow}
-use Rattle.history.proofs.Noted.{Answer, Fails, changing-fails, note-failed, note-ok}
+use Rattle.history.proofs.Noted.{Answer, Fails, changing-fails, not-ok, note-failed, note-ok}
 use Rattle.history.proofs.Sizes.{Clocked}
-use Rattle.history.proofs.Making.{handle-seen, withLine, new-keeps, new-handle, directory-kind, directory-handle, line-added, line-there, existing-keeps, sure-create, sure-mkdir}
+use Rattle.history.proofs.Making.{handle-seen, withLine, new-keeps, new-handle, new-alive, directory-kind, directory-handle, line-added, line-there, existing-keeps, sure-create, sure-mkdir}
 
 -- what CREATE's checks found
 pub data Found (s : Store) (d : ℕ) (text : List ℕ) (a : Settable) : Target → Type 0 where
@@ -86,6 +87,11 @@ target-found s d text b a t e =
 created-some : (h : List ℕ) (a : _) (d : _) → created h a d ≢ null
 created-some h a d e = let z : _≡_ {A = ℕ} 0 1 = cc in omega arith
 
+-- what CREATE and MKDIR owe: the invariant, and that the handle in an OK reply is a live object's
+pub record Made (σ p q r : ℕ) (s t : Store) (L : Ledger) (reply : List ℕ) : Type 0 where
+  pub owes : Owes σ p q r s t L
+  pub shown : isOk reply ≡ true → Current σ (view t) (madeHandle reply)
+
 module _ (σ p q r : ℕ) (s : Store) (L : Ledger) (I : Inv σ p q r s L) (c : Context) (clock : Clocked c) (call reply : List ℕ) (bytes : Below 256 call) where
   cut-below : (x : _) → Below 256 (cut call x)
   cut-below x = below-part 256 call (x .start) (x .length) (lit< tt) bytes
@@ -95,6 +101,19 @@ module _ (σ p q r : ℕ) (s : Store) (L : Ledger) (I : Inv σ p q r s L) (c : C
   unfolding handleOf
   made-handle a t o d A =
       ap madeHandle (A .is) ∙ made-is (A .xid) (A .procedure) (stamp t) o (objectAt t o .generation) (attributes t o) (change s t d)
+
+  -- it is a live object's
+  shown-handle : (a : Arguments) (t : Store) (M : Ledger) → Inv σ p q r t M → (o d : ℕ) → Live (view t) o
+      → Answer call reply a (created (handleOf t o) (attributes t o) (change s t d)) → Current σ (view t) (madeHandle reply)
+  shown-handle a t M J o d l A = (o, l, made-handle a t o d A ∙ handle-seen σ p q r t M J o (live-in t o l))
+
+  -- a refusal
+  failed-made : (a : Arguments) (h : List ℕ) (n : ℕ) → 0 < n → n < 4294967296 → Answer call reply a (failChanging s h n) → Made σ p q r s s (note call reply L) reply
+  failed-made a h n l m A =
+      record {
+        owes = subst (Owes σ p q r s s) (sym (note-failed call reply a _ A n (changing-fails s h n) l m L)) (keeps-refl σ p q r s L I .owes);
+        shown = λ t. true-false (sym t ∙ not-ok call reply a _ A n (changing-fails s h n) l m);
+      }
 
   -- ---- CREATE
   module _ (place : NameIn) (manner : How) (fits : FitsHow manner) where
@@ -112,7 +131,7 @@ module _ (σ p q r : ℕ) (s : Store) (L : Ledger) (I : Inv σ p q r s L) (c : C
         ∙ ap (λ (x : List ℕ). add x 1 h text L) (made-handle (Call.Create place manner) t o d A)
 
     made : (d : ℕ) (a : Settable) {t : Target} → reachDirectory s h ≡ passed d → FitsSettable a → GoodName text → Allowed a → Found s d text a t
-        → Answer call reply (Call.Create place manner) (createEdit s c d text a t .result) → Owes σ p q r s (createEdit s c d text a t .store) (note call reply L)
+        → Answer call reply (Call.Create place manner) (createEdit s c d text a t .result) → Made σ p q r s (createEdit s c d text a t .store) (note call reply L) reply
     unfolding h text isRegular
     made d a e f good ok (fresh o n z room enough) A =
         let (w, dk) = reached-directory s h d e in
@@ -123,7 +142,11 @@ module _ (σ p q r : ℕ) (s : Store) (L : Ledger) (I : Inv σ p q r s L) (c : C
         let book : withLine σ s L o 1 d text ≡ note call reply L =
             sym (note-created (newEdit s c 1 o n d text a) o d A ∙ ap (λ (x : List ℕ). add x 1 h text L) same
             ∙ line-added σ p q r s L I c clock h text d w dk (cut-below (place .directory)) o 1 gap) in
-        subst (Owes σ p q r s (newEdit s c 1 o n d text a)) book (step .owes)
+        let alive = new-alive σ p q r s L I c clock 1 o n d text a (_⊎_.inl refl) room f ok good (cut-below (place .name)) k gap (λ _. refl) enough in
+        record {
+          owes = subst (Owes σ p q r s (newEdit s c 1 o n d text a)) book (step .owes);
+          shown = λ _. shown-handle (Call.Create place manner) (newEdit s c 1 o n d text a) _ (step .owes .inv) o d alive A;
+        }
     made d a e f good ok (there m z reg room) A =
         let (w, dk) = reached-directory s h d e in
         let o = nameAt s m .child in
@@ -134,25 +157,28 @@ module _ (σ p q r : ℕ) (s : Store) (L : Ledger) (I : Inv σ p q r s L) (c : C
         let step = existing-keeps σ p q r s L I c clock o a k (ok .size) room in
         let book : L ≡ note call reply L =
             sym (note-created (existingEdit s c o (a .size)) o d A ∙ line-there σ p q r s L I c clock h text d w dk (cut-below (place .directory)) _ 1 m at) in
-        subst (Owes σ p q r s (existingEdit s c o (a .size))) book (step .owes)
+        record {
+          owes = subst (Owes σ p q r s (existingEdit s c o (a .size))) book (step .owes);
+          shown = λ _. shown-handle (Call.Create place manner) (existingEdit s c o (a .size)) L (step .owes .inv) o d (omega (arith, step .kinds o l)) A;
+        }
 
-    pub create-owes : Answer call reply (Call.Create place manner) (create s c (cut call (place .directory)) (cut call (place .name)) manner .result)
-        → Owes σ p q r s (create s c (cut call (place .directory)) (cut call (place .name)) manner .store) (note call reply L)
+    pub create-made : Answer call reply (Call.Create place manner) (create s c (cut call (place .directory)) (cut call (place .name)) manner .result)
+        → Made σ p q r s (create s c (cut call (place .directory)) (cut call (place .name)) manner .store) (note call reply L) reply
     unfolding create h text checkCreate
-    create-owes A = go (checkCreate s h text manner) refl A
+    create-made A = go (checkCreate s h text manner) refl A
       where
         by-manner : (d : ℕ) (t : Target) (m : How) → FitsHow m → m ≡ manner → reachDirectory s h ≡ passed d → checkHow s d text m ≡ passed t
-            → Answer call reply (Call.Create place manner) (createEdit s c d text (settableOf m) t .result) → Owes σ p q r s (createEdit s c d text (settableOf m) t .store) (note call reply L)
+            → Answer call reply (Call.Create place manner) (createEdit s c d text (settableOf m) t .result) → Made σ p q r s (createEdit s c d text (settableOf m) t .store) (note call reply L) reply
         by-manner d t (How.Unchecked a) f em e k A = let (g, ok, x) = target-found s d text true a t k in made d a e f g ok x A
         by-manner d t (How.Guarded a) f em e k A = let (g, ok, x) = target-found s d text false a t k in made d a e f g ok x A
         by-manner d t (How.Exclusive verifier) f em e k A = refused-passed 10004 t k
 
         go : (x : Checked (ℕ × Target)) → checkCreate s h text manner ≡ x
             → Answer call reply (Call.Create place manner) (settle s (failChanging s h) x (λ p. createEdit s c (p .0) text (settableOf manner) (p .1)) .result)
-            → Owes σ p q r s (settle s (failChanging s h) x (λ p. createEdit s c (p .0) text (settableOf manner) (p .1)) .store) (note call reply L)
+            → Made σ p q r s (settle s (failChanging s h) x (λ p. createEdit s c (p .0) text (settableOf manner) (p .1)) .store) (note call reply L) reply
         go (refused n) e A =
             let b = sure-create s h text manner n e in
-            subst (Owes σ p q r s s) (sym (note-failed call reply (Call.Create place manner) _ A n (changing-fails s h n) (b .0) (b .1) L)) (keeps-refl σ p q r s L I .owes)
+            failed-made (Call.Create place manner) h n (b .0) (b .1) A
         go (passed x) e A =
             let (d, e₁, f₁) = passed-bind (reachDirectory s h) _ x e in
             let (t, e₂, f₂) = passed-bind (checkHow s d text manner) _ x f₁ in
@@ -174,11 +200,11 @@ module _ (σ p q r : ℕ) (s : Store) (L : Ledger) (I : Inv σ p q r s L) (c : C
     no-size SetSize.Keep e = refl
     no-size (SetSize.To n) e = true-false e
 
-    mkdir-made : (x : ℕ × ℕ × ℕ) → checkMkdir s g name a ≡ passed x
+    mkdir-new : (x : ℕ × ℕ × ℕ) → checkMkdir s g name a ≡ passed x
         → Answer call reply (Call.Mkdir place a) (createdIn s (newEdit s c 2 (x .1) (x .2) (x .0) name a) (x .0) (x .1) .result)
-        → Owes σ p q r s (newEdit s c 2 (x .1) (x .2) (x .0) name a) (note call reply L)
+        → Made σ p q r s (newEdit s c 2 (x .1) (x .2) (x .0) name a) (note call reply L) reply
     unfolding checkMkdir g name noted statusOf
-    mkdir-made x e A =
+    mkdir-new x e A =
         let (d, e₁, f₁) = passed-bind (reachDirectory s g) _ x e in
         let (u, e₂, f₂) = passed-bind (checkNew s d name (badAttributes a || isGiven (a .size))) _ x f₁ in
         let (y, e₃, f₃) = passed-bind (absent 17 (findName s d name)) _ x f₂ in
@@ -188,7 +214,7 @@ module _ (σ p q r : ℕ) (s : Store) (L : Ledger) (I : Inv σ p q r s L) (c : C
       where
         go : (d : ℕ) (u y : Unit {0}) (w : ℕ × ℕ) → reachDirectory s g ≡ passed d → checkNew s d name (badAttributes a || isGiven (a .size)) ≡ passed u
             → absent 17 (findName s d name) ≡ passed y → roomForNew s 0 ≡ passed w → (d, w .0, w .1) ≡ x
-            → Owes σ p q r s (newEdit s c 2 (x .1) (x .2) (x .0) name a) (note call reply L)
+            → Made σ p q r s (newEdit s c 2 (x .1) (x .2) (x .0) name a) (note call reply L) reply
         go d u y w e₁ e₂ e₃ e₄ is =
             let (good, bad) = new-passed s d name (badAttributes a || isGiven (a .size)) u e₂ in
             let no = or-none (badAttributes a) (isGiven (a .size)) bad in
@@ -206,18 +232,22 @@ module _ (σ p q r : ℕ) (s : Store) (L : Ledger) (I : Inv σ p q r s L) (c : C
             let made = note-ok call reply (Call.Mkdir place a) _ B (created-some _ _ _) refl L
                 ∙ ap (λ (v : List ℕ). add v 2 g name L) (made-handle (Call.Mkdir place a) (newEdit s c 2 (w .0) (w .1) d name a) (w .0) d B ∙ same)
                 ∙ line-added σ p q r s L I c clock g name d t dk (cut-below (place .directory)) (w .0) 2 gap in
-            subst (λ (v : ℕ × ℕ × ℕ). Owes σ p q r s (newEdit s c 2 (v .1) (v .2) (v .0) name a) (note call reply L)) is
-            (subst (Owes σ p q r s (newEdit s c 2 (w .0) (w .1) d name a)) (sym made) (step .owes))
+            let alive = new-alive σ p q r s L I c clock 2 (w .0) (w .1) d name a (_⊎_.inr refl) room fits (allowed a (no .0)) good (cut-below (place .name)) k gap file enough in
+            subst (λ (v : ℕ × ℕ × ℕ). Made σ p q r s (newEdit s c 2 (v .1) (v .2) (v .0) name a) (note call reply L) reply) is
+            (record {
+              owes = subst (Owes σ p q r s (newEdit s c 2 (w .0) (w .1) d name a)) (sym made) (step .owes);
+              shown = λ _. shown-handle (Call.Mkdir place a) (newEdit s c 2 (w .0) (w .1) d name a) _ (step .owes .inv) (w .0) d alive B;
+            })
 
-    pub mkdir-owes : Answer call reply (Call.Mkdir place a) (mkdir s c (cut call (place .directory)) (cut call (place .name)) a .result)
-        → Owes σ p q r s (mkdir s c (cut call (place .directory)) (cut call (place .name)) a .store) (note call reply L)
+    pub mkdir-made : Answer call reply (Call.Mkdir place a) (mkdir s c (cut call (place .directory)) (cut call (place .name)) a .result)
+        → Made σ p q r s (mkdir s c (cut call (place .directory)) (cut call (place .name)) a .store) (note call reply L) reply
     unfolding mkdir g name
-    mkdir-owes A = go (checkMkdir s g name a) refl A
+    mkdir-made A = go (checkMkdir s g name a) refl A
       where
         go : (x : Checked (ℕ × ℕ × ℕ)) → checkMkdir s g name a ≡ x
             → Answer call reply (Call.Mkdir place a) (settle s (failChanging s g) x (λ p. createdIn s (newEdit s c 2 (p .1) (p .2) (p .0) name a) (p .0) (p .1)) .result)
-            → Owes σ p q r s (settle s (failChanging s g) x (λ p. createdIn s (newEdit s c 2 (p .1) (p .2) (p .0) name a) (p .0) (p .1)) .store) (note call reply L)
+            → Made σ p q r s (settle s (failChanging s g) x (λ p. createdIn s (newEdit s c 2 (p .1) (p .2) (p .0) name a) (p .0) (p .1)) .store) (note call reply L) reply
         go (refused n) e A =
             let b = sure-mkdir s g name a n e in
-            subst (Owes σ p q r s s) (sym (note-failed call reply (Call.Mkdir place a) _ A n (changing-fails s g n) (b .0) (b .1) L)) (keeps-refl σ p q r s L I .owes)
-        go (passed x) e A = mkdir-made x e A
+            failed-made (Call.Mkdir place a) g n (b .0) (b .1) A
+        go (passed x) e A = mkdir-new x e A

@@ -30,3 +30,4 @@ pub mod Counts
 pub mod Paths
 pub mod Later
 pub mod Answers
+pub mod Carried

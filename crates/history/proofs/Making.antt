@@ -161,6 +161,13 @@ module _ (σ p q r : ℕ) (s : Store) (L : Ledger) (I : Inv σ p q r s L) (c : C
         handle-seen σ p q r u (withLine σ s L o kind d text) J o (omega (arith, J .objs, I .objs, room .object))
         ∙ ap (handleBytes σ o) (new-keeps .gens o)
 
+    pub new-alive : Live (view (newEdit s c kind o n d text a)) o
+    new-alive = go which
+      where
+        go : (kind ≡ 1) ⊎ (kind ≡ 2) → Live (view (newEdit s c kind o n d text a)) o
+        go (_⊎_.inl e) = let x = second .kinds o (omega (arith, made-kind)) in omega (arith, made-kind, third .kinds o (omega (arith, made-kind)))
+        go (_⊎_.inr e) = let x = second .kinds o (omega (arith, made-kind)) in omega (arith, made-kind, third .kinds o (omega (arith, made-kind)))
+
   -- ---- the line of a new object, where the store has no such name, and none where it has one
   module _ (h text : List ℕ) (d : ℕ) (w : Reached s h d) (dk : objectAt s d .kind ≡ 2) (hb : Below 256 h) where
     pub directory-kind : view s .kind d ≡ 2

@@ -41,7 +41,7 @@ use Rattle.history.proofs.Asked.{Acted, acted, Idle, served}
 use Rattle.history.proofs.Ranges.{FitsArguments, asked-fits}
 use Rattle.history.proofs.Noted.{Answer, note-quiet}
 use Rattle.history.proofs.Sizes.{Clocked, setattr-keeps, write-keeps}
-use Rattle.history.proofs.Create.{create-owes, mkdir-owes}
+use Rattle.history.proofs.Create.{Made, create-made, mkdir-made}
 use Rattle.history.proofs.Removing.{remove-owes, rmdir-owes, rename-owes}
 
 module _ (σ p q r : ℕ) (s : Store) (L : Ledger) (I : Inv σ p q r s L) where
@@ -68,8 +68,8 @@ module _ (σ p q r : ℕ) (s : Store) (L : Ledger) (I : Inv σ p q r s L) where
     act-owes (Call.Read h o n) f A = quiet _ _ (read-store s (cut call h) o n) (note-quiet call reply (Call.Read h o n) L (A .reads) refl)
     act-owes (Call.Write h o n b) f A =
         subst (Owes σ p q r s _) (sym (note-quiet call reply (Call.Write h o n b) L (A .reads) refl)) (write-keeps σ p q r s L I c clock (cut call h) o n (cut call b) (cut-below b) .owes)
-    act-owes (Call.Create x m) f A = create-owes σ p q r s L I c clock call reply bytes x m f A
-    act-owes (Call.Mkdir x a) f A = mkdir-owes σ p q r s L I c clock call reply bytes x a f A
+    act-owes (Call.Create x m) f A = create-made σ p q r s L I c clock call reply bytes x m f A .owes
+    act-owes (Call.Mkdir x a) f A = mkdir-made σ p q r s L I c clock call reply bytes x a f A .owes
     act-owes (Call.Remove x) f A = remove-owes σ p q r s L I c clock call reply bytes x A
     act-owes (Call.Rmdir x) f A = rmdir-owes σ p q r s L I c clock call reply bytes x A
     act-owes (Call.Rename x y) f A = rename-owes σ p q r s L I c clock call reply bytes x y A

@@ -72,12 +72,14 @@ module _ (call reply : List ℕ) (a : Arguments) (r : Result) (A : Answer call r
   ok-of : r ≢ null → statusOf r < 4294967296 → isOk reply ≡ eqb (statusOf r) 0
   ok-of n l = ap isOk (A .is) ∙ answered-ok (A .xid) (A .procedure) r n l
 
+  pub not-ok : (n : ℕ) → Fails r n → 0 < n → n < 4294967296 → isOk reply ≡ false
+  not-ok n f l h = ok-of (f .some) (omega (arith, f .status)) ∙ ne-eqb (statusOf r) 0 (λ e. omega (arith, f .status))
+
   -- a call that is not answered OK leaves the book
   pub note-failed : (n : ℕ) → Fails r n → 0 < n → n < 4294967296 → (L : Ledger) → note call reply L ≡ L
   unfolding note
   note-failed n f l h L =
-      ap (λ (t : Bool). cond t (noted call reply L (asked call)) L)
-      (ok-of (f .some) (omega (arith, f .status)) ∙ ne-eqb (statusOf r) 0 (λ e. omega (arith, f .status)))
+      ap (λ (t : Bool). cond t (noted call reply L (asked call)) L) (not-ok n f l h)
 
   pub note-ok : r ≢ null → statusOf r ≡ 0 → (L : Ledger) → note call reply L ≡ noted call reply L (some a)
   unfolding note
