@@ -31,3 +31,4 @@ pub mod Paths
 pub mod Later
 pub mod Answers
 pub mod Carried
+pub mod Nospc
