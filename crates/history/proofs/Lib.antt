@@ -32,3 +32,4 @@ pub mod Later
 pub mod Answers
 pub mod Carried
 pub mod Nospc
+pub mod Demand

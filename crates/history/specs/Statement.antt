@@ -9,6 +9,7 @@ use mathlib.Core.Option.{Option, some, none}
 use lib.Dec.{eqb}
 use lib.ListN.{length, take, getD}
 use Rattle.kinds.specs.Numbers.{OK, NOSPC, STALE, REGULAR}
+use Rattle.kinds.specs.declared.object.Time.{Time}
 use Rattle.kinds.specs.declared.call.Part.{Part}
 use Rattle.kinds.specs.declared.call.NameIn.{NameIn}
 use Rattle.kinds.specs.declared.call.SetSize.{SetSize}
@@ -29,7 +30,8 @@ use Rattle.spec.specs.Procedures.{cut}
 use Rattle.spec.specs.Procedures.Attributes.{isGiven, sizeSet, badAttributes, differs}
 use Rattle.spec.specs.Procedures.Data.{mostBytes, reachRegular, grown}
 use Rattle.spec.specs.Procedures.Names.{checkNew}
-use Rattle.history.specs.Book.{Standing, asRoot, under, Line, Book, Ledger, handleBytes, asked, statusIn, isOk, foundHandle, madeHandle}
+use Rattle.spec.specs.Serve.{format}
+use Rattle.history.specs.Book.{Standing, asRoot, under, Line, Book, Ledger, handleBytes, firstLedger, asked, statusIn, isOk, foundHandle, madeHandle}
 use Rattle.history.specs.Run.{Request, Lent, AllLent, replyTo, State, step, run}
 
 -- ---- the words of the statement
@@ -247,3 +249,14 @@ pub record Kept (σ p q r : ℕ) (w : State) : Type 0 where
       → checkNew (w .store) d (cut (x .call) (target .name)) (badAttributes a || isGiven (a .size)) ≡ passed tt
       → findName (w .store) d (cut (x .call) (target .name)) ≡ none
       → AnswersRoom (replyTo (w .store) x) (RoomMissing σ p q r (w .store) (w .ledger) 0)
+
+-- the state that a format leaves: its store, and the book with the root's line
+abbrev pub formattedState : Store → ℕ → ℕ → ℕ → ℕ → Time → State
+formattedState buffer σ p q r clock = record { store = format buffer σ p q r clock .store; ledger = firstLedger σ }
+
+-- "One claim about the whole list, not one for each call.": any list of requests, refused ones included, from any successful format. The stamp
+-- and the seconds are numbers of 32 bits, as the entry's types give them
+abbrev pub Demand3 : Type 0
+Demand3 =
+    (buffer : Store) (σ p q r : ℕ) (clock : Time) → σ < 4294967296 → clock .seconds < 4294967296 → format buffer σ p q r clock .number ≡ 0
+    → (xs : List Request) → AllLent xs → Kept σ p q r (run (formattedState buffer σ p q r clock) xs)
