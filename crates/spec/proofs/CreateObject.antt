@@ -13,7 +13,7 @@ use Rattle.spec.specs.Count.{times}
 use Rattle.spec.specs.Edits.{withGeneration, createObject}
 use Rattle.spec.specs.Image.{Store, objects, names, blocks, blockStart, objectAt, putObject, Name, nameAt}
 use Rattle.spec.specs.Room.{sizeOf, held, uses}
-use Rattle.spec.proofs.GoodKept.{good-objects-both, record-kept, used-set, uses-object-set}
+use Rattle.spec.proofs.GoodKept.{good-objects-set, record-kept, used-set, uses-object-set}
 use Rattle.spec.proofs.Kept.{Sound, BothSet, put-object, put-name, object-name}
 use Rattle.spec.proofs.Range.{Below}
 use Rattle.spec.proofs.RecordRange.{objectAt-fits}
@@ -82,7 +82,7 @@ module _ (s : Store) (o n : ℕ) (v : Object) (d : ℕ) (text : List ℕ) (h : S
   -- a live object of a generation that may be given out
   pub create-object-objects : LiveObject (blocks s) v → objectAt s o .generation < 4294967295 → GoodObjects s → GoodObjects (createObject s o n v d text)
   create-object-objects live low =
-      good-objects-both s (createObject s o n v d text) o made n (newName o d text) create-object
+      good-objects-set s (createObject s o n v d text) o made (create-object .shape) (create-object .object) (create-object .other-objects)
       (_⊎_.inr (generation-live (blocks s) (objectAt s o .generation) v low live))
 
   -- the record o was free, so no other name leads to it or from it

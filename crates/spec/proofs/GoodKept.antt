@@ -11,23 +11,18 @@ use Rattle.spec.specs.Image.{Store, objects, names, blocks, objectAt, Na
 use Rattle.spec.specs.Room.{held, uses}
 use Rattle.spec.proofs.Searches.{sum-upd-below}
 use Rattle.spec.proofs.Count.{sum-at}
-use Rattle.spec.proofs.Kept.{NameKept, NameIs, ObjectSet, BothSet}
+use Rattle.spec.proofs.Kept.{NameKept, NameIs}
 use Rattle.spec.proofs.SameReads.{held-reads}
 use Rattle.spec.proofs.Shape.{SameShape}
 use Rattle.spec.proofs.Valid.{GoodObject, GoodObjects, GoodName, Live, Used, UsedName, FreeName, GoodNameRecord, GoodNames}
 
 -- ---- objects
-pub good-objects-set : (s t : Store) (o : ℕ) (v : Object) → ObjectSet s o v t → GoodObject (blocks s) v → GoodObjects s → GoodObjects t
-good-objects-set s t o v e g f i l =
-    let k : i < objects s = rw (e .shape .objects) at l in
-    rw (e .shape .blocks)
-    (by-cases (ℕ-discrete i o) (λ q. rw (q, e .object) g) (λ d. rw (e .other-objects i k d) (f i k)))
-
-pub good-objects-both : (s t : Store) (o : ℕ) (v : Object) (n : ℕ) (x : Name) → BothSet s o v n x t → GoodObject (blocks s) v → GoodObjects s → GoodObjects t
-good-objects-both s t o v n x e g f i l =
-    let k : i < objects s = rw (e .shape .objects) at l in
-    rw (e .shape .blocks)
-    (by-cases (ℕ-discrete i o) (λ q. rw (q, e .object) g) (λ d. rw (e .other-objects i k d) (f i k)))
+-- object o is v now, and every other object as it was
+pub good-objects-set : (s t : Store) (o : ℕ) (v : Object) → SameShape s t → objectAt t o ≡ v → ((i : ℕ) → i < objects s → i ≢ o → objectAt t i ≡ objectAt s i)
+    → GoodObject (blocks s) v → GoodObjects s → GoodObjects t
+good-objects-set s t o v e q w g f i l =
+    let k : i < objects s = rw (e .objects) at l in
+    rw (e .blocks) (by-cases (ℕ-discrete i o) (λ z. rw (z, q) g) (λ d. rw (w i k d) (f i k)))
 
 pub good-objects-kept : (s t : Store) → SameShape s t → ((i : ℕ) → i < objects s → objectAt t i ≡ objectAt s i) → GoodObjects s → GoodObjects t
 good-objects-kept s t e f g i l =

@@ -226,8 +226,8 @@ object-kept s t u o v h a b =
     }
 
 -- the same object is set twice
-pub object-again : (s t u : Store) (o : ℕ) (v w : Object) → ObjectSet s o v t → ObjectSet t o w u → ObjectSet s o w u
-object-again s t u o v w a b =
+pub object-set-twice : (s t u : Store) (o : ℕ) (v w : Object) → ObjectSet s o v t → ObjectSet t o w u → ObjectSet s o w u
+object-set-twice s t u o v w a b =
     record {
       shape = same-trans s t u (a .shape) (b .shape);
       sound = b .sound;

@@ -14,10 +14,10 @@ use Rattle.spec.specs.Edits.{clearBlocks, removeObject}
 use Rattle.spec.specs.Image.{Store, objects, names, blocks, objectAt, putObject, nameAt, freeName}
 use Rattle.spec.specs.Room.{held, uses, freeBlockCount}
 use Rattle.spec.proofs.BlockLists.{InRange}
-use Rattle.spec.proofs.ClearBlocks.{clear-blocks}
+use Rattle.spec.proofs.BlockWrites.{clear-blocks}
 use Rattle.spec.proofs.CreateObject.{no-blocks}
 use Rattle.spec.proofs.FreeCount.{free-count-set}
-use Rattle.spec.proofs.GoodKept.{good-objects-both, record-kept, uses-object-set}
+use Rattle.spec.proofs.GoodKept.{good-objects-set, record-kept, uses-object-set}
 use Rattle.spec.proofs.Kept.{Sound, NameIs, BothSet, put-object, put-name, kept-object, object-name}
 use Rattle.spec.proofs.Records.{FitsObject}
 use Rattle.spec.proofs.Valid.{FreeName, GoodObjects, GoodNames, Used, BlocksUsedOnce}
@@ -59,7 +59,8 @@ module _ (s : Store) (n o : ℕ) (is : nameAt s n .child ≡ o) (h : Sound s) (l
 
   pub remove-object-objects : GoodObjects s → GoodObjects (removeObject s n)
   remove-object-objects =
-      good-objects-both s (removeObject s n) o (freeObject (objectAt s o .generation + 1)) n freeName remove-object (_⊎_.inl refl)
+      let e = remove-object in
+      good-objects-set s (removeObject s n) o (freeObject (objectAt s o .generation + 1)) (e .shape) (e .object) (e .other-objects) (_⊎_.inl refl)
 
   -- no other name leads to the object or from it
   pub remove-object-names : ((m : ℕ) → m < names s → m ≢ n → Used s m → (nameAt s m .child ≢ o) × (nameAt s m .directory ≢ o))

@@ -15,7 +15,7 @@ use Rattle.spec.specs.Image.{Store, objects, blocks, objectAt}
 use Rattle.spec.specs.Room.{sizeOf, need, held, uses, freeBlocks, freeBlockCount}
 use Rattle.spec.proofs.BlockLists.{InRange, range-append, range-take, range-drop, held-length, held-range, free-length, free-range}
 use Rattle.spec.proofs.Bytes.{lt-or-le}
-use Rattle.spec.proofs.ClearBlocks.{clear-blocks, clear-tail}
+use Rattle.spec.proofs.BlockWrites.{clear-blocks, clear-tail}
 use Rattle.spec.proofs.Count.{times-append}
 use Rattle.spec.proofs.FreeCount.{times-take, free-or-used, free-count-set}
 use Rattle.spec.proofs.GoodKept.{good-objects-set, uses-object-set, uses-at}
@@ -213,7 +213,9 @@ module _ (s : Store) (o size : ℕ) (h : Sound s) (l : o < objects s) (v : LiveO
       }
 
   pub resize-objects : objectAt s o .kind ≡ REGULAR → GoodObjects s → GoodObjects (resize s o size)
-  resize-objects k = good-objects-set s (resize s o size) o (resized s o size) resize-object (_⊎_.inr (resized-live k))
+  resize-objects k =
+      let e = resize-object in
+      good-objects-set s (resize s o size) o (resized s o size) (e .shape) (e .object) (e .other-objects) (_⊎_.inr (resized-live k))
 
   -- names, types and generations stay
   pub resize-tree : SameTree s (resize s o size)

@@ -30,11 +30,6 @@ pub implies : (t u : Bool) → (t ≡ true → u ≡ true) → not t || u ≡ tr
 implies true u f = f refl
 implies false u f = refl
 
--- a test that fails at once, where it cannot hold
-pub is-false : (t : Bool) → (t ≡ true → ⊥) → t ≡ false
-is-false true f = absurd (f refl)
-is-false false f = refl
-
 -- a number that is 0 or not
 pub nonzero-true : (n : ℕ) → not (eqb n 0) ≡ true → 0 < n
 nonzero-true n e = omega (arith, eqb-false n 0 (by-not (eqb n 0) e))

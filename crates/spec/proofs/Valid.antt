@@ -15,7 +15,7 @@ use Rattle.kinds.specs.declared.object.Object.{Object}
 use Rattle.spec.specs.Bytes.{part, beAt, zeros, sameBytes, allBytes}
 use Rattle.spec.specs.Count.{count, every}
 use Rattle.spec.specs.Image.{Store, volumes, objects, names, blocks, objectStart, nameStart, timeAt, objectFrom, objectAt, nameFrom, nameAt, nameLength, freeName}
-use Rattle.spec.specs.Room.{isLive, isDirectory, need, uses, isUsedName, namings, isNamed, above}
+use Rattle.spec.specs.Room.{isLive, isRegular, isDirectory, need, uses, isUsedName, namings, isNamed, above}
 use Rattle.spec.specs.Names.{isDot, isDotDot, isDots, goodByte, goodBytes, goodName}
 use Rattle.spec.specs.Check.{isZero, goodCounts, imageLength, goodShape, goodTime, goodBlock, goodSize, goodLive, goodFree, goodObject, goodRoot, goodUsed, goodNameRecord, isDistinct, mostNames, isNamedOnce, isUsedOnce, leadsToRoot, passes}
 use Rattle.spec.proofs.Bytes.{part-length, same-yes, same-no}
@@ -168,6 +168,14 @@ false-used s n h = false-nonzero (nameLength s n) h
 pub directory-true : (s : Store) (o : ℕ) → isDirectory s o ≡ true → objectAt s o .kind ≡ DIRECTORY
 unfolding isDirectory
 directory-true s o e = eqb-true (objectAt s o .kind) 2 e
+
+pub regular-true : (s : Store) (o : ℕ) → isRegular s o ≡ true → objectAt s o .kind ≡ REGULAR
+unfolding isRegular
+regular-true s o e = eqb-true (objectAt s o .kind) 1 e
+
+pub true-regular : (s : Store) (o : ℕ) → objectAt s o .kind ≡ REGULAR → isRegular s o ≡ true
+unfolding isRegular
+true-regular s o h = eq-eqb (objectAt s o .kind) 1 h
 
 pub true-directory : (s : Store) (o : ℕ) → objectAt s o .kind ≡ DIRECTORY → isDirectory s o ≡ true
 unfolding isDirectory
