@@ -28,7 +28,7 @@ use Rattle.spec.specs.Room.{isLive, isDirectory, isFreeBlock, isAvailable, size
 use Rattle.spec.specs.Rpc.{accepted}
 use Rattle.spec.proofs.Bytes.{lt-or-le}
 use Rattle.spec.proofs.Count.{by-bool, count-bound}
-use Rattle.spec.proofs.Errors.{statusOf}
+use Rattle.spec.proofs.Error.{statusOf}
 use Rattle.spec.proofs.Range.{Below, be-below}
 use Rattle.spec.proofs.RecordRange.{objectAt-fits}
 use Rattle.spec.proofs.Valid.{LiveObject, true-live, live-size}

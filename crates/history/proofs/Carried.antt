@@ -29,7 +29,7 @@ use Rattle.spec.specs.Rpc.{accepted}
 use Rattle.spec.specs.Serve.{Outcome}
 use Rattle.spec.proofs.Count.{by-bool, true-false, lowest-passes}
 use Rattle.history.proofs.Sum.{holds, holds-true}
-use Rattle.spec.proofs.Errors.{lookup-store}
+use Rattle.spec.proofs.Error.{lookup-store}
 use Rattle.spec.proofs.Valid.{passes-valid}
 use Rattle.history.specs.Book.{Ledger, asked, foundHandle, madeHandle, isOk, noted, note}
 use Rattle.history.specs.Run.{Request, Lent, outcome, replyTo}

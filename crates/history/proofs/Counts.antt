@@ -20,7 +20,7 @@ use Rattle.spec.proofs.BlockLists.{InRange, held-range}
 use Rattle.spec.proofs.Bytes.{same-yes, same-no}
 use Rattle.spec.proofs.Count.{sum-ext, sum-add, sum-zero, by-bool, true-false, and-both}
 use Rattle.spec.proofs.FreeCount.{free-and-used, uses-total}
-use Rattle.spec.proofs.Tests.{and-true, or-one, is-false}
+use Rattle.spec.proofs.Tests.{and-true, or-one}
 use Rattle.spec.proofs.Valid.{LiveObject, GoodObject, live-true, true-live, false-live, live-kind, live-size}
 use Rattle.history.specs.Book.{Standing, asRoot, under, Line, Book, Ledger, handleBytes}
 use Rattle.history.specs.Statement.{In, HasLine, liveObjects, objectIn, placesIn, hasName, namedLines, isAmong, isLined, lastHandle, spentRecords}
@@ -49,6 +49,9 @@ total-one (x ∷ xs) = omega (arith, total-one xs)
 
 same-true : (xs ys : List ℕ) → sameBytes xs ys ≡ true → xs ≡ ys
 same-true xs ys e = by-cases (text? xs ys) (λ p. p) (λ n. true-false (sym e ∙ same-no xs ys n))
+
+is-false : (t : Bool) → (t ≡ true → ⊥) → t ≡ false
+is-false t f = by-bool t (λ e. absurd (f e)) (λ e. e)
 
 or-left : (t u : Bool) → t ≡ true → t || u ≡ true
 or-left t u e = ap (λ (b : Bool). b || u) e

@@ -26,7 +26,7 @@ use Rattle.spec.specs.Procedures.Attributes.{isGiven, sizeSet, badAttributes, l
 use Rattle.spec.specs.Procedures.Names.{newEdit, createdIn, Target, new, existing, isNew, roomForNew, checkExisting, targetOf, checkNew, checkAttributed, checkHow, checkCreate, settableOf, existingEdit, createEdit, create, checkMkdir, mkdir}
 use Rattle.spec.specs.Results.{Done, Result, created, failChanging, settle, null}
 use Rattle.spec.specs.Room.{isRegular, sizeOf, need, freeBlockCount, findName}
-use Rattle.spec.proofs.Errors.{statusOf}
+use Rattle.spec.proofs.Error.{statusOf}
 use Rattle.spec.proofs.Count.{true-false, and-both}
 use Rattle.spec.proofs.Range.{Below}
 use Rattle.spec.proofs.RecordRange.{below-part}

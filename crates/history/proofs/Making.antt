@@ -32,7 +32,7 @@ use Rattle.spec.specs.Procedures.Names.{newObject, touchDirectory, newEdit, cre
 use Rattle.spec.specs.Results.{Done, Result, created, failChanging, settle, null}
 use Rattle.spec.specs.Room.{isRegular, sizeOf, need, freeBlockCount, findName}
 use Rattle.spec.proofs.CreateObject.{newName, create-object, create-object-uses}
-use Rattle.spec.proofs.Errors.{statusOf}
+use Rattle.spec.proofs.Error.{statusOf}
 use Rattle.spec.proofs.Kept.{Sound}
 use Rattle.spec.proofs.Range.{Below}
 use Rattle.spec.proofs.Records.{FitsObject}

@@ -21,7 +21,7 @@ use Rattle.spec.specs.Procedures.{cut, act}
 use Rattle.spec.specs.Procedures.Removal.{remove, rmdir}
 use Rattle.spec.specs.Results.{Done}
 use Rattle.spec.specs.Serve.{Outcome, formatted}
-use Rattle.spec.proofs.Errors.{getattr-store, lookup-store, access-store, read-store, readdir-store, fsstat-store, fsinfo-store, pathconf-store, commit-store}
+use Rattle.spec.proofs.Error.{getattr-store, lookup-store, access-store, read-store, readdir-store, fsstat-store, fsinfo-store, pathconf-store, commit-store}
 use Rattle.spec.proofs.Formatted.{FormatAsked, formatted-stamp, formatted-objects, formatted-names, formatted-blocks, formatted-below, formatted-root, formatted-free, formatted-name, formatted-valid}
 use Rattle.spec.proofs.Range.{Below}
 use Rattle.spec.proofs.RecordRange.{below-part}

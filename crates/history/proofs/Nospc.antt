@@ -32,7 +32,7 @@ use Rattle.spec.specs.Results.{Done, Result, null, changed, wrote, created, fai
 use Rattle.spec.specs.Room.{isRegular, isDirectory, isAvailable, isUsedName, sizeOf, need, freeBlockCount, availableCount, availableObject, freeNameCount, availableName, findName}
 use Rattle.spec.specs.Rpc.{accepted}
 use Rattle.spec.proofs.Count.{by-bool, true-false, sum-at, lowest-passes, lowest-none}
-use Rattle.spec.proofs.Errors.{statusOf}
+use Rattle.spec.proofs.Error.{statusOf}
 use Rattle.spec.proofs.Searches.{count-nothing}
 use Rattle.history.specs.Book.{Ledger, statusIn, isOk}
 use Rattle.history.specs.Run.{Request, replyTo}

@@ -17,7 +17,7 @@ use Rattle.spec.specs.Procedures.Removal.{renamedOr, failRenaming}
 use Rattle.spec.specs.Replies.{resultBytes}
 use Rattle.spec.specs.Results.{Result, null, dead, failed, changed, renamed, showingOf, changingOf, failShowing, failChanging}
 use Rattle.spec.specs.Rpc.{accepted}
-use Rattle.spec.proofs.Errors.{statusOf}
+use Rattle.spec.proofs.Error.{statusOf}
 use Rattle.history.specs.Book.{Standing, under, Line, Ledger, asked, isOk, someAt, add, noted, note}
 use Rattle.history.proofs.Replies.{answered-ok}
 

@@ -29,7 +29,7 @@ use Rattle.spec.specs.Procedures.Removal.{checkRemove, hasEntries, checkRmdir, 
 use Rattle.spec.specs.Results.{Done, Result, changed, renamed, failChanging, settle, null}
 use Rattle.spec.specs.Room.{isDirectory, isIn, findName, above}
 use Rattle.spec.proofs.Count.{by-bool, true-false, some-none}
-use Rattle.spec.proofs.Errors.{statusOf}
+use Rattle.spec.proofs.Error.{statusOf}
 use Rattle.spec.proofs.Range.{Below}
 use Rattle.spec.proofs.RecordRange.{below-part}
 use Rattle.spec.proofs.SetAttributes.{only-ctime-fits, only-ctime-allowed, mtime-and-ctime-fits, mtime-and-ctime-allowed}

@@ -18,7 +18,7 @@ use Rattle.spec.specs.Replies.{resultBytes, fattr3, postOp, preOp, wccData, wcc
 use Rattle.spec.specs.Results.{Result, null, dead, failed, changed, renamed, gotAttributes, found, granted, gotBytes, wrote, created, listed, gotRoom, gotLimits, gotNaming, committed}
 use Rattle.spec.specs.Rpc.{accepted}
 use Rattle.spec.proofs.Bytes.{part-left, part-right, part-whole, be-add}
-use Rattle.spec.proofs.Errors.{statusOf}
+use Rattle.spec.proofs.Error.{statusOf}
 use Rattle.spec.proofs.Words.{words-append, words-length}
 use Rattle.history.specs.Book.{handleBytes, statusIn, isOk, handleAt}
 use Rattle.history.proofs.Handles.{word-in}

@@ -23,7 +23,7 @@ use Rattle.spec.specs.Procedures.Attributes.{isGiven, sizeSet, badAttributes, l
 use Rattle.spec.specs.Procedures.Data.{reachRegular, mostBytes, grown, checkWrite, writeEdit, writeStore, writeDone, write}
 use Rattle.spec.specs.Results.{Done, unchanged, failChanging, settle}
 use Rattle.spec.specs.Room.{isLive, isRegular, isDirectory, sizeOf, need, freeBlockCount}
-use Rattle.spec.proofs.ClearBlocks.{write-file}
+use Rattle.spec.proofs.BlockWrites.{write-file}
 use Rattle.spec.proofs.Count.{by-bool, true-false, and-both}
 use Rattle.spec.proofs.Range.{Below, below-take}
 use Rattle.spec.proofs.Records.{FitsTime}
