@@ -14,7 +14,7 @@ use Rattle.spec.specs.Count.{bit, times}
 use Rattle.spec.proofs.Bytes.{same-yes, same-no}
 use Rattle.spec.proofs.Count.{and-both, true-false, by-bool}
 use Rattle.history.specs.Book.{Standing, asRoot, under, Line, Book, Ledger, handleBytes, stands, isAt, someAt, add, strikeLines, strike, moveLine, moveLines, move}
-use Rattle.history.proofs.Sum.{holds, ind, ind-same, ind-yes, ind-no, ind-true}
+use Rattle.history.proofs.Sum.{ind, ind-same, ind-yes, ind-no, ind-true}
 use Rattle.history.proofs.Lists.{text?, All, without, without-same, without-other, all-times, times-without, times-without-other}
 use Rattle.history.proofs.View.{View, Live, Used, Names, At, namings, entries, SameName, SetName, SetObj, no-entry}
 use Rattle.history.proofs.Tree.{Tree, one-name, one-entry}

@@ -15,7 +15,7 @@ use Rattle.spec.specs.Room.{isNamed, held, sizeOf, need, uses, above}
 use Rattle.spec.proofs.Count.{sum-zero, sum-at}
 use Rattle.spec.proofs.Records.{halves-count}
 use Rattle.spec.proofs.Valid.{Shaped, LiveObject, GoodObject, GoodObjects, FreeName, UsedName, GoodNameRecord, GoodNames, BlocksUsedOnce, Valid, live-kind, live-size}
-use Rattle.history.proofs.Sum.{holds, ind, ind-yes}
+use Rattle.history.proofs.Sum.{ind, ind-yes}
 use Rattle.history.proofs.Lists.{All, all-times, times-all, times-place}
 use Rattle.history.proofs.View.{View, Live, Used, Names, At, names?, at?, namings, entries, Path, named-by, entry-by}
 use Rattle.history.proofs.Tree.{Flat, Tree, lone, live-bound, path-short}

@@ -44,7 +44,8 @@ use Rattle.history.proofs.Inv.{Inv, Owes, tree}
 use Rattle.history.proofs.Checks.{Reached, reached-directory, passed-bind, passed-present, found-name, Sure, sure-bind, sure-passed, sure-present, sure-directory, sure-name}
 use Rattle.history.proofs.Replies.{found-is}
 use Rattle.history.proofs.Asked.{Acted, acted, Idle, served}
-use Rattle.history.proofs.Ranges.{FitsArguments, asked-fits}
+use Rattle.spec.proofs.ArgumentRange.{FitsArguments}
+use Rattle.history.proofs.Ranges.{asked-fits}
 use Rattle.history.proofs.Noted.{Answer, showing-fails, not-ok}
 use Rattle.history.proofs.Making.{handle-seen}
 use Rattle.history.proofs.Create.{Made, create-made, mkdir-made}

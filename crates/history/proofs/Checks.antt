@@ -24,7 +24,7 @@ use Rattle.spec.proofs.Range.{Below}
 use Rattle.spec.proofs.Searches.{count-nothing}
 use Rattle.spec.proofs.Valid.{GoodName, GoodNames, live-true, live-false, used-false, directory-true, bytes-good, dots-no}
 use Rattle.history.specs.Book.{handleBytes}
-use Rattle.history.proofs.Sum.{holds, ind, holds-true}
+use Rattle.history.proofs.Sum.{holds-true}
 use Rattle.history.proofs.View.{View, Live, Used, At, at?, entries}
 use Rattle.history.proofs.Handles.{handle-of}
 use Rattle.history.proofs.Seen.{view, named-same, entries-same, kind-at}

@@ -24,7 +24,7 @@ use Rattle.spec.proofs.Tests.{and-true, or-one}
 use Rattle.spec.proofs.Valid.{LiveObject, GoodObject, live-true, true-live, false-live, live-kind, live-size}
 use Rattle.history.specs.Book.{Standing, asRoot, under, Line, Book, Ledger, handleBytes}
 use Rattle.history.specs.Statement.{In, HasLine, liveObjects, objectIn, placesIn, hasName, namedLines, isAmong, isLined, lastHandle, spentRecords}
-use Rattle.history.proofs.Sum.{holds, ind, ind-yes, ind-no, holds-same, same-bool, bit-one, sum-const}
+use Rattle.history.proofs.Sum.{ind, ind-yes, ind-no, holds-same, sum-const}
 use Rattle.history.proofs.Lists.{text?, All, all-times}
 use Rattle.history.proofs.View.{View, Live, Used}
 use Rattle.history.proofs.Tree.{Flat, Tree, live?, living}

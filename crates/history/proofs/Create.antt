@@ -41,7 +41,7 @@ use Rattle.history.proofs.Seen.{view, kind-at, gen-at, child-at, live-i
 use Rattle.history.proofs.Inv.{Inv, Owes, Keeps, keeps-refl, tree}
 use Rattle.history.proofs.Checks.{Reached, reached-directory, passed-bind, passed-then, passed-absent, found-name, no-name, Spare, room-passed, new-passed}
 use Rattle.history.proofs.Replies.{made-is}
-use Rattle.history.proofs.Ranges.{FitsHow}
+use Rattle.spec.proofs.ArgumentRange.{FitsHow}
 use Rattle.history.proofs.Noted.{Answer, Fails, changing-fails, not-ok, note-failed, note-ok}
 use Rattle.history.proofs.Sizes.{Clocked}
 use Rattle.history.proofs.Making.{handle-seen, withLine, new-keeps, new-handle, new-alive, directory-kind, directory-handle, line-added, line-there, existing-keeps, sure-create, sure-mkdir}

@@ -29,7 +29,7 @@ use Rattle.spec.proofs.GoodKept.{good-objects-kept}
 use Rattle.spec.proofs.Resize.{resize-object, resize-blocks, resize-objects, resize-tree}
 use Rattle.spec.proofs.Valid.{Shaped, LiveObject, GoodObject, GoodObjects, GoodName, UsedName, GoodNames, BlocksUsedOnce, Valid, live-kind}
 use Rattle.history.specs.Book.{Line, Book, Ledger, under, handleBytes, strikeLines, moveLines}
-use Rattle.history.proofs.Sum.{holds, ind}
+use Rattle.history.proofs.Sum.{holds}
 use Rattle.history.proofs.View.{View, Live, Used, Names, entries, namings, Path, Avoids, SameName, SetName, SetObj, not-named}
 use Rattle.history.proofs.Tree.{Flat, Tree, live?, lone, one-name}
 use Rattle.history.proofs.Change.{Created, Removed, Moved}

@@ -7,7 +7,7 @@ use native.Mathlib.Decide.{ℕ-discrete, decLt}
 use native.Mathlib.Omega.{arith}
 use lib.ListN.{length}
 use Rattle.history.specs.Book.{handleBytes}
-use Rattle.history.proofs.Sum.{holds, ind, ind-same, ind-yes, ind-no, ind-true, ind-le}
+use Rattle.history.proofs.Sum.{ind, ind-same, ind-yes, ind-no}
 use Rattle.history.proofs.View.{View, Live, SetObj}
 use Rattle.history.proofs.Tree.{Tree, live?}
 use Rattle.history.proofs.Change.{Created, Removed, Moved}

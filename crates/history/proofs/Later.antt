@@ -14,7 +14,7 @@ use Rattle.spec.specs.Image.{Store}
 use Rattle.spec.proofs.Count.{sum-ext}
 use Rattle.history.specs.Book.{Line, Book, Ledger, handleBytes}
 use Rattle.history.specs.Statement.{In, HasLine, IsRemoved, objectIn}
-use Rattle.history.proofs.Sum.{holds, ind, ind-le}
+use Rattle.history.proofs.Sum.{ind, ind-le}
 use Rattle.history.proofs.View.{View, Live}
 use Rattle.history.proofs.Tree.{Tree, live?}
 use Rattle.history.proofs.Handles.{same-object, same-generation, handle-object}

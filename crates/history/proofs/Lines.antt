@@ -19,7 +19,8 @@ use Rattle.spec.proofs.Count.{sum-ext, sum-zero, sum-add, sum-at, true-false}
 use Rattle.spec.proofs.Valid.{live-true, true-live}
 use Rattle.history.specs.Book.{Standing, asRoot, under, Line, Book, Ledger, handleBytes}
 use Rattle.history.specs.Statement.{In, HasLine, HasName, StoredObject, StoredName, liveObjects, objectIn, hasName, namedLines}
-use Rattle.history.proofs.Sum.{holds, ind, ind-yes, ind-no, ind-true, ind-le, ind-same, holds-same, sum-one, sum-swap}
+use Rattle.spec.proofs.FreeCount.{sum-swap}
+use Rattle.history.proofs.Sum.{ind, ind-yes, ind-no, ind-true, holds-same}
 use Rattle.history.proofs.Lists.{All, all-times, times-all, times-place, length-times}
 use Rattle.history.proofs.View.{View, Live, Used, Names, names?, namings, named-by}
 use Rattle.history.proofs.Tree.{Flat, Tree, live?, living, lone}

@@ -47,7 +47,7 @@ use Rattle.history.proofs.Seen.{view, kind-at, gen-at, child-at, live-i
 use Rattle.history.proofs.Inv.{Inv, Owes, Keeps, keeps-refl, keeps-trans, tree, sound, live-record, touch-inv, resize-inv, created-of, create-keeps}
 use Rattle.history.proofs.Checks.{Reached, reached-directory, passed-bind, passed-then, passed-absent, found-name, no-name, Spare, room-passed, new-passed, Sure, sure-bind, sure-then, sure-if, sure-passed, sure-refused, sure-absent, sure-directory, sure-room, sure-new}
 use Rattle.history.proofs.Replies.{made-is}
-use Rattle.history.proofs.Ranges.{FitsHow}
+use Rattle.spec.proofs.ArgumentRange.{FitsHow}
 use Rattle.history.proofs.Noted.{Answer, Fails, changing-fails, note-failed, note-ok, add-new, add-old}
 use Rattle.history.proofs.Sizes.{Clocked, seen-live, resize-to}
 

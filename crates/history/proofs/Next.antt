@@ -30,7 +30,7 @@ use Rattle.spec.proofs.Valid.{FreeName, passes-valid}
 use Rattle.history.specs.Book.{Ledger, asked, noted, note, firstLedger, handleBytes, Line, Standing, asRoot}
 use Rattle.history.specs.Run.{Request, Lent, AllLent, outcome, replyTo, State, step, run}
 use Rattle.history.specs.Statement.{Asks}
-use Rattle.history.proofs.Sum.{holds, ind, ind-yes, ind-no}
+use Rattle.history.proofs.Sum.{ind-yes, ind-no}
 use Rattle.history.proofs.View.{View, Live, Used}
 use Rattle.history.proofs.Tree.{live?}
 use Rattle.history.proofs.Agree.{Agrees, handleIn, rootLine, used?}
@@ -38,7 +38,8 @@ use Rattle.history.proofs.Issue.{Issues, Issued, issued}
 use Rattle.history.proofs.Seen.{view, kind-at, gen-at, text-at, live-in, used-in, within-no}
 use Rattle.history.proofs.Inv.{Inv, Grew, Owes, owes-trans, Keeps, keeps-refl}
 use Rattle.history.proofs.Asked.{Acted, acted, Idle, served}
-use Rattle.history.proofs.Ranges.{FitsArguments, asked-fits}
+use Rattle.spec.proofs.ArgumentRange.{FitsArguments}
+use Rattle.history.proofs.Ranges.{asked-fits}
 use Rattle.history.proofs.Noted.{Answer, note-quiet}
 use Rattle.history.proofs.Sizes.{Clocked, setattr-keeps, write-keeps}
 use Rattle.history.proofs.Create.{Made, create-made, mkdir-made}

@@ -11,7 +11,9 @@ use lib.ListN.{length, getD, take}
 use borrow.Author.Tests.{eq-eqb, ne-eqb}
 use Rattle.spec.specs.Count.{bit, sum, count, times}
 use Rattle.spec.proofs.Count.{sum-ext, sum-upd, sum-at, sum-add}
-use Rattle.history.proofs.Sum.{sum-two, sum-swap, sum-const}
+use Rattle.spec.proofs.Unique.{sum-two}
+use Rattle.spec.proofs.FreeCount.{sum-swap}
+use Rattle.history.proofs.Sum.{sum-const}
 use Rattle.history.proofs.Lists.{All, times-at, times-two, length-times}
 
 -- the blocks of each object, in the order of its bytes

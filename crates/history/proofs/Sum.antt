@@ -69,15 +69,6 @@ same-bool true u f g = sym (f refl)
 same-bool false true f g = g refl
 same-bool false false f g = refl
 
-pub sum-two : (n i j : ℕ) (f : ℕ → ℕ) → i < n → j < n → i ≢ j → f i + f j ≤ sum n f
-unfolding sum
-sum-two zero i j f l k d = absurd (not-suc-le-zero l)
-sum-two (suc n) i j f l k d = by-cases (ℕ-discrete i n)
-    (λ e. let a = ap f e in let r = sum-at n j f (omega arith) in omega arith)
-    (λ x. by-cases (ℕ-discrete j n)
-    (λ e. let a = ap f e in let r = sum-at n i f (omega arith) in omega arith)
-    (λ y. let r = sum-two n i j f (omega arith) (omega arith) d in omega arith))
-
 pub sum-find : (n : ℕ) (f : ℕ → ℕ) → 0 < sum n f → (i : ℕ) × (i < n) × (0 < f i)
 unfolding sum
 sum-find zero f h = absurd (not-suc-le-zero h)
@@ -114,11 +105,6 @@ pigeon (suc k) n f a h d =
     (λ j l. let hj = h j (omega arith) in (hj .0, omega (arith, less-other f (a k) (a j) (d j k l (omega arith)))))
     (λ i j p l. d i j p (omega arith)) in
     omega (arith, sum-upd n (a k) f (less f (a k)) (hk .0) (less-other f (a k)), less-same f (a k))
-
-pub sum-swap : (n m : ℕ) (f : ℕ → ℕ → ℕ) → sum n (λ i. sum m (λ j. f i j)) ≡ sum m (λ j. sum n (λ i. f i j))
-unfolding sum
-sum-swap zero m f = sym (sum-zero m (λ j. 0) (λ j l. refl))
-sum-swap (suc n) m f = omega (arith, sum-swap n m f, sum-add m (f n) (λ j. sum n (λ i. f i j)))
 
 pub sum-const : (n : ℕ) → sum n (λ i. 1) ≡ n
 unfolding sum

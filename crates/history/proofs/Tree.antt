@@ -10,7 +10,7 @@ use lib.ListN.{length, drop, length-drop}
 use Rattle.spec.specs.Count.{bit, sum}
 use Rattle.spec.proofs.Count.{sum-upd, sum-at, sum-zero}
 use Rattle.spec.specs.Check.{mostNames}
-use Rattle.history.proofs.Sum.{holds, ind, ind-same, ind-yes, ind-no, ind-true, ind-le, sum-two, sum-find, pigeon}
+use Rattle.history.proofs.Sum.{ind, ind-yes, ind-le, pigeon}
 use Rattle.history.proofs.View.{View, Live, Used, Names, At, names?, at?, namings, entries, Path, Avoids, SameName, SetName, SetObj, namings-set, entries-set, named-by, not-named, named-once, entry-once}
 
 pub record Flat (P Q : ℕ) (v : View) : Type 0 where

@@ -10,7 +10,8 @@ use lib.ListN.{length}
 use Rattle.history.proofs.Lists.{text?}
 use Rattle.spec.specs.Count.{bit, sum}
 use Rattle.spec.proofs.Count.{sum-upd, sum-at, sum-zero}
-use Rattle.history.proofs.Sum.{holds, ind, ind-same, ind-yes, ind-no, ind-true, ind-le, sum-two, sum-find}
+use Rattle.spec.proofs.Unique.{sum-two}
+use Rattle.history.proofs.Sum.{holds, ind, ind-same, ind-yes, ind-true, sum-find}
 
 pub record View : Type 0 where
   pub kind : ℕ → ℕ
