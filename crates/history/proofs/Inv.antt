@@ -1,0 +1,431 @@
+-- What holds of the store and the book after any list of requests, and what the edits keep of it. Assumes nothing.
+use mathlib.Core.Path.{_≡_, refl, sym, ap, _∙_, subst}
+use mathlib.Core.Logic.{_≢_, _⊎_, by-cases}
+use mathlib.Core.List.{List, [], _∷_}
+use mathlib.Core.Bool.{Bool, true, false}
+use Prim.Native.Nat.{ℕ, zero, suc, _+_, _-_, _^_, _≤_, _<_}
+use native.Mathlib.Decide.{ℕ-discrete, decLt}
+use native.Mathlib.Omega.{arith}
+use lib.Dec.{lit<}
+use lib.ListN.{length}
+use Rattle.kinds.specs.declared.object.Time.{Time}
+use Rattle.kinds.specs.declared.object.Object.{Object}
+use Rattle.kinds.specs.declared.call.Settable.{Settable}
+use Rattle.spec.specs.Edits.{setAttributes, resize, withGeneration, createObject, removeObject, moveName}
+use Rattle.spec.specs.Image.{Store, stamp, objects, names, blocks, objectAt, Name, nameAt, nameLength, freeName}
+use Rattle.spec.specs.Room.{held, sizeOf, need, freeBlockCount}
+use Rattle.kinds.specs.Objects.{freeObject}
+use Rattle.spec.proofs.BlockLists.{InRange, held-range}
+use Rattle.spec.proofs.CreateObject.{newName, create-object, create-object-objects, create-object-names, create-object-blocks}
+use Rattle.spec.proofs.Kept.{Sound, NameKept, RecordsKept, ObjectSet, NameSet, BothSet, valid-sound}
+use Rattle.spec.proofs.MoveName.{movedName, move-name, move-name-objects, move-name-names, move-name-blocks}
+use Rattle.spec.proofs.Range.{Below}
+use Rattle.spec.proofs.Records.{FitsTime, FitsObject}
+use Rattle.spec.proofs.RemoveObject.{remove-object, remove-object-objects, remove-object-names, remove-object-blocks}
+use Rattle.spec.proofs.SetAttributes.{FitsSettable, Allowed, set-attributes, set-attributes-structure, set-attributes-good}
+use Rattle.spec.proofs.Shape.{SameShape}
+use Rattle.spec.proofs.Structure.{SameTree, SameStructure, kept-structure, tree-names, tree-distinct, tree-named, tree-leads, structure-blocks}
+use Rattle.spec.proofs.GoodKept.{good-objects-kept}
+use Rattle.spec.proofs.Resize.{resize-object, resize-blocks, resize-objects, resize-tree}
+use Rattle.spec.proofs.Valid.{Shaped, LiveObject, GoodObject, GoodObjects, GoodName, UsedName, GoodNames, BlocksUsedOnce, Valid, live-kind}
+use Rattle.history.specs.Book.{Line, Book, Ledger, under, handleBytes, strikeLines, moveLines}
+use Rattle.history.proofs.Sum.{holds}
+use Rattle.history.proofs.View.{View, Live, Used, Names, entries, namings, Path, Avoids, SameName, SetName, SetObj, not-named}
+use Rattle.history.proofs.Tree.{Flat, Tree, live?, lone, one-name}
+use Rattle.history.proofs.Change.{Created, Removed, Moved}
+use Rattle.history.proofs.Created.{created-tree}
+use Rattle.history.proofs.Removed.{removed-tree}
+use Rattle.history.proofs.Moved.{moved-tree}
+use Rattle.history.proofs.Agree.{Agrees, handleIn, agrees-same, created-agrees, removed-agrees, moved-agrees}
+use Rattle.history.proofs.Issue.{Issues, issued, issues-same, live-same, created-issues, removed-issues, moved-issues}
+use Rattle.history.proofs.Seen.{view, heldBy, kind-at, gen-at, dir-at, child-at, text-at, live-in, used-in, text-long}
+use Rattle.history.proofs.Bridge.{tree-of, valid-of}
+use Rattle.history.proofs.Frames.{kind-same, gen-same, name-same, set-obj, set-name}
+
+pub record Inv (σ p q r : ℕ) (s : Store) (L : Ledger) : Type 0 where
+  pub valid : Valid s
+  pub bytes : Below 256 s
+  pub mark : stamp s ≡ σ
+  pub objs : objects s ≡ p
+  pub nams : names s ≡ q
+  pub blks : blocks s ≡ r
+  pub issues : Issues p σ (view s) (L .given)
+  pub agrees : Agrees σ (view s) (L .book)
+
+-- what later stores keep of earlier ones: no generation falls, and a live object of the same generation has the same type
+pub record Grew (v w : View) : Type 0 where
+  pub older : (i : ℕ) → v .gen i ≤ w .gen i
+  pub stays : (i : ℕ) → Live v i → w .gen i ≡ v .gen i → w .kind i ≡ v .kind i
+
+pub grew-same : (v w : View) → ((i : ℕ) → (w .kind i ≡ v .kind i) × (w .gen i ≡ v .gen i)) → Grew v w
+grew-same v w h = record { older = λ i. omega (arith, h i .1); stays = λ i l e. h i .0 }
+
+pub grew-trans : (u v w : View) → Grew u v → Grew v w → Grew u w
+grew-trans u v w a b =
+    record {
+      older = λ i. omega (arith, a .older i, b .older i);
+      stays = λ i l e.
+          let x : v .gen i ≡ u .gen i = omega (arith, a .older i, b .older i) in
+          let k = a .stays i l x in
+          b .stays i (omega arith) (e ∙ sym x) ∙ k;
+    }
+
+module _ (σ p q r : ℕ) (s : Store) (L : Ledger) (I : Inv σ p q r s L) where
+  pub tree : Tree p q (view s)
+  tree = subst (λ (x : ℕ). Tree x q (view s)) (I .objs) (subst (λ (x : ℕ). Tree (objects s) x (view s)) (I .nams) (tree-of s (I .valid)))
+
+  pub sound : Sound s
+  sound = valid-sound s (I .valid) (I .bytes)
+
+  -- a live object's record
+  pub live-record : (o : ℕ) → Live (view s) o → LiveObject (blocks s) (objectAt s o)
+  live-record o l =
+      let k = live-in s o l in
+      go (I .valid .good-objects o k) k
+    where
+      go : GoodObject (blocks s) (objectAt s o) → o < objects s → LiveObject (blocks s) (objectAt s o)
+      go (_⊎_.inl f) k = absurd (omega (arith, kind-at s o k, ap (λ (v : Object). v .kind) f))
+      go (_⊎_.inr x) k = x
+
+-- the check's demands, from the tree
+pub valid-by : (p q : ℕ) (t : Store) → Sound t → objects t ≡ p → names t ≡ q → GoodObjects t → GoodNames t → Tree p q (view t) → BlocksUsedOnce t → Valid t
+valid-by p q t h a b g n T u =
+    valid-of t (h .shaped) g n
+    (subst (λ (x : ℕ). Tree x (names t) (view t)) (sym a) (subst (λ (x : ℕ). Tree p x (view t)) (sym b) T)) u
+
+-- ---- nothing that the view shows has changed
+pub seen-inv : (σ p q r : ℕ) (s t : Store) (L : Ledger) → Inv σ p q r s L → SameShape s t → Valid t → Below 256 t
+    → ((i : ℕ) → (view t .kind i ≡ view s .kind i) × (view t .gen i ≡ view s .gen i)) → ((n : ℕ) → SameName (view s) (view t) n) → Inv σ p q r t L
+seen-inv σ p q r s t L I e K b o n =
+    record {
+      valid = K;
+      bytes = b;
+      mark = e .stamp ∙ I .mark;
+      objs = e .objects ∙ I .objs;
+      nams = e .names ∙ I .nams;
+      blks = e .blocks ∙ I .blks;
+      issues = issues-same p σ (view s) (view t) (L .given) (λ i. omega (arith, o i .1, live-same (view s) (view t) i (o i .0))) (I .issues);
+      agrees = agrees-same σ (view s) (view t) (L .book) o n (I .agrees);
+    }
+
+module _ (s t : Store) (e : SameTree s t) where
+  pub same-objects : (i : ℕ) → (view t .kind i ≡ view s .kind i) × (view t .gen i ≡ view s .gen i)
+  same-objects i = (kind-same s t (e .shape) i (λ l. e .kind i l), gen-same s t (e .shape) i (λ l. e .generation i l))
+
+  pub same-names : (n : ℕ) → SameName (view s) (view t) n
+  same-names n = name-same s t (e .shape) n (λ l. e .name n l)
+
+  pub same-valid : Sound t → GoodObjects t → BlocksUsedOnce t → Valid s → Valid t
+  same-valid h g u K =
+      record {
+        shaped = h .shaped;
+        root = e .kind 0 (K .shaped .some-object) ∙ K .root;
+        good-objects = g;
+        good-names = tree-names s t e (K .good-names);
+        distinct = tree-distinct s t e (K .distinct);
+        named = tree-named s t e (K .named);
+        used-once = u;
+        leads = tree-leads s t e (K .leads);
+      }
+
+  pub same-inv : (σ p q r : ℕ) (L : Ledger) → Inv σ p q r s L → Sound t → GoodObjects t → BlocksUsedOnce t → Inv σ p q r t L
+  same-inv σ p q r L I h g u = seen-inv σ p q r s t L I (e .shape) (same-valid h g u (I .valid)) (h .bytes) same-objects same-names
+
+-- what an edit owes: the invariant, with the ledger after it, and that the view has grown
+pub record Owes (σ p q r : ℕ) (s t : Store) (L : Ledger) : Type 0 where
+  pub inv : Inv σ p q r t L
+  pub grew : Grew (view s) (view t)
+
+-- where no object is removed: generations stay, and the types of live objects
+pub record Keeps (σ p q r : ℕ) (s t : Store) (L : Ledger) : Type 0 where
+  pub owes : Owes σ p q r s t L
+  pub kinds : (i : ℕ) → Live (view s) i → view t .kind i ≡ view s .kind i
+  pub gens : (i : ℕ) → view t .gen i ≡ view s .gen i
+
+pub owes-trans : (σ p q r : ℕ) (s t u : Store) (K L : Ledger) → Owes σ p q r s t K → Owes σ p q r t u L → Owes σ p q r s u L
+owes-trans σ p q r s t u K L a b = record { inv = b .inv; grew = grew-trans (view s) (view t) (view u) (a .grew) (b .grew) }
+
+pub keeps-trans : (σ p q r : ℕ) (s t u : Store) (K L : Ledger) → Keeps σ p q r s t K → Keeps σ p q r t u L → Keeps σ p q r s u L
+keeps-trans σ p q r s t u K L a b =
+    record {
+      owes = owes-trans σ p q r s t u K L (a .owes) (b .owes);
+      kinds = λ i l. b .kinds i (omega (arith, a .kinds i l)) ∙ a .kinds i l;
+      gens = λ i. b .gens i ∙ a .gens i;
+    }
+
+pub keeps-refl : (σ p q r : ℕ) (s : Store) (L : Ledger) → Inv σ p q r s L → Keeps σ p q r s s L
+keeps-refl σ p q r s L I =
+    record { owes = record { inv = I; grew = grew-same (view s) (view s) (λ i. (refl, refl)) }; kinds = λ i l. refl; gens = λ i. refl }
+
+pub same-keeps : (s t : Store) → SameTree s t → (σ p q r : ℕ) (L : Ledger) → Inv σ p q r s L → Sound t → GoodObjects t → BlocksUsedOnce t → Keeps σ p q r s t L
+same-keeps s t e σ p q r L I h g u =
+    record {
+      owes = record { inv = same-inv s t e σ p q r L I h g u; grew = grew-same (view s) (view t) (same-objects s t e) };
+      kinds = λ i l. same-objects s t e i .0;
+      gens = λ i. same-objects s t e i .1;
+    }
+
+-- ---- the first edit: attributes and times
+pub touch-inv : (σ p q r : ℕ) (s : Store) (L : Ledger) → Inv σ p q r s L → (clock : Time) (o : ℕ) (a : Settable) → Live (view s) o
+    → FitsTime clock → clock .nanoseconds < 1000000000 → FitsSettable a → Allowed a → Keeps σ p q r s (setAttributes s clock o a) L
+touch-inv σ p q r s L I clock o a l c n f g =
+    let h = sound σ p q r s L I in
+    let k = live-in s o l in
+    let t = setAttributes s clock o a in
+    let e = set-attributes-structure s clock o a h k c f in
+    same-keeps s t (e .tree) σ p q r L I (set-attributes s clock o a h k c f .sound)
+    (set-attributes-good s clock o a h k c f n g (live-record σ p q r s L I o l) (I .valid .good-objects))
+    (structure-blocks s t e (I .valid .used-once))
+
+-- ---- no record is written: file data
+pub kept-inv : (σ p q r : ℕ) (s t : Store) (L : Ledger) → Inv σ p q r s L → RecordsKept s t → Keeps σ p q r s t L
+kept-inv σ p q r s t L I k =
+    let e = kept-structure s t k in
+    same-keeps s t (e .tree) σ p q r L I (k .sound) (good-objects-kept s t (k .shape) (k .each-object) (I .valid .good-objects))
+    (structure-blocks s t e (I .valid .used-once))
+
+-- ---- the second edit: a file's size
+pub resize-inv : (σ p q r : ℕ) (s : Store) (L : Ledger) → Inv σ p q r s L → (o size : ℕ) → view s .kind o ≡ 1 → size ≤ 8192
+    → need size - need (sizeOf s o) ≤ freeBlockCount s → Keeps σ p q r s (resize s o size) L
+resize-inv σ p q r s L I o size k small room =
+    let l = live-in s o (omega arith) in
+    let h = sound σ p q r s L I in
+    let v = live-record σ p q r s L I o (omega arith) in
+    let t = resize s o size in
+    let e = resize-tree s o size h l v small room in
+    same-keeps s t e σ p q r L I (resize-object s o size h l v small room .sound)
+    (resize-objects s o size h l v small room (sym (kind-at s o l) ∙ k) (I .valid .good-objects))
+    (resize-blocks s o size h l v small room (I .valid .used-once))
+
+-- ---- the third edit: an object and its name
+module _ (σ p q r : ℕ) (s : Store) (L : Ledger) (I : Inv σ p q r s L) (o n : ℕ) (v : Object) (d : ℕ) (text : List ℕ)
+    (in-objs : o < objects s) (in-names : n < names s) (was-free : objectAt s o .kind ≡ 0) (low : objectAt s o .generation < 4294967295)
+    (was-blank : nameLength s n ≡ 0) (fits : FitsObject v) (live : LiveObject (blocks s) v) (empty : v .size ≡ 0) (good : GoodName text) (below : Below 256 text)
+    (parent : view s .kind d ≡ 2) (absent : entries (names s) (view s) d text ≡ 0) where
+  h : Sound s
+  h = sound σ p q r s L I
+
+  dl : d < objects s
+  dl = live-in s d (omega arith)
+
+  dk : objectAt s d .kind ≡ 2
+  dk = sym (kind-at s d dl) ∙ parent
+
+  t : Store
+  t = createObject s o n v d text
+
+  frame : BothSet s o (withGeneration (objectAt s o .generation) v) n (newName o d text) t
+  unfolding t
+  frame = create-object s o n v d text h in-objs in-names fits (omega (arith, dl, I .valid .shaped .few-objects)) (good .short) below
+
+  pub created-of : Created p q (view s) (view (createObject s o n v d text)) o n (v .kind) d text
+  unfolding t withGeneration
+  created-of =
+      let w = set-obj s t (frame .shape) o (withGeneration (objectAt s o .generation) v) in-objs (frame .object) (frame .other-objects) in
+      record {
+        obj = record { kind = w .kind; gen = w .gen ∙ sym (gen-at s o in-objs); other = w .other };
+        nam = set-name s t (frame .shape) n (newName o d text) in-names (frame .name) (frame .other-names);
+        in-objs = omega (arith, I .objs);
+        in-names = omega (arith, I .nams);
+        was-free = kind-at s o in-objs ∙ was-free;
+        was-blank = ap length (text-at s n in-names) ∙ text-long s (I .valid .good-names) n in-names ∙ was-blank;
+        live = live-kind (blocks s) v live;
+        some = good .some-byte;
+        parent = parent;
+        absent = ap (λ (x : ℕ). entries x (view s) d text) (sym (I .nams)) ∙ absent;
+      }
+
+  was-empty : objectAt s o .size ≡ 0
+  was-empty = go (I .valid .good-objects o in-objs)
+    where
+      go : GoodObject (blocks s) (objectAt s o) → objectAt s o .size ≡ 0
+      go (_⊎_.inl f) = ap (λ (x : Object). x .size) f
+      go (_⊎_.inr x) = absurd (omega (arith, live-kind (blocks s) (objectAt s o) x))
+
+  pub create-inv : Owes σ p q r s (createObject s o n v d text)
+      (record { book = record { handle = handleIn σ (view s) o; kind = v .kind; standing = under (handleIn σ (view s) d) text } ∷ L .book; given = handleIn σ (view s) o ∷ L .given })
+  unfolding t
+  create-inv =
+      let T = tree σ p q r s L I in
+      let e = frame .shape in
+      let dsmall : d < 2 ^ 32 = omega (arith, dl, I .valid .shaped .few-objects) in
+      record {
+        inv =
+            record {
+              valid = valid-by p q t (frame .sound) (e .objects ∙ I .objs) (e .names ∙ I .nams)
+                  (create-object-objects s o n v d text h in-objs in-names fits dsmall (good .short) below live low (I .valid .good-objects))
+                  (create-object-names s o n v d text h in-objs in-names fits dsmall (good .short) below was-free live good dl dk (I .valid .good-names))
+                  (created-tree p q (view s) (view t) o n (v .kind) d text T created-of)
+                  (create-object-blocks s o n v d text h in-objs in-names fits dsmall (good .short) below was-empty empty (I .valid .used-once));
+              bytes = frame .sound .bytes;
+              mark = e .stamp ∙ I .mark;
+              objs = e .objects ∙ I .objs;
+              nams = e .names ∙ I .nams;
+              blks = e .blocks ∙ I .blks;
+              issues = created-issues p q σ (view s) (view t) o n (v .kind) d text (L .given) created-of (omega (arith, gen-at s o in-objs)) (I .issues);
+              agrees = created-agrees p q σ (view s) (view t) o n (v .kind) d text T created-of (L .book) (I .agrees);
+            };
+        grew = record {
+          older = λ i. by-cases (ℕ-discrete i o) (λ x. rw x (omega (arith, created-of .obj .gen))) (λ x. omega (arith, created-of .obj .other i x .1));
+          stays = λ i l x. by-cases (ℕ-discrete i o) (λ y. absurd (omega (arith, ap (view s .kind) y, created-of .was-free))) (λ y. created-of .obj .other i y .0);
+        };
+      }
+
+  pub create-keeps : Keeps σ p q r s (createObject s o n v d text)
+      (record { book = record { handle = handleIn σ (view s) o; kind = v .kind; standing = under (handleIn σ (view s) d) text } ∷ L .book; given = handleIn σ (view s) o ∷ L .given })
+  create-keeps =
+      record {
+        owes = create-inv;
+        kinds = λ i l. by-cases (ℕ-discrete i o) (λ y. absurd (omega (arith, ap (view s .kind) y, created-of .was-free))) (λ y. created-of .obj .other i y .0);
+        gens = λ i. by-cases (ℕ-discrete i o) (λ y. rw y (created-of .obj .gen)) (λ y. created-of .obj .other i y .1);
+      }
+
+-- ---- the fourth edit: an object and its name are removed
+module _ (σ p q r : ℕ) (s : Store) (L : Ledger) (I : Inv σ p q r s L) (n : ℕ) (used : Used (view s) n)
+    (empty : (m : ℕ) → Used (view s) m → view s .dir m ≢ nameAt s n .child) where
+  o : ℕ
+  o = nameAt s n .child
+
+  nl : n < names s
+  nl = used-in s n used
+
+  child : view s .child n ≡ o
+  unfolding o
+  child = child-at s n nl
+
+  alive : Live (view s) o
+  alive = let l = tree σ p q r s L I .flat .ends n used in omega (arith, ap (view s .kind) child)
+
+  ol : o < objects s
+  ol = live-in s o alive
+
+  rec : LiveObject (blocks s) (objectAt s o)
+  rec = live-record σ p q r s L I o alive
+
+  u : Store
+  u = removeObject s n
+
+  gone : BothSet s o (freeObject (objectAt s o .generation + 1)) n freeName u
+  unfolding u o
+  gone = remove-object s n o refl (sound σ p q r s L I) nl ol (rec .generation) (held-range s o rec)
+
+  single : namings q (view s) o ≤ 1
+  single = lone p q (view s) (tree σ p q r s L I .flat) o alive
+
+  pub removed-of : Removed p q (view s) (view (removeObject s n)) (nameAt s n .child) n 0 0
+  unfolding u o
+  removed-of =
+      let w = set-obj s u (gone .shape) o (freeObject (objectAt s o .generation + 1)) ol (gone .object) (gone .other-objects) in
+      record {
+        obj = record { kind = w .kind; gen = omega (arith, w .gen, gen-at s o ol); other = w .other };
+        nam = set-name s u (gone .shape) n freeName nl (gone .name) (gone .other-names);
+        not-root = λ z. not-named q (view s) 0 n (tree σ p q r s L I .flat .never) (omega (arith, nl, I .nams)) (used, child ∙ z);
+        named = (used, child);
+        last = single;
+        empty = empty;
+      }
+
+  pub remove-inv : Owes σ p q r s (removeObject s n)
+      (record { book = strikeLines (handleIn σ (view s) (view s .dir n)) (view s .text n) (L .book); given = L .given })
+  unfolding u o
+  remove-inv =
+      let T = tree σ p q r s L I in
+      let e = gone .shape in
+      let h = sound σ p q r s L I in
+      record {
+        inv =
+            record {
+              valid = valid-by p q u (gone .sound) (e .objects ∙ I .objs) (e .names ∙ I .nams)
+                  (remove-object-objects s n o refl h nl ol (rec .generation) (held-range s o rec) (I .valid .good-objects))
+                  (remove-object-names s n o refl h nl ol (rec .generation) (held-range s o rec)
+                  (λ m l d x. let y : Used (view s) m = omega (arith, ap length (text-at s m l), text-long s (I .valid .good-names) m l) in (
+                    (λ z. d (one-name p q (view s) (T .flat) o m n single (y, child-at s m l ∙ z) (used, child))),
+                    (λ z. empty m y (dir-at s m l ∙ z)),
+                  )) (I .valid .good-names))
+                  (removed-tree p q (view s) (view u) o n 0 0 T removed-of)
+                  (remove-object-blocks s n o refl h nl ol (rec .generation) (held-range s o rec) (I .valid .used-once));
+              bytes = gone .sound .bytes;
+              mark = e .stamp ∙ I .mark;
+              objs = e .objects ∙ I .objs;
+              nams = e .names ∙ I .nams;
+              blks = e .blocks ∙ I .blks;
+              issues = removed-issues p q σ (view s) (view u) o n 0 0 (L .given) T removed-of (I .issues);
+              agrees = removed-agrees p q σ (view s) (view u) o n 0 0 T removed-of (L .book) (I .agrees);
+            };
+        grew = record {
+          older = λ i. by-cases (ℕ-discrete i o) (λ x. rw x (omega (arith, removed-of .obj .gen))) (λ x. omega (arith, removed-of .obj .other i x .1));
+          stays = λ i l x. by-cases (ℕ-discrete i o)
+              (λ y. absurd (omega (arith, ap (view s .gen) y, ap (view u .gen) y, removed-of .obj .gen))) (λ y. removed-of .obj .other i y .0);
+        };
+      }
+
+-- ---- the fifth edit: a name is moved
+module _ (σ p q r : ℕ) (s : Store) (L : Ledger) (I : Inv σ p q r s L) (n d : ℕ) (text : List ℕ) (used : Used (view s) n)
+    (good : GoodName text) (below : Below 256 text) (parent : view s .kind d ≡ 2) (absent : entries (names s) (view s) d text ≡ 0)
+    (clear : (qs : List ℕ) → Path (view s) d qs → Avoids (view s) (nameAt s n .child) d qs) where
+  m : Store
+  m = moveName s n d text
+
+  ml : n < names s
+  ml = used-in s n used
+
+  md : d < objects s
+  md = live-in s d (omega arith)
+
+  mh : Sound s
+  mh = sound σ p q r s L I
+
+  msmall : d < 2 ^ 32
+  msmall = omega (arith, md, I .valid .shaped .few-objects)
+
+  turned : NameSet s n (movedName s n d text) m
+  unfolding m
+  turned = move-name s n d text mh ml msmall (good .short) below
+
+  pub moved-of : Moved p q (view s) (view (moveName s n d text)) n d text
+  unfolding m
+  moved-of =
+      let w = set-name s m (turned .shape) n (movedName s n d text) ml (turned .name) (turned .other-names) in
+      record {
+        kinds = λ i. kind-same s m (turned .shape) i (λ k. ap (λ (x : Object). x .kind) (turned .each-object i k));
+        gens = λ i. gen-same s m (turned .shape) i (λ k. ap (λ (x : Object). x .generation) (turned .each-object i k));
+        nam = record { dir = w .dir; child = w .child ∙ sym (child-at s n ml); text = w .text; other = w .other };
+        used = used;
+        some = good .some-byte;
+        parent = parent;
+        absent = ap (λ (x : ℕ). entries x (view s) d text) (sym (I .nams)) ∙ absent;
+        clear = λ qs a. subst (λ (x : ℕ). Avoids (view s) x d qs) (sym (child-at s n ml)) (clear qs a);
+      }
+
+  pub move-inv : Owes σ p q r s (moveName s n d text)
+      (record { book = moveLines (handleIn σ (view s) (view s .dir n)) (view s .text n) (handleIn σ (view s) d) text (L .book); given = L .given })
+  unfolding m
+  move-inv =
+      let T = tree σ p q r s L I in
+      let e = turned .shape in
+      let c = child-at s n ml in
+      let live = T .flat .ends n used in
+      let cl : Live (view s) (nameAt s n .child) = omega (arith, ap (view s .kind) c) in
+      let cb = live-in s (nameAt s n .child) cl in
+      record {
+        inv =
+            record {
+              valid = valid-by p q m (turned .sound) (e .objects ∙ I .objs) (e .names ∙ I .nams)
+                  (move-name-objects s n d text mh ml msmall (good .short) below (I .valid .good-objects))
+                  (move-name-names s n d text mh ml msmall (good .short) below good md (sym (kind-at s d md) ∙ parent) cb (omega (arith, kind-at s (nameAt s n .child) cb)) (I .valid .good-names))
+                  (moved-tree p q (view s) (view m) n d text T moved-of)
+                  (move-name-blocks s n d text mh ml msmall (good .short) below (I .valid .used-once));
+              bytes = turned .sound .bytes;
+              mark = e .stamp ∙ I .mark;
+              objs = e .objects ∙ I .objs;
+              nams = e .names ∙ I .nams;
+              blks = e .blocks ∙ I .blks;
+              issues = moved-issues p q σ (view s) (view m) n d text (L .given) moved-of (I .issues);
+              agrees = moved-agrees p q σ (view s) (view m) n d text T moved-of (L .book) (I .agrees);
+            };
+        grew = grew-same (view s) (view m) (λ i. (moved-of .kinds i, moved-of .gens i));
+      }
+
+  pub move-keeps : Keeps σ p q r s (moveName s n d text)
+      (record { book = moveLines (handleIn σ (view s) (view s .dir n)) (view s .text n) (handleIn σ (view s) d) text (L .book); given = L .given })
+  move-keeps = record { owes = move-inv; kinds = λ i l. moved-of .kinds i; gens = λ i. moved-of .gens i }
