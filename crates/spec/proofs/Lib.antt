@@ -3,9 +3,11 @@ pub mod BlockLists
 pub mod Bytes
 pub mod ClearBlocks
 pub mod Count
+pub mod FileBytes
 pub mod Formatted
 pub mod GoodKept
 pub mod Kept
+pub mod Listing
 pub mod Names
 pub mod Range
 pub mod RecordRange
