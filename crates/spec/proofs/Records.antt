@@ -63,14 +63,14 @@ half-read b at (suc n) k h =
     (eq-or-lt-of-le (le-of-suc-le-suc h))
 
 -- ---- an object is read off its own 80 bytes
-halves-part : (b : List ℕ) (at n i k : ℕ) → i + 2 * k ≤ n → halvesAt (part b at n) i k ≡ halvesAt b (at + i) k
+pub halves-part : (b : List ℕ) (at n i k : ℕ) → i + 2 * k ≤ n → halvesAt (part b at n) i k ≡ halvesAt b (at + i) k
 unfolding halvesAt
 halves-part b at n i zero h = refl
 halves-part b at n i (suc k) h =
     ap₂ (λ (l : List ℕ) (x : ℕ). l ++ (x ∷ [])) (halves-part b at n i k (omega arith))
     (be-part b at n (i + 2 * k) 2 (omega arith) ∙ ap (λ (q : ℕ). beAt b q 2) (omega arith))
 
-object-part : (b : List ℕ) (at : ℕ) → objectFrom b at ≡ objectFrom (part b at 80) 0
+pub object-part : (b : List ℕ) (at : ℕ) → objectFrom b at ≡ objectFrom (part b at 80) 0
 unfolding objectFrom timeAt
 object-part b at = sym (cc (
   be-part b at 80 0 4 (lit≤ tt),
@@ -125,7 +125,7 @@ blocks-again v f =
     (part-right (headBytes v ++ timesBytes v) (halvesBytes 16 (v .blocks)) 48 0 32 refl ∙ part-whole (halvesBytes 16 (v .blocks)) 32 (halves-length 16 (v .blocks)))
     ∙ halves-again 16 (v .blocks) 16 (lit≤ tt) (omega arith) (f .halves) ∙ take-all 16 (v .blocks) (omega arith)
 
-object-again : (v : Object) → FitsObject v → objectFrom (objectBytes v) 0 ≡ v
+pub object-again : (v : Object) → FitsObject v → objectFrom (objectBytes v) 0 ≡ v
 unfolding objectFrom timeAt objectBytes headBytes timesBytes timeBytes bytesOf halvesBytes beAt part
 object-again v f =
     λ i. record {
