@@ -137,9 +137,12 @@ module _ (σ p q r : ℕ) (s : Store) (L : Ledger) (I : Inv σ p q r s L) where
           true-false (sym t ∙ not-ok call reply (Call.Lookup place) _ A n (showing-fails s h n) (b .0) (b .1))
       go (passed x) e A =
           let o = x .1 in
-          let l = look-facts h text x e in
-          (o, l, ap foundHandle (A .is) ∙ found-is (A .xid) (A .procedure) (stamp s) o (objectAt s o .generation) (attributes s o) (attributes s (x .0))
-          ∙ handle-seen σ p q r s L I o (live-in s o l))
+          let l = look-facts h text x e in (
+            o,
+            l,
+            ap foundHandle (A .is) ∙ found-is (A .xid) (A .procedure) (stamp s) o (objectAt s o .generation) (attributes s o) (attributes s (x .0))
+                ∙ handle-seen σ p q r s L I o (live-in s o l),
+          )
 
   -- an OK reply to a call that asks: no check before it refused
   pub asks-of : (x : Request) (a : Arguments) → isOk (replyTo s x) ≡ true → asked (x .call) ≡ some a → Asks x a

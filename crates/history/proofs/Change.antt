@@ -9,7 +9,6 @@ use native.Mathlib.Omega.{arith}
 use lib.ListN.{length, drop, length-drop}
 use Rattle.spec.specs.Count.{bit, sum}
 use Rattle.spec.proofs.Count.{sum-upd, sum-at, sum-zero}
-
 use Rattle.history.proofs.View.{View, Live, Used, Names, At, names?, at?, namings, entries, Path, Avoids, SameName, SetName, SetObj, namings-set, entries-set, named-by, not-named, named-once}
 use Rattle.history.proofs.Tree.{Tree}
 

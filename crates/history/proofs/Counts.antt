@@ -199,9 +199,9 @@ module _ (σ p q r : ℕ) (s : Store) (L : Ledger) (I : Inv σ p q r s L) where
       let G : ℕ → ℕ = λ i. bit (eqb (view s .kind i) 1) * need (sizeOf s i) in
       let a = places-total s (L .book) in
       let b = total-ext (λ l. bit (eqb (l .kind) 1) * need (sizeOf s (objectIn (l .handle)))) (λ l. G (objectIn (l .handle))) (L .book)
-          (all-in (L .book) (λ l m. let (o, v, e, f) = lined-current σ p q r s L I (l .handle) (l .kind) (l, m, refl, refl) in
-          let w : objectIn (l .handle) ≡ o = ap objectIn e ∙ handle-object σ o (view s .gen o) (omega (arith, T .flat .past o v, T .flat .few)) in
-          ap (λ (k : ℕ). bit (eqb k 1) * need (sizeOf s (objectIn (l .handle)))) (sym f ∙ ap (view s .kind) (sym w)))) in
+      (all-in (L .book) (λ l m. let (o, v, e, f) = lined-current σ p q r s L I (l .handle) (l .kind) (l, m, refl, refl) in
+      let w : objectIn (l .handle) ≡ o = ap objectIn e ∙ handle-object σ o (view s .gen o) (omega (arith, T .flat .past o v, T .flat .few)) in
+      ap (λ (k : ℕ). bit (eqb k 1) * need (sizeOf s (objectIn (l .handle)))) (sym f ∙ ap (view s .kind) (sym w)))) in
       let c = book-sum σ p q r s L I G in
       let d = sum-ext p (λ i. ind (live? (view s) i) * G i) (λ i. length (held s i)) (λ i l. file-blocks i (omega (arith, I .objs))) in
       let e = uses-total s in-range in

@@ -140,8 +140,8 @@ module _ (σ p q r : ℕ) (s : Store) (L : Ledger) (I : Inv σ p q r s L) (c : C
         let step = new-keeps σ p q r s L I c clock 1 o n d text a (_⊎_.inl refl) room f ok good (cut-below (place .name)) k gap (λ _. refl) enough in
         let same = new-handle σ p q r s L I c clock 1 o n d text a (_⊎_.inl refl) room f ok good (cut-below (place .name)) k gap (λ _. refl) enough in
         let book : withLine σ s L o 1 d text ≡ note call reply L =
-            sym (note-created (newEdit s c 1 o n d text a) o d A ∙ ap (λ (x : List ℕ). add x 1 h text L) same
-            ∙ line-added σ p q r s L I c clock h text d w dk (cut-below (place .directory)) o 1 gap) in
+        sym (note-created (newEdit s c 1 o n d text a) o d A ∙ ap (λ (x : List ℕ). add x 1 h text L) same
+        ∙ line-added σ p q r s L I c clock h text d w dk (cut-below (place .directory)) o 1 gap) in
         let alive = new-alive σ p q r s L I c clock 1 o n d text a (_⊎_.inl refl) room f ok good (cut-below (place .name)) k gap (λ _. refl) enough in
         record {
           owes = subst (Owes σ p q r s (newEdit s c 1 o n d text a)) book (step .owes);
@@ -156,7 +156,7 @@ module _ (σ p q r : ℕ) (s : Store) (L : Ledger) (I : Inv σ p q r s L) (c : C
         let k : view s .kind o ≡ 1 = kind-at s o (live-in s o l) ∙ eqb-true (objectAt s o .kind) 1 reg in
         let step = existing-keeps σ p q r s L I c clock o a k (ok .size) room in
         let book : L ≡ note call reply L =
-            sym (note-created (existingEdit s c o (a .size)) o d A ∙ line-there σ p q r s L I c clock h text d w dk (cut-below (place .directory)) _ 1 m at) in
+        sym (note-created (existingEdit s c o (a .size)) o d A ∙ line-there σ p q r s L I c clock h text d w dk (cut-below (place .directory)) _ 1 m at) in
         record {
           owes = subst (Owes σ p q r s (existingEdit s c o (a .size))) book (step .owes);
           shown = λ _. shown-handle (Call.Create place manner) (existingEdit s c o (a .size)) L (step .owes .inv) o d (omega (arith, step .kinds o l)) A;
@@ -228,10 +228,10 @@ module _ (σ p q r : ℕ) (s : Store) (L : Ledger) (I : Inv σ p q r s L) (c : C
             let step = new-keeps σ p q r s L I c clock 2 (w .0) (w .1) d name a (_⊎_.inr refl) room fits (allowed a (no .0)) good (cut-below (place .name)) k gap file enough in
             let same = new-handle σ p q r s L I c clock 2 (w .0) (w .1) d name a (_⊎_.inr refl) room fits (allowed a (no .0)) good (cut-below (place .name)) k gap file enough in
             let B : Answer call reply (Call.Mkdir place a) (createdIn s (newEdit s c 2 (w .0) (w .1) d name a) d (w .0) .result) =
-                subst (λ (v : ℕ × ℕ × ℕ). Answer call reply (Call.Mkdir place a) (createdIn s (newEdit s c 2 (v .1) (v .2) (v .0) name a) (v .0) (v .1) .result)) (sym is) A in
+            subst (λ (v : ℕ × ℕ × ℕ). Answer call reply (Call.Mkdir place a) (createdIn s (newEdit s c 2 (v .1) (v .2) (v .0) name a) (v .0) (v .1) .result)) (sym is) A in
             let made = note-ok call reply (Call.Mkdir place a) _ B (created-some _ _ _) refl L
-                ∙ ap (λ (v : List ℕ). add v 2 g name L) (made-handle (Call.Mkdir place a) (newEdit s c 2 (w .0) (w .1) d name a) (w .0) d B ∙ same)
-                ∙ line-added σ p q r s L I c clock g name d t dk (cut-below (place .directory)) (w .0) 2 gap in
+            ∙ ap (λ (v : List ℕ). add v 2 g name L) (made-handle (Call.Mkdir place a) (newEdit s c 2 (w .0) (w .1) d name a) (w .0) d B ∙ same)
+            ∙ line-added σ p q r s L I c clock g name d t dk (cut-below (place .directory)) (w .0) 2 gap in
             let alive = new-alive σ p q r s L I c clock 2 (w .0) (w .1) d name a (_⊎_.inr refl) room fits (allowed a (no .0)) good (cut-below (place .name)) k gap file enough in
             subst (λ (v : ℕ × ℕ × ℕ). Made σ p q r s (newEdit s c 2 (v .1) (v .2) (v .0) name a) (note call reply L) reply) is
             (record {

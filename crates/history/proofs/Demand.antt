@@ -94,8 +94,7 @@ asked-for buffer σ p q r clock a b e =
     (λ v.
     let x = and-both (leb 1 p && leb p 64 && leb q 128) (leb r 1024) u in
     let y = and-both (leb 1 p && leb p 64) (leb q 128) (x .0) in
-    let z = and-both (leb 1 p) (leb p 64) (y .0) in
-    (
+    let z = and-both (leb 1 p) (leb p 64) (y .0) in (
       record {
         mark-fits = a;
         some-object = leb-true 1 p (z .0);

@@ -208,9 +208,9 @@ module _ (σ p q r : ℕ) (s : Store) (L : Ledger) (I : Inv σ p q r s L) where
       let F : Line → ℕ = λ l. f (objectIn (l .handle)) in
       let whole = ap (total F) (A .lines) ∙ total-append F (map (lineOf σ v) (A .order)) (rootLine σ v ∷ []) in
       let each = total-map F (lineOf σ v) (A .order)
-          ∙ total-ext (λ n. F (lineOf σ v n)) (λ n. f (v .child n)) (A .order)
-          (all-times (A .order) (λ n h. ap f (handle-object σ (v .child n) (v .gen (v .child n)) (small (v .child n) (T .flat .ends n (order-used n h))))))
-          ∙ total-times q (λ n. f (v .child n)) (A .order) order-below in
+      ∙ total-ext (λ n. F (lineOf σ v n)) (λ n. f (v .child n)) (A .order)
+      (all-times (A .order) (λ n h. ap f (handle-object σ (v .child n) (v .gen (v .child n)) (small (v .child n) (T .flat .ends n (order-used n h))))))
+      ∙ total-times q (λ n. f (v .child n)) (A .order) order-below in
       let top : F (rootLine σ v) ≡ f 0 = ap f (handle-object σ 0 (v .gen 0) (omega arith)) in
       -- by the object that a record names
       let spread = sum-ext q (λ n. times n (A .order) * f (v .child n)) (λ n. sum p (λ i. ind (names? v n i) * f i)) (λ n l. spread-one n) in

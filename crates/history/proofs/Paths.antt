@@ -39,8 +39,7 @@ module _ (σ p q r : ℕ) (s : Store) (L : Ledger) (I : Inv σ p q r s L) where
   one-path : (o : ℕ) → Live (view s) o → (ns : List ℕ) × Path (view s) o ns × ((ms : List ℕ) → Path (view s) o ms → ms ≡ ns) × (suc (length ns) ≤ liveObjects s)
   unfolding T
   one-path o l =
-      let w = T .leads o l in
-      (
+      let w = T .leads o l in (
         w .0,
         w .1,
         (λ ms a. path-same p q (view s) T ms (w .0) o (lone p q (view s) (T .flat) o l) a (w .1)),
@@ -100,8 +99,7 @@ module _ (σ p q r : ℕ) (s : Store) (L : Ledger) (I : Inv σ p q r s L) where
   unfolding line
   book-path h kind x =
       let (o, v, e, f) = lined-current σ p q r s L I h kind x in
-      let (ns, a, u, n) = one-path o v in
-      (
+      let (ns, a, u, n) = one-path o v in (
         map line ns,
         subst (λ (g : List ℕ). BookPath (L .book) g (map line ns)) (sym e) (lines-of ns o a),
         (λ ks w. let (ms, b, c) = of-lines ks o v (subst (λ (g : List ℕ). BookPath (L .book) g ks) e w) in b ∙ ap (map line) (u ms c)),

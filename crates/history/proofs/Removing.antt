@@ -206,7 +206,7 @@ module _ (σ p q r : ℕ) (s : Store) (L : Ledger) (I : Inv σ p q r s L) (c : C
       let hd : handleIn σ (view s) (view s .dir n) ≡ h = ap (handleIn σ (view s)) (at .1) ∙ sym (directory-handle σ p q r s L I c clock h text d w dk hb) in
       let he : handleIn σ (view s) e ≡ g = sym (directory-handle σ p q r s L I c clock g title e o ek gb) in
       let book : M ≡ record { book = moveLines h text g title (L .book); given = L .given } =
-          λ j. record { book = moveLines (hd j) (at .2 j) (he j) title (L .book); given = L .given } in
+      λ j. record { book = moveLines (hd j) (at .2 j) (he j) title (L .book); given = L .given } in
       subst (λ (y : ℕ × ℕ × ℕ). Owes σ p q r s (renameEdit s c (y .0) (y .1) (y .2) title) (record { book = moveLines h text g title (L .book); given = L .given })) is
       (subst (Owes σ p q r s (touchDirectory t₃ c e)) book (four .owes))
 

@@ -82,9 +82,9 @@ handle-at reply xid ws rest stamp o g at b e =
     let hs = stamp ∷ o ∷ g ∷ [] in
     let six = xid ∷ 1 ∷ 0 ∷ 0 ∷ 0 ∷ 0 ∷ [] in
     let n : beAt reply at 4 ≡ 12 =
-        ap (λ (x : ℕ). beAt reply x 4) e
-        ∙ word-of reply xid (ws ++ (12 ∷ hs)) rest b (length ws) (omega (arith, length-append ws (12 ∷ hs))) (omega (arith, middle ws 12 hs))
-        ∙ middle ws 12 hs in
+    ap (λ (x : ℕ). beAt reply x 4) e
+    ∙ word-of reply xid (ws ++ (12 ∷ hs)) rest b (length ws) (omega (arith, length-append ws (12 ∷ hs))) (omega (arith, middle ws 12 hs))
+    ∙ middle ws 12 hs in
     let split : words (xid ∷ 1 ∷ 0 ∷ 0 ∷ 0 ∷ 0 ∷ ws ++ (12 ∷ hs)) ≡ words ((six ++ (ws ++ (12 ∷ []))) ++ hs) = ap (λ (x : List ℕ). words (six ++ x)) (sym (append-assoc ws (12 ∷ []) hs)) in
     let l : length (six ++ (ws ++ (12 ∷ []))) ≡ 7 + length ws = omega (arith, length-append ws (12 ∷ [])) in
     ap (λ (x : ℕ). part reply (at + 4) x) n

@@ -80,7 +80,7 @@ module _ (σ p q r : ℕ) (s : Store) (L : Ledger) (I : Inv σ p q r s L) (c : C
       true-false (sym (ap (λ (b : Bool). b && isDirectory s i) t ∙ ap (isDirectory s) is ∙ true-directory s o (sym (kind-at s o (w .below)) ∙ k)) ∙ d₃)) in
       let m = ltb-false (freeBlockCount s) (need (sizeSet (a .size) (sizeOf s i)) - need (sizeOf s i)) d₄ in
       let room : need (sizeSet (a .size) (sizeOf s o)) - need (sizeOf s o) ≤ freeBlockCount s =
-          subst (λ (j : ℕ). need (sizeSet (a .size) (sizeOf s j)) - need (sizeOf s j) ≤ freeBlockCount s) is m in
+      subst (λ (j : ℕ). need (sizeSet (a .size) (sizeOf s j)) - need (sizeOf s j) ≤ freeBlockCount s) is m in
       let first = resize-to σ p q r s L I o (a .size) file (ok .size) room in
       keeps-trans σ p q r s (resizeTo s o (a .size)) _ L L first
       (touch-inv σ p q r (resizeTo s o (a .size)) L (first .owes .inv) (c .clock) o (sizeTouches a) (omega (arith, first .kinds o l)) (clock .fits) (clock .good)
@@ -132,15 +132,15 @@ module _ (σ p q r : ℕ) (s : Store) (L : Ledger) (I : Inv σ p q r s L) (c : C
       let size = grown s o offset (length sent) in
       let small : size ≤ 8192 = omega arith in
       let room : need size - need (sizeOf s o) ≤ freeBlockCount s =
-          subst (λ (y : ℕ). need (grown s o offset y) - need (sizeOf s o) ≤ freeBlockCount s) (sym n)
-          (subst (λ (j : ℕ). need (grown s j offset (min count 4096)) - need (sizeOf s j) ≤ freeBlockCount s) is m) in
+      subst (λ (y : ℕ). need (grown s o offset y) - need (sizeOf s o) ≤ freeBlockCount s) (sym n)
+      (subst (λ (j : ℕ). need (grown s j offset (min count 4096)) - need (sizeOf s j) ≤ freeBlockCount s) is m) in
       let first = resize-inv σ p q r s L I o size k small room in
       let t₁ = resize s o size in
       let J = first .owes .inv in
       let l₁ : Live (view t₁) o = omega (arith, first .kinds o l) in
       let fill = resize-size s o size (sound σ p q r s L I) (w .below) (live-record σ p q r s L I o l) small room in
       let second = kept-inv σ p q r t₁ (writeFile t₁ o offset sent) L J
-          (write-file t₁ o offset sent (sound σ p q r t₁ L J) (live-record σ p q r t₁ L J o l₁) (below-take 256 bytes (min count 4096) (lit< tt) b) (omega arith)) in
+      (write-file t₁ o offset sent (sound σ p q r t₁ L J) (live-record σ p q r t₁ L J o l₁) (below-take 256 bytes (min count 4096) (lit< tt) b) (omega arith)) in
       let third = touch-inv σ p q r (writeFile t₁ o offset sent) L (second .owes .inv) (c .clock) o mtimeAndCtime (omega (arith, second .kinds o l₁)) (clock .fits) (clock .good) mtime-and-ctime-fits mtime-and-ctime-allowed in
       subst (λ (z : Bool). Keeps σ p q r s (cond z s (setAttributes (writeFile (resize s o (grown s o offset (length sent))) o offset sent) (c .clock) o mtimeAndCtime)) L) (sym t)
       (keeps-trans σ p q r s t₁ _ L L first (keeps-trans σ p q r t₁ (writeFile t₁ o offset sent) _ L L second third)))

@@ -44,3 +44,5 @@ pub mod Setting
 pub mod Edges
 pub mod Zeros
 pub mod Arguments
+pub mod Answers
+pub mod Damaged

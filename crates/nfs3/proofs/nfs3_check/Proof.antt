@@ -21,13 +21,13 @@ enum-told-2 c = search needs
 
 -- src/lib.rt:10:1
 returns : tie.Need-returns
-returns c = 
+returns c =
     let s = c .before .before .before .before .before .before .args .store .now in
     answer-bad s (sym (c .enum-told .given .1) ∙ c .before .before .check-store .ensures .is)
 
 -- src/lib.rt:10:1
 returns-2 : tie.Need-returns-2
-returns-2 c = 
+returns-2 c =
     let s = c .before .before .before .before .before .before .args .store .now in
     answer-good s _ (sym (c .enum-told2 .given .1) ∙ c .before .before .check-store .ensures .is)
 
