@@ -44,7 +44,7 @@ use Rattle.history.proofs.Issue.{Issues}
 use Rattle.history.proofs.Replies.{Begins, begins, word-of, long-of, ok-is, status-is, answered-ok}
 use Rattle.history.proofs.Seen.{view, kind-at, gen-at, live-in}
 use Rattle.history.proofs.Bridge.{size-small}
-use Rattle.history.proofs.Inv.{Inv, tree, live-record}
+use Rattle.history.proofs.Inv.{Inv, tree}
 use Rattle.history.proofs.Lines.{lined-current}
 use Rattle.history.proofs.Counts.{free-blocks, available-objects}
 use Rattle.history.proofs.Later.{small-live}

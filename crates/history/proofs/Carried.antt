@@ -30,6 +30,7 @@ use Rattle.spec.specs.Serve.{Outcome}
 use Rattle.spec.proofs.Count.{by-bool, true-false, lowest-passes}
 use Rattle.history.proofs.Sum.{holds, holds-true}
 use Rattle.spec.proofs.Error.{lookup-store}
+use Rattle.spec.proofs.Passed.{Reached, bind-passed, directory-passed}
 use Rattle.spec.proofs.Valid.{passes-valid}
 use Rattle.history.specs.Book.{Ledger, asked, foundHandle, madeHandle, isOk, noted, note}
 use Rattle.history.specs.Run.{Request, Lent, outcome, replyTo}
@@ -41,7 +42,7 @@ use Rattle.history.proofs.Agree.{handleIn}
 use Rattle.history.proofs.Issue.{Current}
 use Rattle.history.proofs.Seen.{view, kind-at, dir-at, child-at, live-in, parent-same}
 use Rattle.history.proofs.Inv.{Inv, Owes, tree}
-use Rattle.history.proofs.Checks.{Reached, reached-directory, passed-bind, passed-present, found-name, Sure, sure-bind, sure-passed, sure-present, sure-directory, sure-name}
+use Rattle.history.proofs.Checks.{found-name, Sure, sure-bind, sure-passed, sure-directory, sure-name}
 use Rattle.history.proofs.Replies.{found-is}
 use Rattle.history.proofs.Asked.{Acted, acted, Idle, served}
 use Rattle.spec.proofs.ArgumentRange.{FitsArguments}
@@ -50,7 +51,6 @@ use Rattle.history.proofs.Noted.{Answer, showing-fails, not-ok}
 use Rattle.history.proofs.Making.{handle-seen}
 use Rattle.history.proofs.Create.{Made, create-made, mkdir-made}
 use Rattle.history.proofs.Next.{answer-to, clocked}
-use Rattle.history.proofs.Sizes.{Clocked}
 
 module _ (σ p q r : ℕ) (s : Store) (L : Ledger) (I : Inv σ p q r s L) where
   -- a live directory's parent is live
@@ -110,13 +110,13 @@ module _ (σ p q r : ℕ) (s : Store) (L : Ledger) (I : Inv σ p q r s L) where
   look-facts : (h text : List ℕ) (x : ℕ × ℕ) → checkLookup s h text ≡ passed x → Live (view s) (x .1)
   unfolding checkLookup
   look-facts h text x e =
-      let (d, e₁, f₁) = passed-bind (reachDirectory s h) _ x e in
-      let (u, e₂, f₂) = passed-bind (checkName text) _ x f₁ in
-      let (o, e₃, f₃) = passed-bind (lookIn s d text) _ x f₂ in
+      bind-passed (reachDirectory s h) _ x e (λ d e₁ f₁.
+      bind-passed (checkName text) _ x f₁ (λ u e₂ f₂.
+      bind-passed (lookIn s d text) _ x f₂ (λ o e₃ f₃.
       let is : (d, o) ≡ x = cc in
-      let (w, k) = reached-directory s h d e₁ in
+      let (w, k) = directory-passed s h d e₁ in
       let l : Live (view s) d = omega (arith, kind-at s d (w .below)) in
-      subst (Live (view s)) (ap (λ (y : ℕ × ℕ). y .1) is) (look-live d text o l e₃)
+      subst (Live (view s)) (ap (λ (y : ℕ × ℕ). y .1) is) (look-live d text o l e₃))))
 
   lookup-shown : (call reply : List ℕ) (place : NameIn) → Answer call reply (Call.Lookup place) (Spec.lookup s (cut call (place .directory)) (cut call (place .name)) .result)
       → isOk reply ≡ true → Current σ (view s) (foundHandle reply)

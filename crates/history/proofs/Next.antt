@@ -25,7 +25,7 @@ use Rattle.spec.proofs.Error.{getattr-store, lookup-store, access-store, read-s
 use Rattle.spec.proofs.Formatted.{FormatAsked, formatted-stamp, formatted-objects, formatted-names, formatted-blocks, formatted-below, formatted-root, formatted-free, formatted-name, formatted-valid}
 use Rattle.spec.proofs.Range.{Below}
 use Rattle.spec.proofs.RecordRange.{below-part}
-use Rattle.spec.proofs.Records.{FitsTime}
+use Rattle.spec.proofs.GoodRecords.{GoodClock}
 use Rattle.spec.proofs.Valid.{FreeName, passes-valid}
 use Rattle.history.specs.Book.{Ledger, asked, noted, note, firstLedger, handleBytes, Line, Standing, asRoot}
 use Rattle.history.specs.Run.{Request, Lent, AllLent, outcome, replyTo, State, step, run}
@@ -41,7 +41,7 @@ use Rattle.history.proofs.Asked.{Acted, acted, Idle, served}
 use Rattle.spec.proofs.ArgumentRange.{FitsArguments}
 use Rattle.history.proofs.Ranges.{asked-fits}
 use Rattle.history.proofs.Noted.{Answer, note-quiet}
-use Rattle.history.proofs.Sizes.{Clocked, setattr-keeps, write-keeps}
+use Rattle.history.proofs.Sizes.{setattr-keeps, write-keeps}
 use Rattle.history.proofs.Create.{Made, create-made, mkdir-made}
 use Rattle.history.proofs.Removing.{remove-owes, rmdir-owes, rename-owes}
 
@@ -53,7 +53,7 @@ module _ (σ p q r : ℕ) (s : Store) (L : Ledger) (I : Inv σ p q r s L) where
   quiet : (t : Store) (M : Ledger) → t ≡ s → M ≡ L → Owes σ p q r s t M
   quiet t M e f = subst (λ (u : Store). Owes σ p q r s u M) (sym e) (subst (Owes σ p q r s s) (sym f) still)
 
-  module _ (c : Context) (clock : Clocked c) (call reply : List ℕ) (bytes : Below 256 call) where
+  module _ (c : Context) (clock : GoodClock (c .clock)) (call reply : List ℕ) (bytes : Below 256 call) where
     cut-below : (x : Part) → Below 256 (cut call x)
     cut-below x = below-part 256 call (x .start) (x .length) (lit< tt) bytes
 
@@ -87,8 +87,8 @@ module _ (σ p q r : ℕ) (s : Store) (L : Ledger) (I : Inv σ p q r s L) where
       let z = acted s x a k (passes-valid s (I .valid)) in
       record { reads = k .reads; xid = z .xid; procedure = z .procedure; is = z .reply }
 
-  pub clocked : (x : Request) (a : Arguments) → Lent x → Asks x a → Clocked (x .context)
-  clocked x a l k = record { fits = record { seconds = l .seconds; nanoseconds = omega (arith, k .clock) }; good = k .clock }
+  pub clocked : (x : Request) (a : Arguments) → Lent x → Asks x a → GoodClock (x .context .clock)
+  clocked x a l k = record { seconds = l .seconds; nanoseconds = k .clock }
 
   -- every request
   pub next : (x : Request) → Lent x → Owes σ p q r s (outcome s x .store) (note (x .call) (replyTo s x) L)
