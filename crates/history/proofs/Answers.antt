@@ -1,54 +1,44 @@
 -- What GETATTR and FSSTAT answer, by the book. Assumes nothing.
-use mathlib.Core.Path.{_≡_, refl, sym, ap, ap₂, _∙_, subst}
-use mathlib.Core.Logic.{_≢_, _⊎_, by-cases}
-use mathlib.Core.Bool.{Bool, true, false, _&&_, not, cond}
-use mathlib.Core.Option.{Option, some, none}
+use mathlib.Core.Path.{_≡_, refl, sym, ap, _∙_}
+use mathlib.Core.Bool.{Bool, true, false, cond}
+use mathlib.Core.Option.{some}
 use mathlib.Core.List.{List, [], _∷_, _++_, append-nil}
-use Prim.Native.Nat.{ℕ, zero, suc, _+_, _*_, _-_, _/_, _%_, _≤_, _<_}
+use Prim.Native.Nat.{ℕ, _+_, _*_, _-_, _/_, _%_, _≤_, _<_}
 use native.Mathlib.Omega.{arith}
 use lib.Dec.{eqb, leb, lit<}
-use lib.ListN.{length, getD}
+use lib.ListN.{length}
 use borrow.Author.Tests.{eq-eqb, ne-eqb, lt-leb}
-use Rattle.kinds.specs.declared.object.Context.{Context}
-use Rattle.kinds.specs.declared.object.Attributes.{Attributes}
 use Rattle.kinds.specs.declared.call.Part.{Part}
-use Rattle.kinds.specs.declared.call.Arguments.{Arguments}
 use Rattle.kinds.specs.declared.call.Arguments.the-variants as Call
 use Rattle.spec.specs.Bytes.{beAt, words}
 use Rattle.spec.specs.Checked.{Checked, refused, passed}
-use Rattle.spec.specs.Count.{count}
 use Rattle.spec.specs.Handles.{reach, attributes, shownSize}
-use Rattle.spec.specs.Image.{Store, stamp, objects, names, blocks, objectAt}
+use Rattle.spec.specs.Image.{Store, stamp, objects, blocks, objectAt}
 use Rattle.spec.specs.Procedures.{cut, act}
 use Rattle.spec.specs.Procedures.Attributes.{getattr}
 use Rattle.spec.specs.Procedures.Volume.{fsstat}
 use Rattle.spec.specs.Replies.{resultBytes, fattr3, postOp, hyper}
-use Rattle.spec.specs.Results.{Result, Done, null, dead, gotAttributes, gotRoom, settle, unchanged, failShowing}
+use Rattle.spec.specs.Results.{Result, Done, dead, gotAttributes, gotRoom, settle, unchanged, failShowing}
 use Rattle.spec.specs.Room.{isLive, isDirectory, isFreeBlock, isAvailable, sizeOf, freeBlockCount, availableCount}
 use Rattle.spec.specs.Rpc.{accepted}
-use Rattle.spec.proofs.Bytes.{lt-or-le}
 use Rattle.spec.proofs.Count.{by-bool, count-bound}
 use Rattle.spec.proofs.Error.{statusOf}
-use Rattle.spec.proofs.Range.{Below, be-below}
+use Rattle.spec.proofs.Range.{be-below}
 use Rattle.spec.proofs.RecordRange.{objectAt-fits}
-use Rattle.spec.proofs.Valid.{LiveObject, true-live, live-size}
+use Rattle.spec.proofs.Valid.{true-live}
 use Rattle.history.specs.Book.{Ledger, handleBytes, statusIn, isOk}
 use Rattle.history.specs.Run.{Request, replyTo}
 use Rattle.history.specs.Statement as Shown
-use Rattle.history.specs.Statement.{HasLine, Asks, objectIn, shownKind, shownFree, shownAvailable, placesIn, blocksLeft, objectsLeft, spentRecords}
-use Rattle.history.proofs.View.{View, Live}
-use Rattle.history.proofs.Tree.{Tree}
+use Rattle.history.specs.Statement.{HasLine, Asks, objectIn, shownKind, shownFree, shownAvailable}
+use Rattle.history.proofs.View.{Live}
 use Rattle.history.proofs.Handles.{handle-length, handle-stamp, handle-object, handle-generation}
-use Rattle.history.proofs.Agree.{handleIn}
-use Rattle.history.proofs.Issue.{Issues}
-use Rattle.history.proofs.Replies.{Begins, begins, word-of, long-of, ok-is, status-is, answered-ok}
+use Rattle.history.proofs.Replies.{Begins, begins, word-of, long-of, ok-is, status-is}
 use Rattle.history.proofs.Seen.{view, kind-at, gen-at, live-in}
 use Rattle.history.proofs.Bridge.{size-small}
 use Rattle.history.proofs.Inv.{Inv, tree}
 use Rattle.history.proofs.Lines.{lined-current}
-use Rattle.history.proofs.Counts.{free-blocks, available-objects}
 use Rattle.history.proofs.Later.{small-live}
-use Rattle.history.proofs.Noted.{Answer, dead-fails}
+use Rattle.history.proofs.Noted.{dead-fails}
 use Rattle.history.proofs.Next.{answer-to}
 
 module _ (σ p q r : ℕ) (s : Store) (L : Ledger) (I : Inv σ p q r s L) where
@@ -82,7 +72,7 @@ module _ (σ p q r : ℕ) (s : Store) (L : Ledger) (I : Inv σ p q r s L) where
         let k = live-in s o v in
         let a : isLive s (beAt handle 4 4) ≡ true = ap (isLive s) object ∙ true-live s o (omega (arith, kind-at s o k)) in
         let b : eqb (beAt handle 8 4) (objectAt s (beAt handle 4 4) .generation) ≡ true =
-            eq-eqb (beAt handle 8 4) (objectAt s (beAt handle 4 4) .generation) (handle-generation σ o g m ∙ e ∙ gen-at s o k ∙ ap (λ (i : ℕ). objectAt s i .generation) (sym object)) in
+        eq-eqb (beAt handle 8 4) (objectAt s (beAt handle 4 4) .generation) (handle-generation σ o g m ∙ e ∙ gen-at s o k ∙ ap (λ (i : ℕ). objectAt s i .generation) (sym object)) in
         rw (long, within, marked, a, b) (ap passed object)
 
     pub reach-stale : g < view s .gen o → reach s (handleBytes σ o g) ≡ refused 70
@@ -90,8 +80,8 @@ module _ (σ p q r : ℕ) (s : Store) (L : Ledger) (I : Inv σ p q r s L) where
     reach-stale n =
         let k : o < objects s = omega (arith, I .objs) in
         let b : eqb (beAt handle 8 4) (objectAt s (beAt handle 4 4) .generation) ≡ false =
-            ne-eqb (beAt handle 8 4) (objectAt s (beAt handle 4 4) .generation)
-            (λ e. omega (arith, handle-generation σ o g m, gen-at s o k, ap (λ (i : ℕ). objectAt s i .generation) object)) in
+        ne-eqb (beAt handle 8 4) (objectAt s (beAt handle 4 4) .generation)
+        (λ e. omega (arith, handle-generation σ o g m, gen-at s o k, ap (λ (i : ℕ). objectAt s i .generation) object)) in
         by-bool (isLive s (beAt handle 4 4))
         (λ a. rw (long, within, marked, a, b))
         (λ a. rw (long, within, marked, a))
@@ -111,9 +101,11 @@ module _ (σ p q r : ℕ) (s : Store) (L : Ledger) (I : Inv σ p q r s L) where
   got-attributes x h k o e =
       let A = answer-to σ p q r s L I x (Call.Getattr h) k in
       let w : settle s dead (reach s (cut (x .call) h)) (λ o. unchanged s (gotAttributes (attributes s o))) .result ≡ gotAttributes (attributes s o) =
-          ap (λ (c : Checked ℕ). settle s dead c (λ o. unchanged s (gotAttributes (attributes s o))) .result) e in
-      (A .xid, A .is ∙ ap (λ (v : Result). accepted (A .xid) 0 (resultBytes (A .procedure) v)) w
-      ∙ begins (A .xid) (0 ∷ fattr3 (attributes s o)) [] (words (0 ∷ fattr3 (attributes s o))) (sym (append-nil (words (0 ∷ fattr3 (attributes s o))))))
+      ap (λ (c : Checked ℕ). settle s dead c (λ o. unchanged s (gotAttributes (attributes s o))) .result) e in (
+        A .xid,
+        A .is ∙ ap (λ (v : Result). accepted (A .xid) 0 (resultBytes (A .procedure) v)) w
+            ∙ begins (A .xid) (0 ∷ fattr3 (attributes s o)) [] (words (0 ∷ fattr3 (attributes s o))) (sym (append-nil (words (0 ∷ fattr3 (attributes s o))))),
+      )
 
   -- "GETATTR answers a live handle OK with its type."
   pub getattr-live : (x : Request) (h : Part) (kind : ℕ) → Asks x (Call.Getattr h) → HasLine (L .book) (cut (x .call) h) kind
@@ -123,8 +115,7 @@ module _ (σ p q r : ℕ) (s : Store) (L : Ledger) (I : Inv σ p q r s L) where
       let (o, e, v, f, i) = reach-lined (cut (x .call) h) kind l in
       let (xid, b) = got-attributes x h k o e in
       let ws : List ℕ = 0 ∷ fattr3 (attributes s o) in
-      let n = live-in s o v in
-      (
+      let n = live-in s o v in (
         ok-is (replyTo s x) xid ws [] b (omega arith) (lit< tt),
         word-of (replyTo s x) xid ws [] b 1 (omega arith) (objectAt-fits s o (I .bytes) .kind) ∙ sym (kind-at s o n) ∙ f,
       )
@@ -148,7 +139,7 @@ module _ (σ p q r : ℕ) (s : Store) (L : Ledger) (I : Inv σ p q r s L) where
   getattr-stale x h k o g l m n e =
       let A = answer-to σ p q r s L I x (Call.Getattr h) k in
       let w : settle s dead (reach s (cut (x .call) h)) (λ o. unchanged s (gotAttributes (attributes s o))) .result ≡ dead 70 =
-          ap (λ (c : Checked ℕ). settle s dead c (λ o. unchanged s (gotAttributes (attributes s o))) .result) (ap (reach s) e ∙ reach-stale o g l m n) in
+      ap (λ (c : Checked ℕ). settle s dead c (λ o. unchanged s (gotAttributes (attributes s o))) .result) (ap (reach s) e ∙ reach-stale o g l m n) in
       ap statusIn (A .is ∙ ap (λ (v : Result). accepted (A .xid) 0 (resultBytes (A .procedure) v)) w)
       ∙ status-is (A .xid) (A .procedure) (dead 70) (dead-fails 70 .some) (lit< tt)
 
@@ -165,9 +156,11 @@ module _ (σ p q r : ℕ) (s : Store) (L : Ledger) (I : Inv σ p q r s L) where
       let A = answer-to σ p q r s L I x (Call.Fsstat h) k in
       let go : ℕ → Done = λ o. unchanged s (gotRoom (attributes s o) (512 * blocks s) (512 * freeBlockCount s) (objects s) (availableCount s)) in
       let w : settle s (failShowing s (cut (x .call) h)) (reach s (cut (x .call) h)) go .result ≡ go o .result =
-          ap (λ (c : Checked ℕ). settle s (failShowing s (cut (x .call) h)) c go .result) e in
-      (A .xid, A .is ∙ ap (λ (v : Result). accepted (A .xid) 0 (resultBytes (A .procedure) v)) w
-      ∙ begins (A .xid) (roomWords o) [] (words (roomWords o)) (sym (append-nil (words (roomWords o)))))
+      ap (λ (c : Checked ℕ). settle s (failShowing s (cut (x .call) h)) c go .result) e in (
+        A .xid,
+        A .is ∙ ap (λ (v : Result). accepted (A .xid) 0 (resultBytes (A .procedure) v)) w
+            ∙ begins (A .xid) (roomWords o) [] (words (roomWords o)) (sym (append-nil (words (roomWords o)))),
+      )
 
   -- a small number as two words
   two-words : (n : ℕ) → n < 4294967296 → (n / 4294967296) * 4294967296 + n % 4294967296 ≡ n
@@ -183,8 +176,7 @@ module _ (σ p q r : ℕ) (s : Store) (L : Ledger) (I : Inv σ p q r s L) where
       let some : availableCount s ≤ objects s = count-bound (objects s) (isAvailable s) in
       let w = I .valid .shaped in
       let x1 : 512 * freeBlockCount s < 4294967296 = omega arith in
-      let x2 : availableCount s < 4294967296 = omega arith in
-      (
+      let x2 : availableCount s < 4294967296 = omega arith in (
         ok-is (replyTo s x) xid (roomWords o) [] b (omega arith) (lit< tt),
         long-of (replyTo s x) xid (roomWords o) [] b 25 (omega arith) (omega arith) (omega arith) ∙ two-words (512 * freeBlockCount s) x1,
         long-of (replyTo s x) xid (roomWords o) [] b 31 (omega arith) (omega arith) (omega arith) ∙ two-words (availableCount s) x2,

@@ -1,55 +1,44 @@
 -- Every handle in an OK reply is a live object's after the call. Assumes nothing.
 use mathlib.Core.Path.{_≡_, refl, sym, ap, _∙_, subst}
-use mathlib.Core.Logic.{_≢_, _⊎_, by-cases}
-use mathlib.Core.Bool.{Bool, true, false, not, cond}
+use mathlib.Core.Logic.{_⊎_}
+use mathlib.Core.Bool.{Bool, true, false, cond}
 use mathlib.Core.Option.{Option, some, none}
-use mathlib.Core.List.{List, [], _∷_}
-use Prim.Native.Nat.{ℕ, zero, suc, _+_, _≤_, _<_}
+use mathlib.Core.List.{List}
+use Prim.Native.Nat.{ℕ}
 use native.Mathlib.Omega.{arith}
-use lib.Dec.{lit<}
-use lib.ListN.{length}
-use Rattle.kinds.specs.declared.object.Context.{Context}
 use Rattle.kinds.specs.declared.call.NameIn.{NameIn}
-use Rattle.kinds.specs.declared.call.How.{How}
-use Rattle.kinds.specs.declared.call.Settable.{Settable}
 use Rattle.kinds.specs.declared.call.Arguments.{Arguments}
 use Rattle.kinds.specs.declared.call.Arguments.the-variants as Call
 use Rattle.spec.specs.Checked.{Checked, refused, passed, present}
-use Rattle.spec.specs.Count.{lowest}
 use Rattle.spec.specs.Handles.{handleOf, reachDirectory, checkName, attributes}
-use Rattle.spec.specs.Image.{Store, stamp, objects, names, objectAt, nameAt}
+use Rattle.spec.specs.Image.{Store, stamp, names, objectAt, nameAt}
 use Rattle.spec.specs.Names.{isDot, isDotDot}
 use Rattle.spec.specs.Procedures.{cut, act}
 use Rattle.spec.specs.Procedures.Names.{childOf, lookIn, checkLookup}
 use Rattle.spec.specs.Procedures.Names as Spec
-use Rattle.spec.specs.Replies.{resultBytes}
-use Rattle.spec.specs.Results.{Done, Result, unchanged, failShowing, settle, found}
+use Rattle.spec.specs.Results.{unchanged, failShowing, settle, found}
 use Rattle.spec.specs.Room.{findName, parent}
-use Rattle.spec.specs.Rpc.{accepted}
-use Rattle.spec.specs.Serve.{Outcome}
-use Rattle.spec.proofs.Count.{by-bool, true-false, lowest-passes}
+use Rattle.spec.proofs.Count.{true-false, lowest-passes}
 use Rattle.history.proofs.Sum.{holds, holds-true}
 use Rattle.spec.proofs.Error.{lookup-store}
-use Rattle.spec.proofs.Passed.{Reached, bind-passed, directory-passed}
+use Rattle.spec.proofs.Passed.{bind-passed, directory-passed}
 use Rattle.spec.proofs.Valid.{passes-valid}
-use Rattle.history.specs.Book.{Ledger, asked, foundHandle, madeHandle, isOk, noted, note}
+use Rattle.history.specs.Book.{Ledger, asked, foundHandle, madeHandle, isOk}
 use Rattle.history.specs.Run.{Request, Lent, outcome, replyTo}
-use Rattle.history.specs.Statement.{HasLine, Asks, Carries, lookup, create, mkdir}
-use Rattle.history.proofs.View.{View, Live, Used, At, names?}
-use Rattle.history.proofs.Tree.{Flat, Tree}
-use Rattle.history.proofs.Walk.{directoryAt, naming, parentIn, parent-root, parent-of}
-use Rattle.history.proofs.Agree.{handleIn}
+use Rattle.history.specs.Statement.{Asks, Carries, lookup, create, mkdir}
+use Rattle.history.proofs.View.{Live, names?}
+use Rattle.history.proofs.Tree.{Tree}
+use Rattle.history.proofs.Walk.{directoryAt, naming}
 use Rattle.history.proofs.Issue.{Current}
-use Rattle.history.proofs.Seen.{view, kind-at, dir-at, child-at, live-in, parent-same}
-use Rattle.history.proofs.Inv.{Inv, Owes, tree}
+use Rattle.history.proofs.Seen.{view, kind-at, child-at, live-in, parent-same}
+use Rattle.history.proofs.Inv.{Inv, tree}
 use Rattle.history.proofs.Checks.{found-name, Sure, sure-bind, sure-passed, sure-directory, sure-name}
 use Rattle.history.proofs.Replies.{found-is}
-use Rattle.history.proofs.Asked.{Acted, acted, Idle, served}
-use Rattle.spec.proofs.ArgumentRange.{FitsArguments}
+use Rattle.history.proofs.Asked.{acted, Idle, served}
 use Rattle.history.proofs.Ranges.{asked-fits}
 use Rattle.history.proofs.Noted.{Answer, showing-fails, not-ok}
 use Rattle.history.proofs.Making.{handle-seen}
-use Rattle.history.proofs.Create.{Made, create-made, mkdir-made}
+use Rattle.history.proofs.Create.{create-made, mkdir-made}
 use Rattle.history.proofs.Next.{answer-to, clocked}
 
 module _ (σ p q r : ℕ) (s : Store) (L : Ledger) (I : Inv σ p q r s L) where
@@ -137,9 +126,12 @@ module _ (σ p q r : ℕ) (s : Store) (L : Ledger) (I : Inv σ p q r s L) where
           true-false (sym t ∙ not-ok call reply (Call.Lookup place) _ A n (showing-fails s h n) (b .0) (b .1))
       go (passed x) e A =
           let o = x .1 in
-          let l = look-facts h text x e in
-          (o, l, ap foundHandle (A .is) ∙ found-is (A .xid) (A .procedure) (stamp s) o (objectAt s o .generation) (attributes s o) (attributes s (x .0))
-          ∙ handle-seen σ p q r s L I o (live-in s o l))
+          let l = look-facts h text x e in (
+            o,
+            l,
+            ap foundHandle (A .is) ∙ found-is (A .xid) (A .procedure) (stamp s) o (objectAt s o .generation) (attributes s o) (attributes s (x .0))
+                ∙ handle-seen σ p q r s L I o (live-in s o l),
+          )
 
   -- an OK reply to a call that asks: no check before it refused
   pub asks-of : (x : Request) (a : Arguments) → isOk (replyTo s x) ≡ true → asked (x .call) ≡ some a → Asks x a

@@ -1,9 +1,9 @@
 -- Handles and names as checks find them, and that a refusal's status is not OK. Assumes nothing.
-use mathlib.Core.Path.{_≡_, refl, sym, ap, _∙_}
+use mathlib.Core.Path.{_≡_, sym, ap, _∙_}
 use mathlib.Core.Bool.{Bool, true, false, not}
 use mathlib.Core.Option.{Option, some, none}
-use mathlib.Core.List.{List, [], _∷_}
-use Prim.Native.Nat.{ℕ, _≤_, _<_}
+use mathlib.Core.List.{List}
+use Prim.Native.Nat.{ℕ, _<_}
 use native.Mathlib.Omega.{arith}
 use lib.Dec.{eqb, leb, lit<}
 use lib.ListN.{length}
@@ -22,7 +22,7 @@ use Rattle.spec.proofs.Searches.{count-nothing}
 use Rattle.spec.proofs.Valid.{GoodNames}
 use Rattle.history.specs.Book.{handleBytes}
 use Rattle.history.proofs.Sum.{holds-true}
-use Rattle.history.proofs.View.{View, At, at?, entries}
+use Rattle.history.proofs.View.{At, at?, entries}
 use Rattle.history.proofs.Handles.{handle-of}
 use Rattle.history.proofs.Seen.{view, named-same, entries-same}
 

@@ -1,14 +1,13 @@
 -- CREATE and MKDIR: the invariant after the call, with the book's step. Assumes nothing.
 use mathlib.Core.Path.{_≡_, refl, sym, ap, _∙_, subst}
-use mathlib.Core.Logic.{_≢_, _⊎_, by-cases}
-use mathlib.Core.Bool.{Bool, true, false, _&&_, _||_, not, cond}
-use mathlib.Core.Option.{Option, some, none}
-use mathlib.Core.List.{List, [], _∷_}
-use Prim.Native.Nat.{ℕ, zero, suc, _+_, _-_, _≤_, _<_}
+use mathlib.Core.Logic.{_≢_, _⊎_}
+use mathlib.Core.Bool.{true, false}
+use mathlib.Core.Option.{some, none}
+use mathlib.Core.List.{List}
+use Prim.Native.Nat.{ℕ, _-_, _<_}
 use native.Mathlib.Omega.{arith}
-use lib.Dec.{eqb, leb, ltb, lit<}
+use lib.Dec.{lit<}
 use lib.ListN.{length}
-use borrow.Author.Tests.{eqb-true, ltb-false}
 use Rattle.kinds.specs.declared.object.Context.{Context}
 use Rattle.kinds.specs.declared.call.NameIn.{NameIn}
 use Rattle.kinds.specs.declared.call.SetSize.{SetSize}
@@ -18,14 +17,14 @@ use Rattle.kinds.specs.declared.call.How.{How}
 use Rattle.kinds.specs.declared.call.How.the-variants as How
 use Rattle.kinds.specs.declared.call.Arguments.{Arguments}
 use Rattle.kinds.specs.declared.call.Arguments.the-variants as Call
-use Rattle.spec.specs.Checked.{Checked, refused, passed, bind, absent}
-use Rattle.spec.specs.Handles.{handleOf, reachDirectory, attributes, change}
-use Rattle.spec.specs.Image.{Store, stamp, objects, names, objectAt, nameAt}
+use Rattle.spec.specs.Checked.{Checked, refused, passed}
+use Rattle.spec.specs.Handles.{handleOf, attributes, change}
+use Rattle.spec.specs.Image.{Store, stamp, objectAt, nameAt}
 use Rattle.spec.specs.Procedures.{cut}
-use Rattle.spec.specs.Procedures.Attributes.{isGiven, sizeSet, badAttributes, lacksRoom}
-use Rattle.spec.specs.Procedures.Names.{newEdit, createdIn, Target, new, existing, isNew, roomForNew, checkExisting, targetOf, checkNew, checkAttributed, checkHow, checkCreate, settableOf, existingEdit, createEdit, create, checkMkdir, mkdir}
-use Rattle.spec.specs.Results.{Done, Result, created, failChanging, settle, null}
-use Rattle.spec.specs.Room.{isRegular, sizeOf, need, freeBlockCount, findName}
+use Rattle.spec.specs.Procedures.Attributes.{isGiven, sizeSet}
+use Rattle.spec.specs.Procedures.Names.{newEdit, createdIn, Target, new, existing, checkCreate, settableOf, existingEdit, createEdit, create, checkMkdir, mkdir}
+use Rattle.spec.specs.Results.{created, failChanging, settle, null}
+use Rattle.spec.specs.Room.{findName}
 use Rattle.spec.proofs.Error.{statusOf}
 use Rattle.spec.proofs.Count.{true-false}
 use Rattle.spec.proofs.Range.{Below}
@@ -34,17 +33,16 @@ use Rattle.spec.proofs.SetAttributes.{FitsSettable, Allowed, only-ctime-fits}
 use Rattle.spec.proofs.GoodRecords.{GoodClock}
 use Rattle.spec.proofs.Passed.{Reached, NewRoom, ExistingPassed, CreatePassed, create-passed, MkdirPassed, mkdir-passed}
 use Rattle.spec.proofs.Valid.{GoodName}
-use Rattle.history.specs.Book.{Ledger, handleBytes, madeHandle, isOk, add, noted, note}
-use Rattle.history.proofs.View.{View, Live, Used, At, entries}
-use Rattle.history.proofs.Agree.{handleIn}
+use Rattle.history.specs.Book.{Ledger, madeHandle, isOk, add, noted, note}
+use Rattle.history.proofs.View.{Live}
 use Rattle.history.proofs.Issue.{Current}
-use Rattle.history.proofs.Seen.{view, kind-at, gen-at, child-at, live-in}
-use Rattle.history.proofs.Inv.{Inv, Owes, Keeps, keeps-refl, tree}
+use Rattle.history.proofs.Seen.{view, kind-at, child-at, live-in}
+use Rattle.history.proofs.Inv.{Inv, Owes, keeps-refl, tree}
 use Rattle.history.proofs.Checks.{found-name, no-name}
 use Rattle.history.proofs.Replies.{made-is}
 use Rattle.spec.proofs.ArgumentRange.{FitsHow}
-use Rattle.history.proofs.Noted.{Answer, Fails, changing-fails, not-ok, note-failed, note-ok}
-use Rattle.history.proofs.Making.{handle-seen, withLine, new-keeps, new-handle, new-alive, directory-kind, directory-handle, line-added, line-there, existing-keeps, sure-create, sure-mkdir}
+use Rattle.history.proofs.Noted.{Answer, changing-fails, not-ok, note-failed, note-ok}
+use Rattle.history.proofs.Making.{handle-seen, withLine, new-keeps, new-handle, new-alive, directory-kind, line-added, line-there, existing-keeps, sure-create, sure-mkdir}
 
 created-some : (h : List ℕ) (a : _) (d : _) → created h a d ≢ null
 created-some h a d e = let z : _≡_ {A = ℕ} 0 1 = cc in omega arith
@@ -104,8 +102,8 @@ module _ (σ p q r : ℕ) (s : Store) (L : Ledger) (I : Inv σ p q r s L) (c : C
         let same = new-handle σ p q r s L I c clock 1 o n d text a (_⊎_.inl refl) room f ok good (cut-below (place .name)) k gap (λ _. refl) in
         let alive = new-alive σ p q r s L I c clock 1 o n d text a (_⊎_.inl refl) room f ok good (cut-below (place .name)) k gap (λ _. refl) in
         let book : withLine σ s L o 1 d text ≡ note call reply L =
-            sym (note-created (newEdit s c 1 o n d text a) o d A ∙ ap (λ (x : List ℕ). add x 1 h text L) same
-            ∙ line-added σ p q r s L I c clock h text d w dk (cut-below (place .directory)) o 1 gap) in
+        sym (note-created (newEdit s c 1 o n d text a) o d A ∙ ap (λ (x : List ℕ). add x 1 h text L) same
+        ∙ line-added σ p q r s L I c clock h text d w dk (cut-below (place .directory)) o 1 gap) in
         record {
           owes = subst (Owes σ p q r s (newEdit s c 1 o n d text a)) book (step .owes);
           shown = λ _. shown-handle (Call.Create place manner) (newEdit s c 1 o n d text a) _ (step .owes .inv) o d alive A;
@@ -121,7 +119,7 @@ module _ (σ p q r : ℕ) (s : Store) (L : Ledger) (I : Inv σ p q r s L) (c : C
         let l : Live (view s) o = subst (Live (view s)) (child-at s m ml ∙ is) live in
         let step = existing-keeps σ p q r s L I c clock o a (kind-at s o (live-in s o l) ∙ x .regular) (ok .size) (x .room) in
         let book : L ≡ note call reply L =
-            sym (note-created (existingEdit s c o (a .size)) o d A ∙ line-there σ p q r s L I c clock h text d w dk (cut-below (place .directory)) _ 1 m at) in
+        sym (note-created (existingEdit s c o (a .size)) o d A ∙ line-there σ p q r s L I c clock h text d w dk (cut-below (place .directory)) _ 1 m at) in
         record {
           owes = subst (Owes σ p q r s (existingEdit s c o (a .size))) book (step .owes);
           shown = λ _. shown-handle (Call.Create place manner) (existingEdit s c o (a .size)) L (step .owes .inv) o d (omega (arith, step .kinds o l)) A;
@@ -178,8 +176,8 @@ module _ (σ p q r : ℕ) (s : Store) (L : Ledger) (I : Inv σ p q r s L) (c : C
         let same = new-handle σ p q r s L I c clock 2 o n d name a (_⊎_.inr refl) room fits (w .allowed) (w .good) (cut-below (place .name)) k gap file in
         let alive = new-alive σ p q r s L I c clock 2 o n d name a (_⊎_.inr refl) room fits (w .allowed) (w .good) (cut-below (place .name)) k gap file in
         let book = note-ok call reply (Call.Mkdir place a) _ A (created-some _ _ _) refl L
-            ∙ ap (λ (v : List ℕ). add v 2 g name L) (made-handle (Call.Mkdir place a) (newEdit s c 2 o n d name a) o d A ∙ same)
-            ∙ line-added σ p q r s L I c clock g name d (w .reached) (w .directory) (cut-below (place .directory)) o 2 gap in
+        ∙ ap (λ (v : List ℕ). add v 2 g name L) (made-handle (Call.Mkdir place a) (newEdit s c 2 o n d name a) o d A ∙ same)
+        ∙ line-added σ p q r s L I c clock g name d (w .reached) (w .directory) (cut-below (place .directory)) o 2 gap in
         record {
           owes = subst (Owes σ p q r s (newEdit s c 2 o n d name a)) (sym book) (step .owes);
           shown = λ _. shown-handle (Call.Mkdir place a) (newEdit s c 2 o n d name a) _ (step .owes .inv) o d alive A;

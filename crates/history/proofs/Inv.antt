@@ -1,24 +1,22 @@
 -- What holds of the store and the book after any list of requests, and what the edits keep of it. Assumes nothing.
 use mathlib.Core.Path.{_≡_, refl, sym, ap, _∙_, subst}
-use mathlib.Core.Logic.{_≢_, _⊎_, by-cases}
-use mathlib.Core.List.{List, [], _∷_}
-use mathlib.Core.Bool.{Bool, true, false}
-use Prim.Native.Nat.{ℕ, zero, suc, _+_, _-_, _^_, _≤_, _<_}
-use native.Mathlib.Decide.{ℕ-discrete, decLt}
+use mathlib.Core.Logic.{_≢_, by-cases}
+use mathlib.Core.List.{List, _∷_}
+use Prim.Native.Nat.{ℕ, _+_, _-_, _^_, _≤_, _<_}
+use native.Mathlib.Decide.{ℕ-discrete}
 use native.Mathlib.Omega.{arith}
-use lib.Dec.{lit<}
 use lib.ListN.{length}
 use Rattle.kinds.specs.declared.object.Time.{Time}
 use Rattle.kinds.specs.declared.object.Object.{Object}
 use Rattle.kinds.specs.declared.call.Settable.{Settable}
 use Rattle.spec.specs.Edits.{setAttributes, resize, withGeneration, createObject, removeObject, moveName, writeFile}
-use Rattle.spec.specs.Image.{Store, stamp, objects, names, blocks, objectAt, Name, nameAt, nameLength, freeName}
-use Rattle.spec.specs.Room.{held, sizeOf, need, freeBlockCount}
+use Rattle.spec.specs.Image.{Store, stamp, objects, names, blocks, objectAt, nameAt, nameLength, freeName}
+use Rattle.spec.specs.Room.{sizeOf, need, freeBlockCount}
 use Rattle.kinds.specs.Objects.{freeObject}
-use Rattle.spec.proofs.BlockLists.{InRange, held-range}
+use Rattle.spec.proofs.BlockLists.{held-range}
 use Rattle.spec.proofs.BlockWrites.{write-file}
 use Rattle.spec.proofs.CreateObject.{newName, create-object}
-use Rattle.spec.proofs.GoodRecords.{GoodRecords, StillGood, GoodClock, clock-fits, valid-records, live-at, set-attributes-still, resize-still, write-file-still, create-object-still, remove-object-still, move-name-still}
+use Rattle.spec.proofs.GoodRecords.{GoodRecords, GoodClock, clock-fits, valid-records, live-at, set-attributes-still, resize-still, write-file-still, create-object-still, remove-object-still, move-name-still}
 use Rattle.spec.proofs.Kept.{NameSet, BothSet}
 use Rattle.spec.proofs.MoveName.{movedName, move-name}
 use Rattle.spec.proofs.Range.{Below}
@@ -26,20 +24,19 @@ use Rattle.spec.proofs.Records.{FitsObject}
 use Rattle.spec.proofs.RemoveObject.{remove-object}
 use Rattle.spec.proofs.SetAttributes.{FitsSettable, Allowed, set-attributes-structure}
 use Rattle.spec.proofs.Shape.{SameShape}
-use Rattle.spec.proofs.Structure.{SameTree, SameStructure, kept-structure, tree-distinct, tree-named, tree-leads}
+use Rattle.spec.proofs.Structure.{SameTree, kept-structure, tree-distinct, tree-named, tree-leads}
 use Rattle.spec.proofs.Resize.{resize-tree}
 use Rattle.spec.proofs.Valid.{LiveObject, GoodName, Valid, live-kind}
-use Rattle.history.specs.Book.{Line, Book, Ledger, under, handleBytes, strikeLines, moveLines}
-use Rattle.history.proofs.Sum.{holds}
-use Rattle.history.proofs.View.{View, Live, Used, Names, entries, namings, Path, Avoids, SameName, SetName, SetObj, not-named}
-use Rattle.history.proofs.Tree.{Flat, Tree, live?, lone, one-name}
+use Rattle.history.specs.Book.{Ledger, under, strikeLines, moveLines}
+use Rattle.history.proofs.View.{View, Live, Used, entries, namings, Path, Avoids, SameName, not-named}
+use Rattle.history.proofs.Tree.{Tree, lone, one-name}
 use Rattle.history.proofs.Change.{Created, Removed, Moved}
 use Rattle.history.proofs.Created.{created-tree}
 use Rattle.history.proofs.Removed.{removed-tree}
 use Rattle.history.proofs.Moved.{moved-tree}
 use Rattle.history.proofs.Agree.{Agrees, handleIn, agrees-same, created-agrees, removed-agrees, moved-agrees}
-use Rattle.history.proofs.Issue.{Issues, issued, issues-same, live-same, created-issues, removed-issues, moved-issues}
-use Rattle.history.proofs.Seen.{view, heldBy, kind-at, gen-at, dir-at, child-at, text-at, live-in, used-in, text-long}
+use Rattle.history.proofs.Issue.{Issues, issues-same, live-same, created-issues, removed-issues, moved-issues}
+use Rattle.history.proofs.Seen.{view, kind-at, gen-at, dir-at, child-at, text-at, live-in, used-in, text-long}
 use Rattle.history.proofs.Bridge.{tree-of, valid-of}
 use Rattle.history.proofs.Frames.{kind-same, gen-same, name-same, set-obj, set-name}
 

@@ -1,56 +1,42 @@
 -- CREATE and MKDIR keep the invariant, with the line that the book gets. Assumes nothing.
 use mathlib.Core.Path.{_≡_, refl, sym, ap, _∙_, subst}
-use mathlib.Core.Logic.{_≢_, _⊎_, by-cases}
-use mathlib.Core.Bool.{Bool, true, false, _&&_, _||_, not, cond}
+use mathlib.Core.Logic.{_⊎_}
+use mathlib.Core.Bool.{Bool, true, false, _&&_, _||_, not}
 use mathlib.Core.Option.{Option, some, none}
-use mathlib.Core.List.{List, [], _∷_}
-use Prim.Native.Nat.{ℕ, zero, suc, _+_, _-_, _^_, _≤_, _<_}
-use native.Mathlib.Decide.{ℕ-discrete, decLt}
+use mathlib.Core.List.{List, _∷_}
+use Prim.Native.Nat.{ℕ, _-_, _^_, _≤_, _<_}
 use native.Mathlib.Omega.{arith}
-use lib.Dec.{eqb, leb, ltb, lit<}
-use lib.ListN.{length}
-use borrow.Author.Tests.{eqb-true, ltb-false}
+use lib.Dec.{lit<}
 use Rattle.kinds.specs.declared.object.Context.{Context}
 use Rattle.kinds.specs.declared.object.Object.{Object}
-use Rattle.kinds.specs.declared.call.Part.{Part}
-use Rattle.kinds.specs.declared.call.NameIn.{NameIn}
 use Rattle.kinds.specs.declared.call.SetSize.{SetSize}
 use Rattle.kinds.specs.declared.call.SetSize.the-variants as SetSize
 use Rattle.kinds.specs.declared.call.Settable.{Settable}
 use Rattle.kinds.specs.declared.call.How.{How}
 use Rattle.kinds.specs.declared.call.How.the-variants as How
-use Rattle.kinds.specs.declared.call.Arguments.{Arguments}
-use Rattle.kinds.specs.declared.call.Arguments.the-variants as Call
-use Rattle.spec.specs.Bytes.{words}
-use Rattle.spec.specs.Checked.{Checked, refused, passed, bind, refuseIf, absent}
-use Rattle.spec.specs.Edits.{withAttributes, withGeneration, setAttributes, resize, createObject, mtimeAndCtime}
-use Rattle.spec.specs.Handles.{handleOf, reachDirectory, attributes, change}
-use Rattle.spec.specs.Image.{Store, stamp, objects, names, blocks, objectAt, nameAt}
-use Rattle.spec.specs.Procedures.{cut}
+use Rattle.spec.specs.Checked.{Checked, refused, passed, absent}
+use Rattle.spec.specs.Edits.{withAttributes, withGeneration, resize, createObject, mtimeAndCtime}
+use Rattle.spec.specs.Handles.{handleOf, reachDirectory}
+use Rattle.spec.specs.Image.{Store, objects, names, blocks, objectAt, nameAt}
 use Rattle.spec.specs.Procedures.Attributes.{isGiven, sizeSet, badAttributes, lacksRoom, resizeTo}
-use Rattle.spec.specs.Procedures.Names.{newObject, touchDirectory, newEdit, createdIn, Target, new, existing, isNew, roomForNew, checkExisting, targetOf, checkNew, checkAttributed, checkHow, checkCreate, settableOf, existingEdit, createEdit, create, checkMkdir, mkdir}
-use Rattle.spec.specs.Results.{Done, Result, created, failChanging, settle, null}
+use Rattle.spec.specs.Procedures.Names.{newObject, newEdit, new, existing, isNew, roomForNew, checkExisting, targetOf, checkNew, checkAttributed, checkHow, checkCreate, existingEdit, checkMkdir}
 use Rattle.spec.specs.Room.{isRegular, sizeOf, need, freeBlockCount, findName}
-use Rattle.spec.proofs.CreateObject.{newName, create-object, create-object-uses}
-use Rattle.spec.proofs.Error.{statusOf}
+use Rattle.spec.proofs.CreateObject.{create-object, create-object-uses}
 use Rattle.spec.proofs.GoodRecords.{GoodClock, clock-fits, free-size}
 use Rattle.spec.proofs.Passed.{Reached, NewRoom}
 use Rattle.spec.proofs.Range.{Below}
 use Rattle.spec.proofs.Records.{FitsObject}
 use Rattle.spec.proofs.SameReads.{freeBlockCount-reads}
-use Rattle.spec.proofs.SetAttributes.{FitsSettable, Allowed, allowed, new-fits, new-live, mtime-and-ctime-fits, mtime-and-ctime-allowed}
-use Rattle.spec.proofs.Tests.{or-none}
-use Rattle.spec.proofs.Valid.{GoodName, LiveObject, GoodObject, live-kind}
-use Rattle.history.specs.Book.{Standing, under, Line, Ledger, handleBytes, madeHandle, someAt, add, noted, note}
-use Rattle.history.proofs.View.{View, Live, Used, At, entries}
+use Rattle.spec.proofs.SetAttributes.{FitsSettable, Allowed, new-fits, new-live, mtime-and-ctime-fits, mtime-and-ctime-allowed}
+use Rattle.spec.proofs.Valid.{GoodName, LiveObject}
+use Rattle.history.specs.Book.{under, Ledger, handleBytes, someAt, add}
+use Rattle.history.proofs.View.{Live, At, entries}
 use Rattle.history.proofs.Agree.{handleIn, none-at, some-at}
-use Rattle.history.proofs.Seen.{view, kind-at, gen-at, child-at, live-in}
+use Rattle.history.proofs.Seen.{view, kind-at, gen-at, live-in}
 use Rattle.history.proofs.Inv.{Inv, Keeps, keeps-refl, keeps-trans, tree, touch-inv, resize-inv, created-of, create-keeps}
 use Rattle.history.proofs.Inv as Inv
 use Rattle.history.proofs.Checks.{handle-reached, Sure, sure-bind, sure-then, sure-passed, sure-refused, sure-absent, sure-directory, sure-room, sure-new}
-use Rattle.history.proofs.Replies.{made-is}
-use Rattle.spec.proofs.ArgumentRange.{FitsHow}
-use Rattle.history.proofs.Noted.{Answer, Fails, changing-fails, note-failed, note-ok, add-new, add-old}
+use Rattle.history.proofs.Noted.{add-new, add-old}
 use Rattle.history.proofs.Sizes.{resize-to}
 
 -- the handle of an object in range

@@ -1,17 +1,17 @@
 -- Paths in the store and in the book: one for each live object, and short. Assumes nothing.
 use mathlib.Core.Path.{_≡_, refl, sym, ap, _∙_, subst}
-use mathlib.Core.Logic.{_≢_, _↔_, _⊎_, inl, inr, by-cases}
-use mathlib.Core.Bool.{Bool, true, false}
-use mathlib.Core.List.{List, [], _∷_, map, List·Memᴰ}
-use Prim.Native.Nat.{ℕ, zero, suc, _+_, _≤_, _<_}
+use mathlib.Core.Logic.{_⊎_, inl, inr}
+use mathlib.Core.Bool.{true}
+use mathlib.Core.List.{List, [], _∷_, map}
+use Prim.Native.Nat.{ℕ, suc, _≤_, _<_}
 use native.Mathlib.Omega.{arith}
 use lib.ListN.{length, length-map}
-use Rattle.spec.specs.Image.{Store, objects, names, nameAt}
-use Rattle.spec.specs.Room.{isLive, isUsedName}
-use Rattle.history.specs.Book.{Standing, asRoot, under, Line, Book, Ledger}
-use Rattle.history.specs.Statement.{In, HasLine, StoredPath, BookPath, liveObjects}
-use Rattle.history.proofs.View.{View, Live, Used, Path}
-use Rattle.history.proofs.Tree.{Tree, living, lone, path-same, path-short}
+use Rattle.spec.specs.Image.{Store, objects, nameAt}
+use Rattle.spec.specs.Room.{isLive}
+use Rattle.history.specs.Book.{Standing, asRoot, under, Line, Ledger}
+use Rattle.history.specs.Statement.{HasLine, StoredPath, BookPath, liveObjects}
+use Rattle.history.proofs.View.{Live, Used, Path}
+use Rattle.history.proofs.Tree.{Tree, lone, path-same, path-short}
 use Rattle.history.proofs.Handles.{same-object}
 use Rattle.history.proofs.Agree.{handleIn, lineOf, rootLine}
 use Rattle.history.proofs.Seen.{view, dir-at, child-at, used-in, used-of, of-used}
@@ -39,8 +39,7 @@ module _ (σ p q r : ℕ) (s : Store) (L : Ledger) (I : Inv σ p q r s L) where
   one-path : (o : ℕ) → Live (view s) o → (ns : List ℕ) × Path (view s) o ns × ((ms : List ℕ) → Path (view s) o ms → ms ≡ ns) × (suc (length ns) ≤ liveObjects s)
   unfolding T
   one-path o l =
-      let w = T .leads o l in
-      (
+      let w = T .leads o l in (
         w .0,
         w .1,
         (λ ms a. path-same p q (view s) T ms (w .0) o (lone p q (view s) (T .flat) o l) a (w .1)),
@@ -100,8 +99,7 @@ module _ (σ p q r : ℕ) (s : Store) (L : Ledger) (I : Inv σ p q r s L) where
   unfolding line
   book-path h kind x =
       let (o, v, e, f) = lined-current σ p q r s L I h kind x in
-      let (ns, a, u, n) = one-path o v in
-      (
+      let (ns, a, u, n) = one-path o v in (
         map line ns,
         subst (λ (g : List ℕ). BookPath (L .book) g (map line ns)) (sym e) (lines-of ns o a),
         (λ ks w. let (ms, b, c) = of-lines ks o v (subst (λ (g : List ℕ). BookPath (L .book) g ks) e w) in b ∙ ap (map line) (u ms c)),

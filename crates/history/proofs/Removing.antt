@@ -1,50 +1,49 @@
 -- REMOVE, RMDIR and RENAME: the invariant after the call, with the book's step. Assumes nothing.
 use mathlib.Core.Path.{_≡_, refl, sym, ap, _∙_, subst}
-use mathlib.Core.Logic.{_≢_, _⊎_, by-cases}
-use mathlib.Core.Bool.{Bool, true, false, _&&_, _||_, not, cond}
+use mathlib.Core.Logic.{_≢_}
+use mathlib.Core.Bool.{Bool, false, _&&_, _||_, not}
 use mathlib.Core.Option.{Option, some, none}
-use mathlib.Core.List.{List, [], _∷_}
-use Prim.Native.Nat.{ℕ, zero, suc, _+_, _-_, _≤_, _<_}
-use native.Mathlib.Decide.{ℕ-discrete, decLt}
+use mathlib.Core.List.{List}
+use Prim.Native.Nat.{ℕ, _-_, _<_}
 use native.Mathlib.Omega.{arith}
-use lib.Dec.{eqb, leb, ltb, lit<}
+use lib.Dec.{eqb, lit<}
 use lib.ListN.{length}
-use borrow.Author.Tests.{eqb-true, eqb-false, eq-eqb}
+use borrow.Author.Tests.{eqb-false}
 use Rattle.kinds.specs.declared.object.Context.{Context}
 use Rattle.kinds.specs.declared.object.Change.{Change}
 use Rattle.kinds.specs.declared.call.Part.{Part}
 use Rattle.kinds.specs.declared.call.NameIn.{NameIn}
 use Rattle.kinds.specs.declared.call.Arguments.{Arguments}
 use Rattle.kinds.specs.declared.call.Arguments.the-variants as Call
-use Rattle.spec.specs.Checked.{Checked, refused, passed, bind, present, absent}
+use Rattle.spec.specs.Checked.{Checked, refused, passed, present, absent}
 use Rattle.spec.specs.Count.{some-below, iterate}
 use Rattle.spec.specs.Edits.{setAttributes, onlyCtime, mtimeAndCtime, removeObject, moveName}
-use Rattle.spec.specs.Handles.{reachDirectory, checkName, change}
-use Rattle.spec.specs.Image.{Store, objects, names, objectAt, nameAt}
+use Rattle.spec.specs.Handles.{reachDirectory, checkName}
+use Rattle.spec.specs.Image.{Store, objects, objectAt, nameAt}
 use Rattle.spec.specs.Names.{isDots}
 use Rattle.spec.specs.Procedures.{cut}
 use Rattle.spec.specs.Procedures.Attributes.{edited}
 use Rattle.spec.specs.Procedures.Names.{touchDirectory}
 use Rattle.spec.specs.Procedures.Removal.{checkRemove, hasEntries, checkRmdir, removeFrom, remove, rmdir, isWithin, checkRename, renameEdit, failRenaming, renamedTo, rename}
-use Rattle.spec.specs.Results.{Done, Result, changed, renamed, failChanging, settle, null}
-use Rattle.spec.specs.Room.{isDirectory, isIn, findName, above}
+use Rattle.spec.specs.Results.{changed, renamed, failChanging, settle, null}
+use Rattle.spec.specs.Room.{isDirectory, findName, above}
 use Rattle.spec.proofs.Count.{by-bool, true-false, some-none}
 use Rattle.spec.proofs.Error.{statusOf}
 use Rattle.spec.proofs.Range.{Below}
 use Rattle.spec.proofs.RecordRange.{below-part}
 use Rattle.spec.proofs.SetAttributes.{only-ctime-fits, only-ctime-allowed, mtime-and-ctime-fits, mtime-and-ctime-allowed}
 use Rattle.spec.proofs.GoodRecords.{GoodClock}
-use Rattle.spec.proofs.Passed.{Reached, EntryPassed, RemovePassed, remove-passed, RmdirPassed, rmdir-passed, no-entries, RenamePassed, rename-passed}
-use Rattle.spec.proofs.Valid.{GoodName, true-directory}
+use Rattle.spec.proofs.Passed.{Reached, EntryPassed, remove-passed, rmdir-passed, no-entries, RenamePassed, rename-passed}
+use Rattle.spec.proofs.Valid.{true-directory}
 use Rattle.history.specs.Book.{Ledger, strikeLines, strike, moveLines, move, noted, note}
-use Rattle.history.proofs.View.{View, Live, Used, At, entries, Path, Avoids}
-use Rattle.history.proofs.Tree.{Flat, Tree, single, path-short, live-bound}
+use Rattle.history.proofs.View.{Live, Used, At, Path, Avoids}
+use Rattle.history.proofs.Tree.{single, path-short, live-bound}
 use Rattle.history.proofs.Walk.{parentIn, outside, outside-file}
 use Rattle.history.proofs.Agree.{handleIn}
 use Rattle.history.proofs.Seen.{view, kind-at, dir-at, child-at, text-at, live-in, used-in, text-long, above-same}
-use Rattle.history.proofs.Inv.{Inv, Owes, Keeps, keeps-refl, keeps-trans, owes-trans, tree, touch-inv, removed-of, remove-inv, move-keeps}
+use Rattle.history.proofs.Inv.{Inv, Owes, keeps-refl, keeps-trans, owes-trans, tree, touch-inv, removed-of, remove-inv, move-keeps}
 use Rattle.history.proofs.Checks.{found-name, no-name, Sure, sure-bind, sure-then, sure-passed, sure-present, sure-absent, sure-directory, sure-name}
-use Rattle.history.proofs.Noted.{Answer, Fails, changing-fails, renaming-fails, note-failed, note-ok}
+use Rattle.history.proofs.Noted.{Answer, changing-fails, renaming-fails, note-failed, note-ok}
 use Rattle.history.proofs.Making.{directory-kind, directory-handle}
 
 -- ---- the checks' statuses
@@ -175,7 +174,7 @@ module _ (σ p q r : ℕ) (s : Store) (L : Ledger) (I : Inv σ p q r s L) (c : C
       let hd : handleIn σ (view s) (view s .dir n) ≡ h = ap (handleIn σ (view s)) (at .1) ∙ sym (directory-handle σ p q r s L I c clock h text d (w .reached) (w .directory) hb) in
       let he : handleIn σ (view s) e ≡ g = sym (directory-handle σ p q r s L I c clock g title e (w .target-reached) (w .target-directory) gb) in
       let book : M ≡ record { book = moveLines h text g title (L .book); given = L .given } =
-          λ j. record { book = moveLines (hd j) (at .2 j) (he j) title (L .book); given = L .given } in
+      λ j. record { book = moveLines (hd j) (at .2 j) (he j) title (L .book); given = L .given } in
       subst (Owes σ p q r s (touchDirectory t₃ c e)) book (four .owes)
 
   -- ---- the calls

@@ -1,8 +1,8 @@
 -- SETATTR and WRITE keep the invariant. Assumes nothing.
-use mathlib.Core.Path.{_≡_, refl, sym, ap, _∙_, subst}
-use mathlib.Core.Bool.{Bool, true, false, cond}
-use mathlib.Core.List.{List, [], _∷_}
-use Prim.Native.Nat.{ℕ, zero, suc, _+_, _-_, _≤_, _<_, min, max}
+use mathlib.Core.Path.{_≡_, refl, sym, _∙_, subst}
+use mathlib.Core.Bool.{Bool, true, cond}
+use mathlib.Core.List.{List}
+use Prim.Native.Nat.{ℕ, zero, suc, _+_, _-_, _≤_, _<_, min}
 use native.Mathlib.Omega.{arith}
 use lib.Dec.{eqb, lit<}
 use lib.ListN.{length, take, length-take}
@@ -13,22 +13,22 @@ use Rattle.kinds.specs.declared.call.SetSize.the-variants as SetSize
 use Rattle.kinds.specs.declared.call.Settable.{Settable}
 use Rattle.kinds.specs.declared.call.Guard.{Guard}
 use Rattle.spec.specs.Checked.{Checked, refused, passed}
-use Rattle.spec.specs.Edits.{setAttributes, resize, mtimeAndCtime, writeFile}
+use Rattle.spec.specs.Edits.{resize, mtimeAndCtime, writeFile}
 use Rattle.spec.specs.Image.{Store, objects, blocks, objectAt}
 use Rattle.spec.specs.Procedures.Attributes.{isGiven, sizeSet, resizeTo, checkSetattr, setattrEdit, sizeTouches, edited, setattr}
 use Rattle.spec.specs.Procedures.Data.{grown, checkWrite, writeEdit, writeStore, writeDone, write}
-use Rattle.spec.specs.Results.{Done, failChanging, settle}
+use Rattle.spec.specs.Results.{failChanging, settle}
 use Rattle.spec.specs.Room.{isLive, sizeOf, need, freeBlockCount}
 use Rattle.spec.proofs.ActGood.{regular-of}
 use Rattle.spec.proofs.Count.{by-bool}
-use Rattle.spec.proofs.GoodRecords.{GoodRecords, GoodClock, live-at}
-use Rattle.spec.proofs.Passed.{Reached, SetattrPassed, setattr-passed, WritePassed, write-passed}
+use Rattle.spec.proofs.GoodRecords.{GoodClock, live-at}
+use Rattle.spec.proofs.Passed.{SetattrPassed, setattr-passed, WritePassed, write-passed}
 use Rattle.spec.proofs.Range.{Below, below-take}
 use Rattle.spec.proofs.Resize.{resize-size}
-use Rattle.spec.proofs.SetAttributes.{FitsSettable, Allowed, size-touches-fits, size-touches-allowed, mtime-and-ctime-fits, mtime-and-ctime-allowed}
+use Rattle.spec.proofs.SetAttributes.{FitsSettable, size-touches-fits, size-touches-allowed, mtime-and-ctime-fits, mtime-and-ctime-allowed}
 use Rattle.spec.proofs.Valid.{live-true}
 use Rattle.history.specs.Book.{Ledger}
-use Rattle.history.proofs.View.{View, Live}
+use Rattle.history.proofs.View.{Live}
 use Rattle.history.proofs.Seen.{view, kind-at, live-in}
 use Rattle.history.proofs.Bridge.{size-small}
 use Rattle.history.proofs.Inv.{Inv, Keeps, keeps-refl, keeps-trans, good, touch-inv, resize-inv, write-inv}
@@ -49,7 +49,7 @@ module _ (σ p q r : ℕ) (s : Store) (L : Ledger) (I : Inv σ p q r s L) (c : C
       let k = kind-at s o (w .reached .below) in
       let l : Live (view s) o = omega (arith, w .reached .live) in
       let first = resize-to σ p q r s L I o (a .size)
-          (λ t. k ∙ regular-of (blocks s) (objectAt s o) (live-at s (good σ p q r s L I) o (w .reached .below) (w .reached .live)) (w .not-directory t)) (w .allowed .size) (w .room) in
+      (λ t. k ∙ regular-of (blocks s) (objectAt s o) (live-at s (good σ p q r s L I) o (w .reached .below) (w .reached .live)) (w .not-directory t)) (w .allowed .size) (w .room) in
       keeps-trans σ p q r s (resizeTo s o (a .size)) _ L L first
       (touch-inv σ p q r (resizeTo s o (a .size)) L (first .owes .inv) (c .clock) o (sizeTouches a) (omega (arith, first .kinds o l)) clock
       (size-touches-fits a f) (size-touches-allowed a (w .allowed)))
