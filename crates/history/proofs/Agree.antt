@@ -1,22 +1,21 @@
 -- The book is the store's lines, in some order, and each change of the store keeps it so. Assumes nothing.
-use mathlib.Core.Path.{_≡_, refl, sym, ap, ap₂, _∙_, subst}
-use mathlib.Core.Logic.{_≢_, by-cases, ⊎-elim}
+use mathlib.Core.Path.{_≡_, refl, sym, ap, ap₂, _∙_}
+use mathlib.Core.Logic.{_≢_, by-cases}
 use mathlib.Core.Bool.{Bool, true, false, _&&_, _||_, cond}
 use mathlib.Core.List.{List, [], _∷_, _++_, map}
-use Prim.Native.Nat.{ℕ, zero, suc, _+_, _≤_, _<_}
+use Prim.Native.Nat.{ℕ, _+_, _<_}
 use native.Mathlib.Decide.{ℕ-discrete, decLt}
 use native.Mathlib.Omega.{arith}
-use lib.Dec.{eqb}
 use lib.ListN.{length}
 use borrow.Author.Tests.{eq-eqb, ne-eqb}
-use Rattle.spec.specs.Bytes.{words, sameBytes}
+use Rattle.spec.specs.Bytes.{sameBytes}
 use Rattle.spec.specs.Count.{bit, times}
 use Rattle.spec.proofs.Bytes.{same-yes, same-no}
 use Rattle.spec.proofs.Count.{and-both, true-false, by-bool}
-use Rattle.history.specs.Book.{Standing, asRoot, under, Line, Book, Ledger, handleBytes, stands, isAt, someAt, add, strikeLines, strike, moveLine, moveLines, move}
+use Rattle.history.specs.Book.{Standing, asRoot, under, Line, Book, handleBytes, stands, isAt, someAt, strikeLines, moveLine, moveLines}
 use Rattle.history.proofs.Sum.{ind, ind-same, ind-yes, ind-no, ind-true}
 use Rattle.history.proofs.Lists.{text?, All, without, without-same, without-other, all-times, times-without, times-without-other}
-use Rattle.history.proofs.View.{View, Live, Used, Names, At, namings, entries, SameName, SetName, SetObj, no-entry}
+use Rattle.history.proofs.View.{View, Live, Used, At, entries, SameName, no-entry}
 use Rattle.history.proofs.Tree.{Tree, one-name, one-entry}
 use Rattle.history.proofs.Change.{Created, Removed, Moved}
 use Rattle.history.proofs.Handles.{same-object}

@@ -1,54 +1,44 @@
 -- What GETATTR and FSSTAT answer, by the book. Assumes nothing.
-use mathlib.Core.Path.{_≡_, refl, sym, ap, ap₂, _∙_, subst}
-use mathlib.Core.Logic.{_≢_, _⊎_, by-cases}
-use mathlib.Core.Bool.{Bool, true, false, _&&_, not, cond}
-use mathlib.Core.Option.{Option, some, none}
+use mathlib.Core.Path.{_≡_, refl, sym, ap, _∙_}
+use mathlib.Core.Bool.{Bool, true, false, cond}
+use mathlib.Core.Option.{some}
 use mathlib.Core.List.{List, [], _∷_, _++_, append-nil}
-use Prim.Native.Nat.{ℕ, zero, suc, _+_, _*_, _-_, _/_, _%_, _≤_, _<_}
+use Prim.Native.Nat.{ℕ, _+_, _*_, _-_, _/_, _%_, _≤_, _<_}
 use native.Mathlib.Omega.{arith}
 use lib.Dec.{eqb, leb, lit<}
-use lib.ListN.{length, getD}
+use lib.ListN.{length}
 use borrow.Author.Tests.{eq-eqb, ne-eqb, lt-leb}
-use Rattle.kinds.specs.declared.object.Context.{Context}
-use Rattle.kinds.specs.declared.object.Attributes.{Attributes}
 use Rattle.kinds.specs.declared.call.Part.{Part}
-use Rattle.kinds.specs.declared.call.Arguments.{Arguments}
 use Rattle.kinds.specs.declared.call.Arguments.the-variants as Call
 use Rattle.spec.specs.Bytes.{beAt, words}
 use Rattle.spec.specs.Checked.{Checked, refused, passed}
-use Rattle.spec.specs.Count.{count}
 use Rattle.spec.specs.Handles.{reach, attributes, shownSize}
-use Rattle.spec.specs.Image.{Store, stamp, objects, names, blocks, objectAt}
+use Rattle.spec.specs.Image.{Store, stamp, objects, blocks, objectAt}
 use Rattle.spec.specs.Procedures.{cut, act}
 use Rattle.spec.specs.Procedures.Attributes.{getattr}
 use Rattle.spec.specs.Procedures.Volume.{fsstat}
 use Rattle.spec.specs.Replies.{resultBytes, fattr3, postOp, hyper}
-use Rattle.spec.specs.Results.{Result, Done, null, dead, gotAttributes, gotRoom, settle, unchanged, failShowing}
+use Rattle.spec.specs.Results.{Result, Done, dead, gotAttributes, gotRoom, settle, unchanged, failShowing}
 use Rattle.spec.specs.Room.{isLive, isDirectory, isFreeBlock, isAvailable, sizeOf, freeBlockCount, availableCount}
 use Rattle.spec.specs.Rpc.{accepted}
-use Rattle.spec.proofs.Bytes.{lt-or-le}
 use Rattle.spec.proofs.Count.{by-bool, count-bound}
 use Rattle.spec.proofs.Error.{statusOf}
-use Rattle.spec.proofs.Range.{Below, be-below}
+use Rattle.spec.proofs.Range.{be-below}
 use Rattle.spec.proofs.RecordRange.{objectAt-fits}
-use Rattle.spec.proofs.Valid.{LiveObject, true-live, live-size}
+use Rattle.spec.proofs.Valid.{true-live}
 use Rattle.history.specs.Book.{Ledger, handleBytes, statusIn, isOk}
 use Rattle.history.specs.Run.{Request, replyTo}
 use Rattle.history.specs.Statement as Shown
-use Rattle.history.specs.Statement.{HasLine, Asks, objectIn, shownKind, shownFree, shownAvailable, placesIn, blocksLeft, objectsLeft, spentRecords}
-use Rattle.history.proofs.View.{View, Live}
-use Rattle.history.proofs.Tree.{Tree}
+use Rattle.history.specs.Statement.{HasLine, Asks, objectIn, shownKind, shownFree, shownAvailable}
+use Rattle.history.proofs.View.{Live}
 use Rattle.history.proofs.Handles.{handle-length, handle-stamp, handle-object, handle-generation}
-use Rattle.history.proofs.Agree.{handleIn}
-use Rattle.history.proofs.Issue.{Issues}
-use Rattle.history.proofs.Replies.{Begins, begins, word-of, long-of, ok-is, status-is, answered-ok}
+use Rattle.history.proofs.Replies.{Begins, begins, word-of, long-of, ok-is, status-is}
 use Rattle.history.proofs.Seen.{view, kind-at, gen-at, live-in}
 use Rattle.history.proofs.Bridge.{size-small}
-use Rattle.history.proofs.Inv.{Inv, tree, live-record}
+use Rattle.history.proofs.Inv.{Inv, tree}
 use Rattle.history.proofs.Lines.{lined-current}
-use Rattle.history.proofs.Counts.{free-blocks, available-objects}
 use Rattle.history.proofs.Later.{small-live}
-use Rattle.history.proofs.Noted.{Answer, dead-fails}
+use Rattle.history.proofs.Noted.{dead-fails}
 use Rattle.history.proofs.Next.{answer-to}
 
 module _ (σ p q r : ℕ) (s : Store) (L : Ledger) (I : Inv σ p q r s L) where

@@ -1,27 +1,25 @@
 -- From the check to the tree and the room, and back. Assumes nothing.
-use mathlib.Core.Path.{_≡_, refl, sym, ap, ap₂, _∙_, subst}
-use mathlib.Core.Logic.{_≢_, _⊎_, ⊎-elim, by-cases}
-use mathlib.Core.Bool.{Bool, true, false, _&&_, cond}
-use mathlib.Core.List.{List, [], _∷_}
-use Prim.Native.Nat.{ℕ, zero, suc, _+_, _≤_, _<_}
+use mathlib.Core.Path.{_≡_, sym, ap, _∙_}
+use mathlib.Core.Logic.{_⊎_, by-cases}
+use mathlib.Core.List.{List}
+use Prim.Native.Nat.{ℕ, _+_, _≤_, _<_}
 use native.Mathlib.Decide.{ℕ-discrete, decLt}
 use native.Mathlib.Omega.{arith}
 use lib.ListN.{length, take, getD, length-take}
 use lib.Seq.{getD-take}
-use Rattle.kinds.specs.declared.object.Object.{Object}
-use Rattle.spec.specs.Count.{bit, sum, count, iterate, times}
-use Rattle.spec.specs.Image.{Store, objects, names, blocks, objectAt, objectFrom, objectStart, nameAt, nameLength}
-use Rattle.spec.specs.Room.{isNamed, held, sizeOf, need, uses, above}
+use Rattle.spec.specs.Count.{times}
+use Rattle.spec.specs.Image.{Store, objects, names, blocks, objectAt, objectFrom, objectStart, nameAt}
+use Rattle.spec.specs.Room.{held, sizeOf, need}
 use Rattle.spec.proofs.Count.{sum-zero, sum-at}
 use Rattle.spec.proofs.Records.{halves-count}
-use Rattle.spec.proofs.Valid.{Shaped, LiveObject, GoodObject, GoodObjects, FreeName, UsedName, GoodNameRecord, GoodNames, BlocksUsedOnce, Valid, live-kind, live-size}
+use Rattle.spec.proofs.Valid.{Shaped, GoodObject, GoodObjects, UsedName, GoodNameRecord, GoodNames, BlocksUsedOnce, Valid, live-size}
 use Rattle.history.proofs.Sum.{ind, ind-yes}
 use Rattle.history.proofs.Lists.{All, all-times, times-all, times-place}
-use Rattle.history.proofs.View.{View, Live, Used, Names, At, names?, at?, namings, entries, Path, named-by, entry-by}
+use Rattle.history.proofs.View.{Live, Used, At, at?, entries, entry-by}
 use Rattle.history.proofs.Tree.{Flat, Tree, lone, live-bound, path-short}
 use Rattle.history.proofs.Room.{Room}
-use Rattle.history.proofs.Walk.{parentIn, path-walk, walk-path}
-use Rattle.history.proofs.Seen.{view, heldBy, kind-at, dir-at, child-at, text-at, held-at, live-in, used-in, held-in, uses-same, text-long, used-of, namings-same, entries-same, above-same}
+use Rattle.history.proofs.Walk.{path-walk, walk-path}
+use Rattle.history.proofs.Seen.{view, heldBy, kind-at, dir-at, child-at, text-at, held-at, live-in, used-in, held-in, uses-same, text-long, namings-same, entries-same, above-same}
 
 module _ (s : Store) (K : Valid s) where
   used-name : (n : ℕ) → Used (view s) n → UsedName s n

@@ -1,56 +1,45 @@
 -- Every handle in an OK reply is a live object's after the call. Assumes nothing.
 use mathlib.Core.Path.{_≡_, refl, sym, ap, _∙_, subst}
-use mathlib.Core.Logic.{_≢_, _⊎_, by-cases}
-use mathlib.Core.Bool.{Bool, true, false, not, cond}
+use mathlib.Core.Logic.{_⊎_}
+use mathlib.Core.Bool.{Bool, true, false, cond}
 use mathlib.Core.Option.{Option, some, none}
-use mathlib.Core.List.{List, [], _∷_}
-use Prim.Native.Nat.{ℕ, zero, suc, _+_, _≤_, _<_}
+use mathlib.Core.List.{List}
+use Prim.Native.Nat.{ℕ}
 use native.Mathlib.Omega.{arith}
-use lib.Dec.{lit<}
-use lib.ListN.{length}
-use Rattle.kinds.specs.declared.object.Context.{Context}
 use Rattle.kinds.specs.declared.call.NameIn.{NameIn}
-use Rattle.kinds.specs.declared.call.How.{How}
-use Rattle.kinds.specs.declared.call.Settable.{Settable}
 use Rattle.kinds.specs.declared.call.Arguments.{Arguments}
 use Rattle.kinds.specs.declared.call.Arguments.the-variants as Call
 use Rattle.spec.specs.Checked.{Checked, refused, passed, present}
-use Rattle.spec.specs.Count.{lowest}
 use Rattle.spec.specs.Handles.{handleOf, reachDirectory, checkName, attributes}
-use Rattle.spec.specs.Image.{Store, stamp, objects, names, objectAt, nameAt}
+use Rattle.spec.specs.Image.{Store, stamp, names, objectAt, nameAt}
 use Rattle.spec.specs.Names.{isDot, isDotDot}
 use Rattle.spec.specs.Procedures.{cut, act}
 use Rattle.spec.specs.Procedures.Names.{childOf, lookIn, checkLookup}
 use Rattle.spec.specs.Procedures.Names as Spec
-use Rattle.spec.specs.Replies.{resultBytes}
-use Rattle.spec.specs.Results.{Done, Result, unchanged, failShowing, settle, found}
+use Rattle.spec.specs.Results.{unchanged, failShowing, settle, found}
 use Rattle.spec.specs.Room.{findName, parent}
-use Rattle.spec.specs.Rpc.{accepted}
-use Rattle.spec.specs.Serve.{Outcome}
-use Rattle.spec.proofs.Count.{by-bool, true-false, lowest-passes}
+use Rattle.spec.proofs.Count.{true-false, lowest-passes}
 use Rattle.history.proofs.Sum.{holds, holds-true}
 use Rattle.spec.proofs.Error.{lookup-store}
+use Rattle.spec.proofs.Passed.{bind-passed, directory-passed}
 use Rattle.spec.proofs.Valid.{passes-valid}
-use Rattle.history.specs.Book.{Ledger, asked, foundHandle, madeHandle, isOk, noted, note}
+use Rattle.history.specs.Book.{Ledger, asked, foundHandle, madeHandle, isOk}
 use Rattle.history.specs.Run.{Request, Lent, outcome, replyTo}
-use Rattle.history.specs.Statement.{HasLine, Asks, Carries, lookup, create, mkdir}
-use Rattle.history.proofs.View.{View, Live, Used, At, names?}
-use Rattle.history.proofs.Tree.{Flat, Tree}
-use Rattle.history.proofs.Walk.{directoryAt, naming, parentIn, parent-root, parent-of}
-use Rattle.history.proofs.Agree.{handleIn}
+use Rattle.history.specs.Statement.{Asks, Carries, lookup, create, mkdir}
+use Rattle.history.proofs.View.{Live, names?}
+use Rattle.history.proofs.Tree.{Tree}
+use Rattle.history.proofs.Walk.{directoryAt, naming}
 use Rattle.history.proofs.Issue.{Current}
-use Rattle.history.proofs.Seen.{view, kind-at, dir-at, child-at, live-in, parent-same}
-use Rattle.history.proofs.Inv.{Inv, Owes, tree}
-use Rattle.history.proofs.Checks.{Reached, reached-directory, passed-bind, passed-present, found-name, Sure, sure-bind, sure-passed, sure-present, sure-directory, sure-name}
+use Rattle.history.proofs.Seen.{view, kind-at, child-at, live-in, parent-same}
+use Rattle.history.proofs.Inv.{Inv, tree}
+use Rattle.history.proofs.Checks.{found-name, Sure, sure-bind, sure-passed, sure-directory, sure-name}
 use Rattle.history.proofs.Replies.{found-is}
-use Rattle.history.proofs.Asked.{Acted, acted, Idle, served}
-use Rattle.spec.proofs.ArgumentRange.{FitsArguments}
+use Rattle.history.proofs.Asked.{acted, Idle, served}
 use Rattle.history.proofs.Ranges.{asked-fits}
 use Rattle.history.proofs.Noted.{Answer, showing-fails, not-ok}
 use Rattle.history.proofs.Making.{handle-seen}
-use Rattle.history.proofs.Create.{Made, create-made, mkdir-made}
+use Rattle.history.proofs.Create.{create-made, mkdir-made}
 use Rattle.history.proofs.Next.{answer-to, clocked}
-use Rattle.history.proofs.Sizes.{Clocked}
 
 module _ (σ p q r : ℕ) (s : Store) (L : Ledger) (I : Inv σ p q r s L) where
   -- a live directory's parent is live
@@ -110,13 +99,13 @@ module _ (σ p q r : ℕ) (s : Store) (L : Ledger) (I : Inv σ p q r s L) where
   look-facts : (h text : List ℕ) (x : ℕ × ℕ) → checkLookup s h text ≡ passed x → Live (view s) (x .1)
   unfolding checkLookup
   look-facts h text x e =
-      let (d, e₁, f₁) = passed-bind (reachDirectory s h) _ x e in
-      let (u, e₂, f₂) = passed-bind (checkName text) _ x f₁ in
-      let (o, e₃, f₃) = passed-bind (lookIn s d text) _ x f₂ in
+      bind-passed (reachDirectory s h) _ x e (λ d e₁ f₁.
+      bind-passed (checkName text) _ x f₁ (λ u e₂ f₂.
+      bind-passed (lookIn s d text) _ x f₂ (λ o e₃ f₃.
       let is : (d, o) ≡ x = cc in
-      let (w, k) = reached-directory s h d e₁ in
+      let (w, k) = directory-passed s h d e₁ in
       let l : Live (view s) d = omega (arith, kind-at s d (w .below)) in
-      subst (Live (view s)) (ap (λ (y : ℕ × ℕ). y .1) is) (look-live d text o l e₃)
+      subst (Live (view s)) (ap (λ (y : ℕ × ℕ). y .1) is) (look-live d text o l e₃))))
 
   lookup-shown : (call reply : List ℕ) (place : NameIn) → Answer call reply (Call.Lookup place) (Spec.lookup s (cut call (place .directory)) (cut call (place .name)) .result)
       → isOk reply ≡ true → Current σ (view s) (foundHandle reply)

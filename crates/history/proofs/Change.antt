@@ -1,15 +1,11 @@
--- The three changes of the tree, and that each keeps it: an object is created under a name, is removed with its name, or its name is moved.
--- Assumes nothing.
-use mathlib.Core.Path.{_≡_, refl, sym, ap, _∙_, subst}
-use mathlib.Core.Logic.{_≢_, by-cases}
+-- The three changes of the tree: an object is created with a name, is removed with its name, or its name is moved. Assumes nothing.
+use mathlib.Core.Path.{_≡_, sym, ap, _∙_, subst}
+use mathlib.Core.Logic.{_≢_}
 use mathlib.Core.List.{List, [], _∷_}
-use Prim.Native.Nat.{ℕ, zero, suc, _+_, _≤_, _<_}
-use native.Mathlib.Decide.{ℕ-discrete, decLt}
+use Prim.Native.Nat.{ℕ, suc, _≤_, _<_}
 use native.Mathlib.Omega.{arith}
-use lib.ListN.{length, drop, length-drop}
-use Rattle.spec.specs.Count.{bit, sum}
-use Rattle.spec.proofs.Count.{sum-upd, sum-at, sum-zero}
-use Rattle.history.proofs.View.{View, Live, Used, Names, At, names?, at?, namings, entries, Path, Avoids, SameName, SetName, SetObj, namings-set, entries-set, named-by, not-named, named-once}
+use lib.ListN.{length}
+use Rattle.history.proofs.View.{View, Used, Names, namings, entries, Path, Avoids, SameName, SetName, SetObj}
 use Rattle.history.proofs.Tree.{Tree}
 
 pub record Created (P Q : ℕ) (v w : View) (o q k d : ℕ) (t : List ℕ) : Type 0 where
@@ -42,7 +38,7 @@ pub record Moved (P Q : ℕ) (v w : View) (q e : ℕ) (t : List ℕ) : Type 0 wh
   pub absent : entries Q v e t ≡ 0
   pub clear : (qs : List ℕ) → Path v e qs → Avoids v (v .child q) e qs
 
--- ---- a way up that avoids c stays, where only the record that names c has changed
+-- ---- a path that avoids c stays, where only the record that names c has changed
 pub path-avoids : (v w : View) (c : ℕ) → ((p : ℕ) → Used v p → v .child p ≢ c → SameName v w p)
     → (qs : List ℕ) (i : ℕ) → Path v i qs → Avoids v c i qs → Path w i qs
 path-avoids v w c s [] i a x = a
@@ -60,16 +56,3 @@ avoid-free P Q v T c z (q ∷ qs) i a =
 pub avoid-empty : (v : View) (c : ℕ) → c ≢ 0 → ((p : ℕ) → Used v p → v .dir p ≢ c) → (qs : List ℕ) (i : ℕ) → i ≢ c → Path v i qs → Avoids v c i qs
 avoid-empty v c z b [] i n a = n
 avoid-empty v c z b (q ∷ qs) i n a = (n, avoid-empty v c z b qs (v .dir q) (b q (a .0 .0)) (a .1))
-
--- a way up stays where every used record does
-pub path-keep : (v w : View) → ((p : ℕ) → Used v p → SameName v w p) → (qs : List ℕ) (i : ℕ) → Path v i qs → Path w i qs
-path-keep v w s [] i a = a
-path-keep v w s (q ∷ qs) i a =
-    let h = s q (a .0 .0) in
-    ((omega (arith, ap length (h .text)), h .child ∙ a .0 .1), subst (λ (y : ℕ). Path w y qs) (sym (h .dir)) (path-keep v w s qs (v .dir q) (a .1)))
-
-pub avoid-keep : (v w : View) (c : ℕ) → ((p : ℕ) → Used v p → SameName v w p) → (qs : List ℕ) (i : ℕ) → Path v i qs → Avoids w c i qs → Avoids v c i qs
-avoid-keep v w c s [] i a x = x
-avoid-keep v w c s (q ∷ qs) i a x =
-    let h = s q (a .0 .0) in
-    (x .0, avoid-keep v w c s qs (v .dir q) (a .1) (subst (λ (y : ℕ). Avoids w c y qs) (h .dir) (x .1)))

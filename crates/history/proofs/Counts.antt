@@ -1,41 +1,40 @@
 -- What the invariant says of the counts: lines, places, free names and available objects. Assumes nothing.
-use mathlib.Core.Path.{_≡_, refl, sym, ap, ap₂, _∙_, subst}
-use mathlib.Core.Logic.{_≢_, _↔_, _⊎_, inl, inr, by-cases, ⊎-elim}
+use mathlib.Core.Path.{_≡_, refl, sym, ap, ap₂, _∙_}
+use mathlib.Core.Logic.{_↔_, _⊎_, inl, inr, by-cases, ⊎-elim}
 use mathlib.Core.Bool.{Bool, true, false, _&&_, _||_, not}
-use mathlib.Core.List.{List, [], _∷_, _++_, map, List·Memᴰ, List·Memᴰ·head, List·Memᴰ·tail, List·Memᴰ·cases-cons, List·Memᴰ·not-nil}
-use Prim.Native.Nat.{ℕ, zero, suc, _+_, _*_, _-_, _≤_, _<_}
+use mathlib.Core.List.{List, [], _∷_, map, List·Memᴰ, List·Memᴰ·head, List·Memᴰ·tail, List·Memᴰ·cases-cons, List·Memᴰ·not-nil}
+use Prim.Native.Nat.{ℕ, _+_, _*_, _-_, _≤_, _<_}
 use native.Mathlib.Decide.{ℕ-discrete, decLt}
-use native.Mathlib.Nat.{not-suc-le-zero, zero-mul, one-mul, mul-one}
+use native.Mathlib.Nat.{mul-one}
 use native.Mathlib.Omega.{arith}
 use lib.Dec.{eqb, ltb}
-use lib.ListN.{length, getD, take, length-append, length-map}
+use lib.ListN.{length, getD}
 use lib.Seq.{getD-take}
-use borrow.Author.Tests.{eq-eqb, ne-eqb, eqb-true, lt-ltb, le-ltb, ltb-true}
+use borrow.Author.Tests.{eq-eqb, ne-eqb, lt-ltb, le-ltb}
 use Rattle.kinds.specs.declared.object.Object.{Object}
 use Rattle.spec.specs.Bytes.{sameBytes}
 use Rattle.spec.specs.Count.{bit, sum, count, times}
-use Rattle.spec.specs.Image.{Store, objects, names, blocks, objectAt, nameAt}
-use Rattle.spec.specs.Room.{isLive, isRegular, isAvailable, isUsedName, sizeOf, need, held, uses, freeBlockCount, availableCount, freeNameCount}
-use Rattle.spec.proofs.BlockLists.{InRange, held-range}
+use Rattle.spec.specs.Image.{Store, objects, names, blocks, objectAt}
+use Rattle.spec.specs.Room.{isLive, isAvailable, isUsedName, sizeOf, need, held, freeBlockCount, availableCount, freeNameCount}
 use Rattle.spec.proofs.Bytes.{same-yes, same-no}
-use Rattle.spec.proofs.Count.{sum-ext, sum-add, sum-zero, by-bool, true-false, and-both}
-use Rattle.spec.proofs.FreeCount.{free-and-used, uses-total}
+use Rattle.spec.proofs.Count.{sum-ext, sum-add, by-bool, true-false, and-both}
+use Rattle.spec.proofs.FreeRoom.{free-room}
 use Rattle.spec.proofs.Tests.{and-true, or-one}
-use Rattle.spec.proofs.Valid.{LiveObject, GoodObject, live-true, true-live, false-live, live-kind, live-size}
-use Rattle.history.specs.Book.{Standing, asRoot, under, Line, Book, Ledger, handleBytes}
+use Rattle.spec.proofs.Valid.{GoodObject, live-true, true-live, false-live}
+use Rattle.history.specs.Book.{Line, Book, Ledger, handleBytes}
 use Rattle.history.specs.Statement.{In, HasLine, liveObjects, objectIn, placesIn, hasName, namedLines, isAmong, isLined, lastHandle, spentRecords}
 use Rattle.history.proofs.Sum.{ind, ind-yes, ind-no, holds-same, sum-const}
 use Rattle.history.proofs.Lists.{text?, All, all-times}
-use Rattle.history.proofs.View.{View, Live, Used}
-use Rattle.history.proofs.Tree.{Flat, Tree, live?, living}
+use Rattle.history.proofs.View.{Live, Used}
+use Rattle.history.proofs.Tree.{Tree, live?, living}
 use Rattle.history.proofs.Handles.{same-object, same-generation, handle-object}
-use Rattle.history.proofs.Agree.{Agrees, handleIn, lineOf, rootLine, used?}
-use Rattle.history.proofs.Issue.{Issues, Issued, issued, issued-small}
+use Rattle.history.proofs.Agree.{lineOf, rootLine, used?}
+use Rattle.history.proofs.Issue.{issued, issued-small}
 use Rattle.history.proofs.Room.{one-place}
-use Rattle.history.proofs.Seen.{view, heldBy, kind-at, gen-at, held-at, live-in, used-in, used-of, of-used}
+use Rattle.history.proofs.Seen.{view, heldBy, kind-at, gen-at, held-at, used-of, of-used}
 use Rattle.history.proofs.Bridge.{held-long, room-of}
-use Rattle.history.proofs.Inv.{Inv, Grew, tree, live-record}
-use Rattle.history.proofs.Lines.{total, total-append, total-map, total-ext, total-times, in-book, current-lined, lined-current, book-sum, factor-no, factor-yes}
+use Rattle.history.proofs.Inv.{Inv, tree, good}
+use Rattle.history.proofs.Lines.{total, total-append, total-map, total-ext, total-times, current-lined, lined-current, book-sum, factor-no, factor-yes}
 
 -- ---- lists
 all-in : {A : Type 0} {P : A → Type 0} (xs : List A) → ((x : A) → List·Memᴰ x xs → P x) → All P xs
@@ -162,35 +161,26 @@ module _ (σ p q r : ℕ) (s : Store) (L : Ledger) (I : Inv σ p q r s L) where
       one-of true = refl
       one-of false = refl
 
-  -- ---- an object's blocks, by its type
-  no-size : (o : ℕ) → o < objects s → objectAt s o .size ≡ 0 → length (held s o) ≡ 0
+  -- ---- a live file's places are what its size needs, and no other object needs any
+  file-blocks : (i : ℕ) → i < objects s → ind (live? (view s) i) * (bit (eqb (view s .kind i) 1) * need (sizeOf s i)) ≡ need (sizeOf s i)
   unfolding sizeOf
-  no-size o l e = held-long s (I .valid) o l ∙ ap need e
-
-  in-range : (o : ℕ) → o < objects s → InRange (blocks s) (held s o)
-  in-range o l = go (I .valid .good-objects o l)
-    where
-      go : GoodObject (blocks s) (objectAt s o) → InRange (blocks s) (held s o)
-      go (_⊎_.inl f) = λ k h. absurd (omega (arith, no-size o l (ap (λ (v : Object). v .size) f)))
-      go (_⊎_.inr x) = held-range s o x
-
-  file-blocks : (i : ℕ) → i < objects s → ind (live? (view s) i) * (bit (eqb (view s .kind i) 1) * need (sizeOf s i)) ≡ length (held s i)
   file-blocks i l = go (I .valid .good-objects i l)
     where
-      size : LiveObject (blocks s) (objectAt s i) → ((objectAt s i .kind ≡ 1) × (objectAt s i .size ≤ 8192)) ⊎ ((objectAt s i .kind ≡ 2) × (objectAt s i .size ≡ 0))
-          → ind (live? (view s) i) * (bit (eqb (view s .kind i) 1) * need (sizeOf s i)) ≡ length (held s i)
-      size x (_⊎_.inl a) =
+      by-size : ((objectAt s i .kind ≡ 1) × (objectAt s i .size ≤ 8192)) ⊎ ((objectAt s i .kind ≡ 2) × (objectAt s i .size ≡ 0))
+          → ind (live? (view s) i) * (bit (eqb (view s .kind i) 1) * need (objectAt s i .size)) ≡ need (objectAt s i .size)
+      by-size (_⊎_.inl a) =
           factor-yes (ind (live? (view s) i)) _ (ind-yes (live? (view s) i) (omega (arith, kind-at s i l, a .0)))
-          ∙ factor-yes (bit (eqb (view s .kind i) 1)) (need (sizeOf s i)) (ap bit (eq-eqb (view s .kind i) 1 (kind-at s i l ∙ a .0))) ∙ sym (held-long s (I .valid) i l)
-      size x (_⊎_.inr a) =
+          ∙ factor-yes (bit (eqb (view s .kind i) 1)) (need (objectAt s i .size)) (ap bit (eq-eqb (view s .kind i) 1 (kind-at s i l ∙ a .0)))
+      by-size (_⊎_.inr a) =
           factor-yes (ind (live? (view s) i)) _ (ind-yes (live? (view s) i) (omega (arith, kind-at s i l, a .0)))
-          ∙ factor-no (bit (eqb (view s .kind i) 1)) (need (sizeOf s i)) (ap bit (ne-eqb (view s .kind i) 1 (λ e. omega (arith, kind-at s i l, a .0)))) ∙ sym (no-size i l (a .1))
+          ∙ factor-no (bit (eqb (view s .kind i) 1)) (need (objectAt s i .size)) (ap bit (ne-eqb (view s .kind i) 1 (λ e. omega (arith, kind-at s i l, a .0))))
+          ∙ ap need (sym (a .1))
 
-      go : GoodObject (blocks s) (objectAt s i) → ind (live? (view s) i) * (bit (eqb (view s .kind i) 1) * need (sizeOf s i)) ≡ length (held s i)
+      go : GoodObject (blocks s) (objectAt s i) → ind (live? (view s) i) * (bit (eqb (view s .kind i) 1) * need (objectAt s i .size)) ≡ need (objectAt s i .size)
       go (_⊎_.inl f) =
           factor-no (ind (live? (view s) i)) _ (ind-no (live? (view s) i) (λ v. omega (arith, kind-at s i l, ap (λ (x : Object). x .kind) f)))
-          ∙ sym (no-size i l (ap (λ (v : Object). v .size) f))
-      go (_⊎_.inr x) = size x (x .size)
+          ∙ ap need (sym (ap (λ (v : Object). v .size) f))
+      go (_⊎_.inr x) = by-size (x .size)
 
   -- ---- "Free blocks are R less the places"
   pub free-blocks : freeBlockCount s + placesIn s (L .book) ≡ r
@@ -203,10 +193,9 @@ module _ (σ p q r : ℕ) (s : Store) (L : Ledger) (I : Inv σ p q r s L) where
       let w : objectIn (l .handle) ≡ o = ap objectIn e ∙ handle-object σ o (view s .gen o) (omega (arith, T .flat .past o v, T .flat .few)) in
       ap (λ (k : ℕ). bit (eqb k 1) * need (sizeOf s (objectIn (l .handle)))) (sym f ∙ ap (view s .kind) (sym w)))) in
       let c = book-sum σ p q r s L I G in
-      let d = sum-ext p (λ i. ind (live? (view s) i) * G i) (λ i. length (held s i)) (λ i l. file-blocks i (omega (arith, I .objs))) in
-      let e = uses-total s in-range in
-      let f = free-and-used s (I .valid .used-once) in
-      let g = ap (λ (n : ℕ). sum n (λ i. length (held s i))) (I .objs) in
+      let d = sum-ext p (λ i. ind (live? (view s) i) * G i) (λ i. need (sizeOf s i)) (λ i l. file-blocks i (omega (arith, I .objs))) in
+      let e = free-room s (good σ p q r s L I) in
+      let g = ap (λ (n : ℕ). sum n (λ i. need (sizeOf s i))) (I .objs) in
       omega (arith, I .blks)
 
   held-block : (i k : ℕ) → k < need (sizeOf s i) → getD (held s i) k 0 ≡ getD (objectAt s i .blocks) k 0

@@ -1,18 +1,16 @@
--- A birth keeps the tree.
--- Assumes nothing.
-use mathlib.Core.Path.{_≡_, refl, sym, ap, _∙_, subst}
+-- A new object keeps the tree. Assumes nothing.
+use mathlib.Core.Path.{_≡_, sym, ap, _∙_, subst}
 use mathlib.Core.Logic.{_≢_, by-cases}
-use mathlib.Core.List.{List, [], _∷_}
-use Prim.Native.Nat.{ℕ, zero, suc, _+_, _≤_, _<_}
-use native.Mathlib.Decide.{ℕ-discrete, decLt}
+use mathlib.Core.List.{List, _∷_}
+use Prim.Native.Nat.{ℕ}
+use native.Mathlib.Decide.{ℕ-discrete}
 use native.Mathlib.Omega.{arith}
-use lib.ListN.{length, drop, length-drop}
-use Rattle.spec.specs.Count.{bit, sum}
-use Rattle.spec.proofs.Count.{sum-upd, sum-at, sum-zero}
+use lib.ListN.{length}
+use Rattle.spec.proofs.Count.{sum-zero}
 use Rattle.history.proofs.Sum.{ind, ind-yes, ind-no, ind-le}
-use Rattle.history.proofs.View.{View, Live, Used, Names, At, names?, at?, namings, entries, Path, Avoids, SameName, SetName, SetObj, namings-set, entries-set, named-by, not-named, named-once}
-use Rattle.history.proofs.Tree.{Tree, live?, living, path-live, one-name}
-use Rattle.history.proofs.Change.{Created, Removed, Moved, path-avoids, avoid-free, avoid-empty}
+use Rattle.history.proofs.View.{View, Live, Used, names?, at?, namings, entries, Path, SameName, namings-set, entries-set}
+use Rattle.history.proofs.Tree.{Tree}
+use Rattle.history.proofs.Change.{Created, path-avoids, avoid-free}
 
 module _ (P Q : ℕ) (v w : View) (o q k d : ℕ) (t : List ℕ) (T : Tree P Q v) (B : Created P Q v w o q k d t) where
   not-root : o ≢ 0

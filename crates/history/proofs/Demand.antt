@@ -1,10 +1,9 @@
 -- Demand 3, proved: each field of `Kept` from the invariant, and the invariant after any list of requests from any successful format.
 -- Assumes nothing.
-use mathlib.Core.Path.{_≡_, refl, sym, ap, _∙_, subst}
-use mathlib.Core.Logic.{_≢_, _⊎_}
-use mathlib.Core.Bool.{Bool, true, false, _&&_, cond}
-use mathlib.Core.List.{List, [], _∷_}
-use Prim.Native.Nat.{ℕ, zero, suc, _+_, _*_, _-_, _^_, _≤_, _<_}
+use mathlib.Core.Path.{_≡_, sym, ap, _∙_, subst}
+use mathlib.Core.Bool.{_&&_}
+use mathlib.Core.List.{List}
+use Prim.Native.Nat.{ℕ, _*_, _-_, _<_}
 use native.Mathlib.Omega.{arith}
 use lib.Dec.{eqb, leb, ltb}
 use lib.ListN.{length}
@@ -12,17 +11,15 @@ use borrow.Author.Tests.{leb-true, ltb-true}
 use Rattle.kinds.specs.declared.object.Time.{Time}
 use Rattle.spec.specs.Check.{goodTime, goodCounts, imageLength}
 use Rattle.spec.specs.Image.{Store}
-use Rattle.spec.specs.Serve.{Formatted, formatted, format}
+use Rattle.spec.specs.Serve.{formatted, format}
 use Rattle.spec.proofs.Count.{by-bool, and-both}
 use Rattle.spec.proofs.Formatted.{FormatAsked}
 use Rattle.spec.proofs.Valid.{passes-valid}
-use Rattle.history.specs.Book.{Ledger, firstLedger, handleBytes}
+use Rattle.history.specs.Book.{firstLedger}
 use Rattle.history.specs.Run.{Request, Lent, AllLent, State, step, run}
 use Rattle.history.specs.Statement.{HasLine, Kept, formattedState, Demand3}
-use Rattle.history.proofs.View.{View, Live}
-use Rattle.history.proofs.Issue.{Current}
 use Rattle.history.proofs.Seen.{view}
-use Rattle.history.proofs.Inv.{Inv, Grew, Owes}
+use Rattle.history.proofs.Inv.{Inv, Owes}
 use Rattle.history.proofs.Next.{next, run-owes, format-inv}
 use Rattle.history.proofs.Lines.{object-lines, name-lines, current-lined}
 use Rattle.history.proofs.Counts.{line-count, name-line-count, line-given, free-blocks, free-names, available-objects, one-block}
@@ -74,13 +71,13 @@ kept σ p q r w I =
           let (o, n, f, m, b, c) = removed-old σ p q r s L I g d in
           let y = later xs l in
           getattr-stale σ p q r (run w xs .store) (run w xs .ledger) (y .inv) x h k o n b c (omega (arith, y .grew .older o)) (e ∙ f);
-      gone = λ g d xs l. removed-stays σ p q r s (run w xs .store) L (run w xs .ledger) I (later xs l .inv) (later xs l .grew) g d;
+      neverAgain = λ g d xs l. removed-stays σ p q r s (run w xs .store) L (run w xs .ledger) I (later xs l .inv) (later xs l .grew) g d;
       sameKind = λ g i j a xs l b. same-kind σ p q r s (run w xs .store) L (run w xs .ledger) I (later xs l .inv) (later xs l .grew) g i j a b;
-      setattrRoom = λ x h a g o _ k. setattr-room σ p q r s L I x h a g o k;
-      writeRoom = λ x h offset n bytes o _ k. write-room σ p q r s L I x h offset n bytes o k;
-      createRoom = λ x target manner a d _ k. create-room σ p q r s L I x target manner a d k;
-      recreateRoom = λ x target a d n _ k. recreate-room σ p q r s L I x target a d n k;
-      mkdirRoom = λ x target a d _ k. mkdir-room σ p q r s L I x target a d k;
+      setattrRoom = setattr-room σ p q r s L I;
+      writeRoom = write-room σ p q r s L I;
+      createRoom = create-room σ p q r s L I;
+      recreateRoom = recreate-room σ p q r s L I;
+      mkdirRoom = mkdir-room σ p q r s L I;
     }
 
 -- what a successful format was asked for, and what it made

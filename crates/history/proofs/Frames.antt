@@ -1,16 +1,15 @@
 -- The frames of spec's edits, as changes of the view. Assumes nothing.
-use mathlib.Core.Path.{_≡_, refl, sym, ap, _∙_, subst}
+use mathlib.Core.Path.{_≡_, sym, ap, _∙_}
 use mathlib.Core.Logic.{_≢_, by-cases}
-use mathlib.Core.List.{List, []}
-use Prim.Native.Nat.{ℕ, _+_, _≤_, _<_}
-use native.Mathlib.Decide.{ℕ-discrete, decLt}
+use mathlib.Core.List.{[]}
+use Prim.Native.Nat.{ℕ, _<_}
+use native.Mathlib.Decide.{decLt}
 use native.Mathlib.Omega.{arith}
-use lib.ListN.{length}
 use Rattle.kinds.specs.declared.object.Object.{Object}
 use Rattle.spec.specs.Image.{Store, objects, names, objectAt, Name, nameAt}
 use Rattle.spec.proofs.Kept.{NameKept, NameIs}
 use Rattle.spec.proofs.Shape.{SameShape}
-use Rattle.history.proofs.View.{View, SameName, SetName, SetObj}
+use Rattle.history.proofs.View.{SameName, SetName, SetObj}
 use Rattle.history.proofs.Seen.{within, within-yes, within-no, view, kind-at, gen-at, dir-at, child-at, text-at}
 
 -- a record's reading stays, in range and out of range

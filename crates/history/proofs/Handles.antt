@@ -1,16 +1,14 @@
 -- Words in bytes, and handles: three words are read again, and twelve bytes are the handle of the three words they spell. Assumes nothing.
-use mathlib.Core.Path.{_≡_, refl, sym, ap, ap₂, _∙_, subst}
-use mathlib.Core.Logic.{_≢_}
+use mathlib.Core.Path.{_≡_, sym, ap, _∙_}
 use mathlib.Core.List.{List, [], _∷_, _++_, append-assoc, append-nil}
-use Prim.Native.Nat.{ℕ, zero, suc, _+_, _*_, _/_, _%_, _^_, _≤_, _<_}
-use native.Mathlib.Nat.{mul-suc}
+use Prim.Native.Nat.{ℕ, zero, suc, _+_, _*_, _/_, _%_, _≤_, _<_}
 use native.Mathlib.Omega.{arith}
-use lib.Dec.{lit<, lit≤}
-use lib.ListN.{length, take, drop, getD, length-append}
+use lib.Dec.{lit<}
+use lib.ListN.{length, getD}
 use Rattle.spec.specs.Bytes.{part, beOf, digits, bytesOf, beAt, words}
 use Rattle.spec.proofs.Bytes.{part-left, part-right, part-whole, part-add, part-length, bytes-length, be-bytes}
 use Rattle.spec.proofs.Words.{words-length}
-use Rattle.spec.proofs.Range.{Below, below-take, below-drop}
+use Rattle.spec.proofs.Range.{Below}
 use Rattle.spec.proofs.RecordRange.{below-part}
 use Rattle.history.specs.Book.{handleBytes}
 

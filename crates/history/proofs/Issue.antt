@@ -1,14 +1,13 @@
 -- Handles issued: object i has had one for each generation up to its own, its own only while it is live. Assumes nothing.
-use mathlib.Core.Path.{_≡_, refl, sym, ap, _∙_, subst}
+use mathlib.Core.Path.{_≡_, refl, ap, _∙_}
 use mathlib.Core.Logic.{_≢_, _↔_, by-cases, ⊎-elim}
-use mathlib.Core.List.{List, [], _∷_, List·Memᴰ, List·Memᴰ·head, List·Memᴰ·tail, List·Memᴰ·cases-cons, Memᴰ·cast}
-use Prim.Native.Nat.{ℕ, zero, suc, _+_, _≤_, _<_}
+use mathlib.Core.List.{List, _∷_, List·Memᴰ, List·Memᴰ·head, List·Memᴰ·tail, List·Memᴰ·cases-cons, Memᴰ·cast}
+use Prim.Native.Nat.{ℕ, suc, _+_, _≤_, _<_}
 use native.Mathlib.Decide.{ℕ-discrete, decLt}
 use native.Mathlib.Omega.{arith}
-use lib.ListN.{length}
 use Rattle.history.specs.Book.{handleBytes}
 use Rattle.history.proofs.Sum.{ind, ind-same, ind-yes, ind-no}
-use Rattle.history.proofs.View.{View, Live, SetObj}
+use Rattle.history.proofs.View.{View, Live}
 use Rattle.history.proofs.Tree.{Tree, live?}
 use Rattle.history.proofs.Change.{Created, Removed, Moved}
 use Rattle.history.proofs.Handles.{same-object, same-generation}

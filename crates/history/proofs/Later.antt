@@ -1,25 +1,22 @@
 -- Handles through a list of requests: a new line's was never given out, and a removed one is never an object's again. Assumes nothing.
 use mathlib.Core.Path.{_≡_, refl, sym, ap, _∙_, subst}
-use mathlib.Core.Logic.{_≢_, _⊎_, inl, inr, by-cases, ⊎-elim}
-use mathlib.Core.Bool.{Bool, true, false}
-use mathlib.Core.List.{List, [], _∷_, List·Memᴰ, List·Memᴰ·head, List·Memᴰ·cases-cons, List·Memᴰ·not-nil, Memᴰ·cast}
-use Prim.Native.Nat.{ℕ, zero, suc, _+_, _*_, _≤_, _<_}
-use native.Mathlib.Decide.{ℕ-discrete}
+use mathlib.Core.Logic.{_⊎_, ⊎-elim}
+use mathlib.Core.List.{List, [], _∷_, List·Memᴰ, List·Memᴰ·head, List·Memᴰ·cases-cons, List·Memᴰ·not-nil}
+use Prim.Native.Nat.{ℕ, _*_, _≤_, _<_}
 use native.Mathlib.Omega.{arith}
 use native.Mathlib.Nat.{mul-comm}
 use lib.Dec.{eqb}
 use borrow.Author.Tests.{eq-eqb}
-use Rattle.spec.specs.Count.{bit, sum}
+use Rattle.spec.specs.Count.{bit}
 use Rattle.spec.specs.Image.{Store}
 use Rattle.spec.proofs.Count.{sum-ext}
 use Rattle.history.specs.Book.{Line, Book, Ledger, handleBytes}
 use Rattle.history.specs.Statement.{In, HasLine, IsRemoved, objectIn}
 use Rattle.history.proofs.Sum.{ind, ind-le}
-use Rattle.history.proofs.View.{View, Live}
-use Rattle.history.proofs.Tree.{Tree, live?}
+use Rattle.history.proofs.View.{Live}
+use Rattle.history.proofs.Tree.{live?}
 use Rattle.history.proofs.Handles.{same-object, same-generation, handle-object}
-use Rattle.history.proofs.Agree.{handleIn}
-use Rattle.history.proofs.Issue.{Issues, issued, issued-small}
+use Rattle.history.proofs.Issue.{issued-small}
 use Rattle.history.proofs.Seen.{view}
 use Rattle.history.proofs.Inv.{Inv, Grew, tree}
 use Rattle.history.proofs.Lines.{total, sum-single, current-lined, lined-current, book-sum}

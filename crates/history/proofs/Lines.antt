@@ -1,33 +1,28 @@
 -- What the invariant says of the book's lines: they are the store's objects and names, one each. Assumes nothing.
-use mathlib.Core.Path.{_≡_, refl, sym, ap, ap₂, _∙_, subst}
-use mathlib.Core.Logic.{_≢_, _↔_, _⊎_, inl, inr, by-cases, ⊎-elim}
-use mathlib.Core.Bool.{Bool, true, false, _&&_, not}
+use mathlib.Core.Path.{_≡_, refl, sym, ap, _∙_, subst}
+use mathlib.Core.Logic.{_↔_, _⊎_, inl, inr, by-cases, ⊎-elim}
 use mathlib.Core.List.{List, [], _∷_, _++_, map, List·Memᴰ, List·Memᴰ·head, List·Memᴰ·tail, List·Memᴰ·cases-cons, List·Memᴰ·not-nil, List·Memᴰ·append-cases, List·Memᴰ·eq-of-singleton, Memᴰ·append-left, Memᴰ·append-right, Memᴰ·map, Memᴰ·of-map, Memᴰ·cast}
-use Prim.Native.Nat.{ℕ, zero, suc, _+_, _*_, _≤_, _<_}
-use native.Mathlib.Decide.{ℕ-discrete, decLt}
+use Prim.Native.Nat.{ℕ, zero, suc, _+_, _*_, _<_}
+use native.Mathlib.Decide.{ℕ-discrete}
 use native.Mathlib.Nat.{not-suc-le-zero, zero-mul, one-mul, add-mul}
 use native.Mathlib.Omega.{arith}
 use lib.Dec.{eqb}
-use lib.ListN.{length, getD, length-append, length-map}
 use borrow.Author.Tests.{eq-eqb, ne-eqb, eqb-true}
-use Rattle.spec.specs.Bytes.{beAt}
-use Rattle.spec.specs.Count.{bit, sum, count, times}
+use Rattle.spec.specs.Count.{bit, sum, times}
 use Rattle.spec.specs.Handles.{handleOf}
-use Rattle.spec.specs.Image.{Store, stamp, objects, names, blocks, objectAt, nameAt}
-use Rattle.spec.specs.Room.{isLive, isUsedName}
-use Rattle.spec.proofs.Count.{sum-ext, sum-zero, sum-add, sum-at, true-false}
-use Rattle.spec.proofs.Valid.{live-true, true-live}
-use Rattle.history.specs.Book.{Standing, asRoot, under, Line, Book, Ledger, handleBytes}
-use Rattle.history.specs.Statement.{In, HasLine, HasName, StoredObject, StoredName, liveObjects, objectIn, hasName, namedLines}
+use Rattle.spec.specs.Image.{Store, nameAt}
+use Rattle.spec.proofs.Count.{sum-ext, sum-zero, sum-add}
+use Rattle.spec.proofs.Valid.{true-live}
+use Rattle.history.specs.Book.{asRoot, under, Line, Book, Ledger}
+use Rattle.history.specs.Statement.{In, HasLine, HasName, StoredObject, StoredName, objectIn}
 use Rattle.spec.proofs.FreeCount.{sum-swap}
 use Rattle.history.proofs.Sum.{ind, ind-yes, ind-no, ind-true, holds-same}
-use Rattle.history.proofs.Lists.{All, all-times, times-all, times-place, length-times}
-use Rattle.history.proofs.View.{View, Live, Used, Names, names?, namings, named-by}
-use Rattle.history.proofs.Tree.{Flat, Tree, live?, living, lone}
-use Rattle.history.proofs.Handles.{same-object, handle-object}
-use Rattle.history.proofs.Agree.{Agrees, handleIn, lineOf, rootLine, used?, all-used}
-use Rattle.history.proofs.Issue.{Issues, Issued, Current, issued}
-use Rattle.history.proofs.Seen.{view, kind-at, gen-at, dir-at, child-at, text-at, live-in, used-in, used-of, of-used}
+use Rattle.history.proofs.Lists.{All, all-times}
+use Rattle.history.proofs.View.{Live, Used, names?, namings, named-by}
+use Rattle.history.proofs.Tree.{Tree, live?}
+use Rattle.history.proofs.Handles.{handle-object}
+use Rattle.history.proofs.Agree.{Agrees, handleIn, lineOf, rootLine, used?}
+use Rattle.history.proofs.Seen.{view, kind-at, dir-at, child-at, text-at, live-in, used-in, used-of, of-used}
 use Rattle.history.proofs.Inv.{Inv, tree}
 use Rattle.history.proofs.Making.{handle-seen}
 use Rattle.history.proofs.Sizes.{seen-live}

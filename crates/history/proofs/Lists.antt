@@ -1,18 +1,16 @@
 -- Texts that are decided the same, and how often a number stands in a list. Assumes nothing.
 use mathlib.Core.Path.{_≡_, refl, sym, ap, _∙_, subst}
 use mathlib.Core.Logic.{_≢_, by-cases}
-use mathlib.Core.Bool.{Bool, true, false, not, cond}
-use mathlib.Core.List.{List, [], _∷_, _++_, map}
-use Prim.Native.Nat.{ℕ, zero, suc, _+_, _≤_, _<_}
+use mathlib.Core.Bool.{Bool, cond}
+use mathlib.Core.List.{List, [], _∷_}
+use Prim.Native.Nat.{ℕ, zero, suc, _<_}
 use native.Mathlib.Decide.{ℕ-discrete}
 use native.Mathlib.Nat.{not-suc-le-zero}
 use native.Mathlib.Omega.{arith}
 use lib.Dec.{eqb}
-use lib.ListN.{length, take, getD}
-use borrow.Author.Tests.{eq-eqb, ne-eqb, eqb-true, eqb-false}
-use Rattle.spec.specs.Count.{bit, sum, times}
-use Rattle.spec.proofs.Count.{sum-zero, sum-add}
-use Rattle.history.proofs.Sum.{sum-one}
+use lib.ListN.{length, getD}
+use borrow.Author.Tests.{eq-eqb, ne-eqb}
+use Rattle.spec.specs.Count.{bit, times}
 
 -- two lists of bytes are the same
 both? : {x y : ℕ} {xs ys : List ℕ} → Dec (x ≡ y) → Dec (xs ≡ ys) → Dec (_≡_ {A = List ℕ} (x ∷ xs) (y ∷ ys))
@@ -41,12 +39,6 @@ times-all P [] a h l = absurd (not-suc-le-zero l)
 times-all P (x ∷ xs) a h l = by-cases (ℕ-discrete x a)
     (λ e. subst P e (h .0))
     (λ n. times-all P xs a (h .1) (omega (arith, ap bit (ne-eqb x a n))))
-
-pub times-take : (a n : ℕ) (xs : List ℕ) → times a (take n xs) ≤ times a xs
-unfolding times
-times-take a zero xs = omega arith
-times-take a (suc n) [] = omega arith
-times-take a (suc n) (x ∷ xs) = omega (arith, times-take a n xs)
 
 pub times-at : (a d : ℕ) (xs : List ℕ) (k : ℕ) → k < length xs → getD xs k d ≡ a → 0 < times a xs
 unfolding times
@@ -97,10 +89,3 @@ times-without-other a b d [] = refl
 times-without-other a b d (x ∷ xs) = let r = times-without-other a b d xs in by-cases (ℕ-discrete x a)
     (λ e. ap (times b) (without-same a x xs e) ∙ omega (arith, ap bit (ne-eqb x b (λ f. d (sym f ∙ e)))))
     (λ n. ap (times b) (without-other a x xs n) ∙ omega arith)
-
--- a list of numbers below n is as long as its elements' counts say
-pub length-times : (n : ℕ) (xs : List ℕ) → All (λ x. x < n) xs → length xs ≡ sum n (λ i. times i xs)
-unfolding times
-length-times n [] h = sym (sum-zero n (λ i. 0) (λ i l. refl))
-length-times n (x ∷ xs) h =
-    omega (arith, length-times n xs (h .1), sum-one n x (h .0), sum-add n (λ i. bit (eqb x i)) (λ i. times i xs))

@@ -1,55 +1,43 @@
 -- CREATE and MKDIR keep the invariant, with the line that the book gets. Assumes nothing.
 use mathlib.Core.Path.{_≡_, refl, sym, ap, _∙_, subst}
-use mathlib.Core.Logic.{_≢_, _⊎_, by-cases}
-use mathlib.Core.Bool.{Bool, true, false, _&&_, _||_, not, cond}
+use mathlib.Core.Logic.{_⊎_}
+use mathlib.Core.Bool.{Bool, true, false, _&&_, _||_, not}
 use mathlib.Core.Option.{Option, some, none}
-use mathlib.Core.List.{List, [], _∷_}
-use Prim.Native.Nat.{ℕ, zero, suc, _+_, _-_, _^_, _≤_, _<_}
-use native.Mathlib.Decide.{ℕ-discrete, decLt}
+use mathlib.Core.List.{List, _∷_}
+use Prim.Native.Nat.{ℕ, _-_, _^_, _≤_, _<_}
 use native.Mathlib.Omega.{arith}
-use lib.Dec.{eqb, leb, ltb, lit<}
-use lib.ListN.{length}
-use borrow.Author.Tests.{eqb-true, ltb-false}
+use lib.Dec.{lit<}
 use Rattle.kinds.specs.declared.object.Context.{Context}
 use Rattle.kinds.specs.declared.object.Object.{Object}
-use Rattle.kinds.specs.declared.call.Part.{Part}
-use Rattle.kinds.specs.declared.call.NameIn.{NameIn}
 use Rattle.kinds.specs.declared.call.SetSize.{SetSize}
 use Rattle.kinds.specs.declared.call.SetSize.the-variants as SetSize
 use Rattle.kinds.specs.declared.call.Settable.{Settable}
 use Rattle.kinds.specs.declared.call.How.{How}
 use Rattle.kinds.specs.declared.call.How.the-variants as How
-use Rattle.kinds.specs.declared.call.Arguments.{Arguments}
-use Rattle.kinds.specs.declared.call.Arguments.the-variants as Call
-use Rattle.spec.specs.Bytes.{words}
-use Rattle.spec.specs.Checked.{Checked, refused, passed, bind, refuseIf, absent}
-use Rattle.spec.specs.Edits.{withAttributes, withGeneration, setAttributes, resize, createObject, mtimeAndCtime}
-use Rattle.spec.specs.Handles.{handleOf, reachDirectory, attributes, change}
-use Rattle.spec.specs.Image.{Store, stamp, objects, names, blocks, objectAt, nameAt}
-use Rattle.spec.specs.Procedures.{cut}
+use Rattle.spec.specs.Checked.{Checked, refused, passed, absent}
+use Rattle.spec.specs.Edits.{withAttributes, withGeneration, resize, createObject, mtimeAndCtime}
+use Rattle.spec.specs.Handles.{handleOf, reachDirectory}
+use Rattle.spec.specs.Image.{Store, objects, names, blocks, objectAt, nameAt}
 use Rattle.spec.specs.Procedures.Attributes.{isGiven, sizeSet, badAttributes, lacksRoom, resizeTo}
-use Rattle.spec.specs.Procedures.Names.{newObject, touchDirectory, newEdit, createdIn, Target, new, existing, isNew, roomForNew, checkExisting, targetOf, checkNew, checkAttributed, checkHow, checkCreate, settableOf, existingEdit, createEdit, create, checkMkdir, mkdir}
-use Rattle.spec.specs.Results.{Done, Result, created, failChanging, settle, null}
+use Rattle.spec.specs.Procedures.Names.{newObject, newEdit, new, existing, isNew, roomForNew, checkExisting, targetOf, checkNew, checkAttributed, checkHow, checkCreate, existingEdit, checkMkdir}
 use Rattle.spec.specs.Room.{isRegular, sizeOf, need, freeBlockCount, findName}
-use Rattle.spec.proofs.CreateObject.{newName, create-object, create-object-uses}
-use Rattle.spec.proofs.Error.{statusOf}
-use Rattle.spec.proofs.Kept.{Sound}
+use Rattle.spec.proofs.CreateObject.{create-object, create-object-uses}
+use Rattle.spec.proofs.GoodRecords.{GoodClock, clock-fits, free-size}
+use Rattle.spec.proofs.Passed.{Reached, NewRoom}
 use Rattle.spec.proofs.Range.{Below}
 use Rattle.spec.proofs.Records.{FitsObject}
 use Rattle.spec.proofs.SameReads.{freeBlockCount-reads}
-use Rattle.spec.proofs.SetAttributes.{FitsSettable, Allowed, allowed, new-fits, new-live, mtime-and-ctime-fits, mtime-and-ctime-allowed}
-use Rattle.spec.proofs.Tests.{or-none}
-use Rattle.spec.proofs.Valid.{GoodName, LiveObject, GoodObject, live-kind}
-use Rattle.history.specs.Book.{Standing, under, Line, Ledger, handleBytes, madeHandle, someAt, add, noted, note}
-use Rattle.history.proofs.View.{View, Live, Used, At, entries}
+use Rattle.spec.proofs.SetAttributes.{FitsSettable, Allowed, new-fits, new-live, mtime-and-ctime-fits, mtime-and-ctime-allowed}
+use Rattle.spec.proofs.Valid.{GoodName, LiveObject}
+use Rattle.history.specs.Book.{under, Ledger, handleBytes, someAt, add}
+use Rattle.history.proofs.View.{Live, At, entries}
 use Rattle.history.proofs.Agree.{handleIn, none-at, some-at}
-use Rattle.history.proofs.Seen.{view, kind-at, gen-at, child-at, live-in}
-use Rattle.history.proofs.Inv.{Inv, Owes, Keeps, keeps-refl, keeps-trans, tree, sound, live-record, touch-inv, resize-inv, created-of, create-keeps}
-use Rattle.history.proofs.Checks.{Reached, reached-directory, passed-bind, passed-then, passed-absent, found-name, no-name, Spare, room-passed, new-passed, Sure, sure-bind, sure-then, sure-if, sure-passed, sure-refused, sure-absent, sure-directory, sure-room, sure-new}
-use Rattle.history.proofs.Replies.{made-is}
-use Rattle.spec.proofs.ArgumentRange.{FitsHow}
-use Rattle.history.proofs.Noted.{Answer, Fails, changing-fails, note-failed, note-ok, add-new, add-old}
-use Rattle.history.proofs.Sizes.{Clocked, seen-live, resize-to}
+use Rattle.history.proofs.Seen.{view, kind-at, gen-at, live-in}
+use Rattle.history.proofs.Inv.{Inv, Keeps, keeps-refl, keeps-trans, tree, touch-inv, resize-inv, created-of, create-keeps}
+use Rattle.history.proofs.Inv as Inv
+use Rattle.history.proofs.Checks.{handle-reached, Sure, sure-bind, sure-then, sure-passed, sure-refused, sure-absent, sure-directory, sure-room, sure-new}
+use Rattle.history.proofs.Noted.{add-new, add-old}
+use Rattle.history.proofs.Sizes.{resize-to}
 
 -- the handle of an object in range
 pub handle-seen : (σ p q r : ℕ) (s : Store) (L : Ledger) → Inv σ p q r s L → (o : ℕ) → o < objects s → handleOf s o ≡ handleIn σ (view s) o
@@ -61,11 +49,11 @@ abbrev pub withLine : ℕ → Store → Ledger → ℕ → ℕ → ℕ → List 
 withLine σ s L o kind d text =
     record { book = record { handle = handleIn σ (view s) o; kind = kind; standing = under (handleIn σ (view s) d) text } ∷ L .book; given = handleIn σ (view s) o ∷ L .given }
 
-module _ (σ p q r : ℕ) (s : Store) (L : Ledger) (I : Inv σ p q r s L) (c : Context) (clock : Clocked c) where
+module _ (σ p q r : ℕ) (s : Store) (L : Ledger) (I : Inv σ p q r s L) (c : Context) (clock : GoodClock (c .clock)) where
   -- ---- a new object
-  module _ (kind o n d : ℕ) (text : List ℕ) (a : Settable) (which : (kind ≡ 1) ⊎ (kind ≡ 2)) (room : Spare s o n) (f : FitsSettable a) (ok : Allowed a)
+  module _ (kind o n d : ℕ) (text : List ℕ) (a : Settable) (which : (kind ≡ 1) ⊎ (kind ≡ 2)) (room : NewRoom s (sizeSet (a .size) 0) o n) (f : FitsSettable a) (ok : Allowed a)
       (good : GoodName text) (below : Below 256 text) (parent : view s .kind d ≡ 2) (absent : entries (names s) (view s) d text ≡ 0)
-      (file : isGiven (a .size) ≡ true → kind ≡ 1) (enough : need (sizeSet (a .size) 0) ≤ freeBlockCount s) where
+      (file : isGiven (a .size) ≡ true → kind ≡ 1) where
     v : Object
     v = newObject (c .clock) kind a
 
@@ -86,11 +74,11 @@ module _ (σ p q r : ℕ) (s : Store) (L : Ledger) (I : Inv σ p q r s L) (c : C
 
     v-fits : FitsObject v
     unfolding v
-    v-fits = new-fits (c .clock) kind a (clock .fits) small-kind f
+    v-fits = new-fits (c .clock) kind a (clock-fits (c .clock) clock) small-kind f
 
     v-live : LiveObject (blocks s) v
     unfolding v
-    v-live = new-live (blocks s) (c .clock) kind a (clock .good) ok which
+    v-live = new-live (blocks s) (c .clock) kind a (clock .nanoseconds) ok which
 
     t : Store
     t = createObject s o n v d text
@@ -98,7 +86,7 @@ module _ (σ p q r : ℕ) (s : Store) (L : Ledger) (I : Inv σ p q r s L) (c : C
     first : Keeps σ p q r s t (withLine σ s L o (v .kind) d text)
     unfolding t
     first =
-        create-keeps σ p q r s L I o n v d text (room .object) (room .name) (room .was-free) (room .low) (room .was-blank) v-fits v-live v-size good below parent absent
+        create-keeps σ p q r s L I o n v d text (room .object-below) (room .name-below) (room .object-free) (room .generation-low) (room .name-free) v-fits v-live v-size good below parent absent
 
     K : Ledger
     K = withLine σ s L o (v .kind) d text
@@ -106,7 +94,7 @@ module _ (σ p q r : ℕ) (s : Store) (L : Ledger) (I : Inv σ p q r s L) (c : C
     made-kind : view t .kind o ≡ kind
     unfolding t
     made-kind =
-        created-of σ p q r s L I o n v d text (room .object) (room .name) (room .was-free) (room .low) (room .was-blank) v-fits v-live v-size good below parent absent .obj .kind
+        created-of σ p q r s L I o n v d text (room .object-below) (room .name-below) (room .object-free) (room .generation-low) (room .name-free) v-fits v-live v-size good below parent absent .obj .kind
         ∙ v-kind
 
     dl : d < objects s
@@ -118,32 +106,28 @@ module _ (σ p q r : ℕ) (s : Store) (L : Ledger) (I : Inv σ p q r s L) (c : C
     made-size : sizeOf t o ≡ 0
     unfolding t sizeOf withGeneration
     made-size =
-        ap (λ (x : Object). x .size) (create-object s o n v d text (sound σ p q r s L I) (room .object) (room .name) v-fits d-small (good .short) below .object) ∙ v-size
+        ap (λ (x : Object). x .size) (create-object s o n v d text (Inv.good σ p q r s L I .sound) (room .object-below) (room .name-below) v-fits d-small (good .short) below .object) ∙ v-size
 
     was-empty : objectAt s o .size ≡ 0
-    was-empty = go (I .valid .good-objects o (room .object))
-      where
-        go : GoodObject (blocks s) (objectAt s o) → objectAt s o .size ≡ 0
-        go (_⊎_.inl f) = ap (λ (x : Object). x .size) f
-        go (_⊎_.inr x) = absurd (omega (arith, live-kind (blocks s) (objectAt s o) x, room .was-free))
+    was-empty = free-size s (Inv.good σ p q r s L I) o (room .object-below) (room .object-free)
 
     same-free : freeBlockCount t ≡ freeBlockCount s
     unfolding t
     same-free =
-        freeBlockCount-reads s t (create-object s o n v d text (sound σ p q r s L I) (room .object) (room .name) v-fits d-small (good .short) below .shape .blocks)
-        (λ b _. create-object-uses s o n v d text (sound σ p q r s L I) (room .object) (room .name) v-fits d-small (good .short) below was-empty v-size b)
+        freeBlockCount-reads s t (create-object s o n v d text (Inv.good σ p q r s L I .sound) (room .object-below) (room .name-below) v-fits d-small (good .short) below .shape .blocks)
+        (λ b _. create-object-uses s o n v d text (Inv.good σ p q r s L I .sound) (room .object-below) (room .name-below) v-fits d-small (good .short) below was-empty v-size b)
 
     second : Keeps σ p q r t (resizeTo t o (a .size)) K
     unfolding K
     second =
         resize-to σ p q r t (withLine σ s L o (v .kind) d text) (first .owes .inv) o (a .size) (λ g. made-kind ∙ file g) (ok .size)
-        (omega (arith, same-free, enough, ap (λ (x : ℕ). need (sizeSet (a .size) x) - need x) made-size))
+        (omega (arith, same-free, room .room, ap (λ (x : ℕ). need (sizeSet (a .size) x) - need x) made-size))
 
     third : Keeps σ p q r (resizeTo t o (a .size)) (newEdit s c kind o n d text a) K
     unfolding newEdit t v K
     third =
         touch-inv σ p q r (resizeTo t o (a .size)) K (second .owes .inv) (c .clock) d mtimeAndCtime
-        (let x = first .kinds d (omega arith) in omega (arith, second .kinds d (omega arith))) (clock .fits) (clock .good) mtime-and-ctime-fits mtime-and-ctime-allowed
+        (let x = first .kinds d (omega arith) in omega (arith, second .kinds d (omega arith))) clock mtime-and-ctime-fits mtime-and-ctime-allowed
 
     both : Keeps σ p q r s (newEdit s c kind o n d text a) K
     unfolding K
@@ -158,7 +142,7 @@ module _ (σ p q r : ℕ) (s : Store) (L : Ledger) (I : Inv σ p q r s L) (c : C
     new-handle =
         let u = newEdit s c kind o n d text a in
         let J = new-keeps .owes .inv in
-        handle-seen σ p q r u (withLine σ s L o kind d text) J o (omega (arith, J .objs, I .objs, room .object))
+        handle-seen σ p q r u (withLine σ s L o kind d text) J o (omega (arith, J .objs, I .objs, room .object-below))
         ∙ ap (handleBytes σ o) (new-keeps .gens o)
 
     pub new-alive : Live (view (newEdit s c kind o n d text a)) o
@@ -174,7 +158,7 @@ module _ (σ p q r : ℕ) (s : Store) (L : Ledger) (I : Inv σ p q r s L) (c : C
     directory-kind = kind-at s d (w .below) ∙ dk
 
     pub directory-handle : h ≡ handleIn σ (view s) d
-    directory-handle = w .is hb ∙ handle-seen σ p q r s L I d (w .below)
+    directory-handle = handle-reached s h d w hb ∙ handle-seen σ p q r s L I d (w .below)
 
     pub line-added : (o kind : ℕ) → entries (names s) (view s) d text ≡ 0 → add (handleIn σ (view s) o) kind h text L ≡ withLine σ s L o kind d text
     line-added o kind z =
@@ -199,7 +183,7 @@ module _ (σ p q r : ℕ) (s : Store) (L : Ledger) (I : Inv σ p q r s L) (c : C
       go (SetSize.To n) m e =
           let first = resize-inv σ p q r s L I o n k m e in
           keeps-trans σ p q r s (resize s o n) _ L L first
-          (touch-inv σ p q r (resize s o n) L (first .owes .inv) (c .clock) o mtimeAndCtime (omega (arith, first .kinds o (omega arith))) (clock .fits) (clock .good) mtime-and-ctime-fits mtime-and-ctime-allowed)
+          (touch-inv σ p q r (resize s o n) L (first .owes .inv) (c .clock) o mtimeAndCtime (omega (arith, first .kinds o (omega arith))) clock mtime-and-ctime-fits mtime-and-ctime-allowed)
 
 -- ---- the checks of CREATE and MKDIR
 pub sure-target : (s : Store) (d : ℕ) (text : List ℕ) (b : Bool) (a : Settable) → Sure (checkAttributed s d text b a)

@@ -1,18 +1,15 @@
--- A move keeps the tree.
--- Assumes nothing.
-use mathlib.Core.Path.{_≡_, refl, sym, ap, _∙_, subst}
-use mathlib.Core.Logic.{_≢_, by-cases}
+-- A move keeps the tree. Assumes nothing.
+use mathlib.Core.Path.{_≡_, sym, ap, _∙_, subst}
+use mathlib.Core.Logic.{by-cases}
 use mathlib.Core.List.{List, [], _∷_}
-use Prim.Native.Nat.{ℕ, zero, suc, _+_, _≤_, _<_}
-use native.Mathlib.Decide.{ℕ-discrete, decLt}
+use Prim.Native.Nat.{ℕ, _<_}
+use native.Mathlib.Decide.{ℕ-discrete}
 use native.Mathlib.Omega.{arith}
-use lib.ListN.{length, drop, length-drop}
-use Rattle.spec.specs.Count.{bit, sum}
-use Rattle.spec.proofs.Count.{sum-upd, sum-at, sum-zero}
+use lib.ListN.{length}
 use Rattle.history.proofs.Sum.{ind-same, ind-no, ind-le}
-use Rattle.history.proofs.View.{View, Live, Used, Names, At, names?, at?, namings, entries, Path, Avoids, SameName, SetName, SetObj, namings-set, entries-set, named-by, not-named, named-once}
-use Rattle.history.proofs.Tree.{Tree, live?, living, path-live, one-name}
-use Rattle.history.proofs.Change.{Created, Removed, Moved, path-avoids, avoid-free, avoid-empty}
+use Rattle.history.proofs.View.{View, Live, Used, names?, at?, namings, entries, Path, namings-set, entries-set}
+use Rattle.history.proofs.Tree.{Tree}
+use Rattle.history.proofs.Change.{Moved, path-avoids}
 
 module _ (P Q : ℕ) (v w : View) (q e : ℕ) (t : List ℕ) (T : Tree P Q v) (M : Moved P Q v w q e t) where
   row : q < Q
@@ -39,17 +36,17 @@ module _ (P Q : ℕ) (v w : View) (q e : ℕ) (t : List ℕ) (T : Tree P Q v) (M
     ind-same (names? v q i) (names? w q i) (λ h. (now, childs q ∙ h .1)) (λ h. (M .used, sym (childs q) ∙ h .1)),
   )
 
-  -- the new directory's way up is as it was
+  -- the new directory's path is as it was
   target : (qs : List ℕ) → Path v e qs → Path w e qs
   target qs a = path-avoids v w (v .child q) (λ p u n. M .nam .other p (λ x. n (ap (v .child) x))) qs e a (M .clear qs a)
 
-  module _ (es : List ℕ) (way : Path w e es) where
+  module _ (es : List ℕ) (up : Path w e es) where
     step : (qs : List ℕ) (i : ℕ) → Path v i qs → (ps : List ℕ) × Path w i ps
     step [] i a = ([], a)
     step (p ∷ qs) i a =
         let r = step qs (v .dir p) (a .1) in
         by-cases (ℕ-discrete p q)
-        (λ x. (q ∷ es, ((now, M .nam .child ∙ ap (v .child) (sym x) ∙ a .0 .1), subst (λ (y : ℕ). Path w y es) (sym (M .nam .dir)) way)))
+        (λ x. (q ∷ es, ((now, M .nam .child ∙ ap (v .child) (sym x) ∙ a .0 .1), subst (λ (y : ℕ). Path w y es) (sym (M .nam .dir)) up)))
         (λ n. let s = M .nam .other p n in
         (p ∷ r .0, ((omega (arith, ap length (s .text)), s .child ∙ a .0 .1), subst (λ (y : ℕ). Path w y (r .0)) (sym (s .dir)) (r .1))))
 

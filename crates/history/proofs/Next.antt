@@ -1,10 +1,8 @@
 -- Every request keeps the invariant, and so does any list of them from any format. Assumes nothing.
 use mathlib.Core.Path.{_≡_, refl, sym, ap, _∙_, subst}
 use mathlib.Core.Logic.{_≢_, _⊎_, by-cases, ⊎-elim}
-use mathlib.Core.Bool.{Bool, true, false}
-use mathlib.Core.Option.{Option, some, none}
-use mathlib.Core.List.{List, [], _∷_, _++_, List·Memᴰ, List·Memᴰ·head, List·Memᴰ·cases-cons, List·Memᴰ·not-nil}
-use Prim.Native.Nat.{ℕ, zero, suc, _+_, _^_, _≤_, _<_}
+use mathlib.Core.List.{List, [], _∷_, List·Memᴰ, List·Memᴰ·head, List·Memᴰ·cases-cons, List·Memᴰ·not-nil}
+use Prim.Native.Nat.{ℕ, _<_}
 use native.Mathlib.Decide.{ℕ-discrete, decLt}
 use native.Mathlib.Omega.{arith}
 use lib.Dec.{lit<}
@@ -15,34 +13,32 @@ use Rattle.kinds.specs.declared.object.Time.{Time}
 use Rattle.kinds.specs.declared.call.Part.{Part}
 use Rattle.kinds.specs.declared.call.Arguments.{Arguments}
 use Rattle.kinds.specs.declared.call.Arguments.the-variants as Call
-use Rattle.spec.specs.Count.{bit, times}
-use Rattle.spec.specs.Image.{Store, objects, names, objectAt, Name, nameAt}
+use Rattle.spec.specs.Count.{times}
+use Rattle.spec.specs.Image.{Store, objects, objectAt, Name}
 use Rattle.spec.specs.Procedures.{cut, act}
-use Rattle.spec.specs.Procedures.Removal.{remove, rmdir}
-use Rattle.spec.specs.Results.{Done}
-use Rattle.spec.specs.Serve.{Outcome, formatted}
+use Rattle.spec.specs.Serve.{formatted}
 use Rattle.spec.proofs.Error.{getattr-store, lookup-store, access-store, read-store, readdir-store, fsstat-store, fsinfo-store, pathconf-store, commit-store}
 use Rattle.spec.proofs.Formatted.{FormatAsked, formatted-stamp, formatted-objects, formatted-names, formatted-blocks, formatted-below, formatted-root, formatted-free, formatted-name, formatted-valid}
 use Rattle.spec.proofs.Range.{Below}
 use Rattle.spec.proofs.RecordRange.{below-part}
-use Rattle.spec.proofs.Records.{FitsTime}
-use Rattle.spec.proofs.Valid.{FreeName, passes-valid}
-use Rattle.history.specs.Book.{Ledger, asked, noted, note, firstLedger, handleBytes, Line, Standing, asRoot}
+use Rattle.spec.proofs.GoodRecords.{GoodClock}
+use Rattle.spec.proofs.Valid.{passes-valid}
+use Rattle.history.specs.Book.{Ledger, noted, note, firstLedger, handleBytes, asRoot}
 use Rattle.history.specs.Run.{Request, Lent, AllLent, outcome, replyTo, State, step, run}
 use Rattle.history.specs.Statement.{Asks}
 use Rattle.history.proofs.Sum.{ind-yes, ind-no}
-use Rattle.history.proofs.View.{View, Live, Used}
+use Rattle.history.proofs.View.{Used}
 use Rattle.history.proofs.Tree.{live?}
-use Rattle.history.proofs.Agree.{Agrees, handleIn, rootLine, used?}
-use Rattle.history.proofs.Issue.{Issues, Issued, issued}
-use Rattle.history.proofs.Seen.{view, kind-at, gen-at, text-at, live-in, used-in, within-no}
-use Rattle.history.proofs.Inv.{Inv, Grew, Owes, owes-trans, Keeps, keeps-refl}
-use Rattle.history.proofs.Asked.{Acted, acted, Idle, served}
+use Rattle.history.proofs.Agree.{used?}
+use Rattle.history.proofs.Issue.{issued}
+use Rattle.history.proofs.Seen.{view, kind-at, gen-at, text-at, used-in, within-no}
+use Rattle.history.proofs.Inv.{Inv, Owes, owes-trans, keeps-refl}
+use Rattle.history.proofs.Asked.{acted, Idle, served}
 use Rattle.spec.proofs.ArgumentRange.{FitsArguments}
 use Rattle.history.proofs.Ranges.{asked-fits}
 use Rattle.history.proofs.Noted.{Answer, note-quiet}
-use Rattle.history.proofs.Sizes.{Clocked, setattr-keeps, write-keeps}
-use Rattle.history.proofs.Create.{Made, create-made, mkdir-made}
+use Rattle.history.proofs.Sizes.{setattr-keeps, write-keeps}
+use Rattle.history.proofs.Create.{create-made, mkdir-made}
 use Rattle.history.proofs.Removing.{remove-owes, rmdir-owes, rename-owes}
 
 module _ (σ p q r : ℕ) (s : Store) (L : Ledger) (I : Inv σ p q r s L) where
@@ -53,7 +49,7 @@ module _ (σ p q r : ℕ) (s : Store) (L : Ledger) (I : Inv σ p q r s L) where
   quiet : (t : Store) (M : Ledger) → t ≡ s → M ≡ L → Owes σ p q r s t M
   quiet t M e f = subst (λ (u : Store). Owes σ p q r s u M) (sym e) (subst (Owes σ p q r s s) (sym f) still)
 
-  module _ (c : Context) (clock : Clocked c) (call reply : List ℕ) (bytes : Below 256 call) where
+  module _ (c : Context) (clock : GoodClock (c .clock)) (call reply : List ℕ) (bytes : Below 256 call) where
     cut-below : (x : Part) → Below 256 (cut call x)
     cut-below x = below-part 256 call (x .start) (x .length) (lit< tt) bytes
 
@@ -87,8 +83,8 @@ module _ (σ p q r : ℕ) (s : Store) (L : Ledger) (I : Inv σ p q r s L) where
       let z = acted s x a k (passes-valid s (I .valid)) in
       record { reads = k .reads; xid = z .xid; procedure = z .procedure; is = z .reply }
 
-  pub clocked : (x : Request) (a : Arguments) → Lent x → Asks x a → Clocked (x .context)
-  clocked x a l k = record { fits = record { seconds = l .seconds; nanoseconds = omega (arith, k .clock) }; good = k .clock }
+  pub clocked : (x : Request) (a : Arguments) → Lent x → Asks x a → GoodClock (x .context .clock)
+  clocked x a l k = record { seconds = l .seconds; nanoseconds = k .clock }
 
   -- every request
   pub next : (x : Request) → Lent x → Owes σ p q r s (outcome s x .store) (note (x .call) (replyTo s x) L)

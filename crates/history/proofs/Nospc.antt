@@ -1,16 +1,15 @@
 -- NOSPC is answered exactly where the room that the book counts is missing, and OK where it is there. Assumes nothing.
-use mathlib.Core.Path.{_≡_, refl, sym, ap, ap₂, _∙_, subst}
-use mathlib.Core.Logic.{_≢_, _↔_, _⊎_, inl, inr, by-cases, ⊎-elim}
-use mathlib.Core.Bool.{Bool, true, false, _&&_, _||_, not, cond}
+use mathlib.Core.Path.{_≡_, refl, sym, ap, _∙_, subst}
+use mathlib.Core.Logic.{_⊎_, inl, inr, by-cases, ⊎-elim}
+use mathlib.Core.Bool.{Bool, true, false, _&&_, _||_, not}
 use mathlib.Core.Option.{Option, some, none}
-use mathlib.Core.List.{List, [], _∷_}
-use Prim.Native.Nat.{ℕ, zero, suc, _+_, _*_, _-_, _≤_, _<_, min}
+use mathlib.Core.List.{List}
+use Prim.Native.Nat.{ℕ, _+_, _-_, _≤_, _<_, min}
 use native.Mathlib.Decide.{ℕ-discrete, decLt}
 use native.Mathlib.Omega.{arith}
 use lib.Dec.{eqb, ltb, lit<}
 use lib.ListN.{length, take}
-use borrow.Author.Tests.{eq-eqb, ne-eqb, lt-ltb, le-ltb, ltb-true, ltb-false}
-use Rattle.kinds.specs.declared.object.Context.{Context}
+use borrow.Author.Tests.{eq-eqb, ne-eqb, lt-ltb, le-ltb, ltb-true}
 use Rattle.kinds.specs.declared.call.Part.{Part}
 use Rattle.kinds.specs.declared.call.NameIn.{NameIn}
 use Rattle.kinds.specs.declared.call.Settable.{Settable}
@@ -19,24 +18,22 @@ use Rattle.kinds.specs.declared.call.How.{How}
 use Rattle.kinds.specs.declared.call.How.the-variants as How
 use Rattle.kinds.specs.declared.call.Arguments.{Arguments}
 use Rattle.kinds.specs.declared.call.Arguments.the-variants as Call
-use Rattle.spec.specs.Checked.{Checked, refused, passed, bind, refuseIf, present, absent}
-use Rattle.spec.specs.Count.{bit, sum, count, lowest}
-use Rattle.spec.specs.Handles.{reach, reachDirectory, change, handleOf, attributes}
+use Rattle.spec.specs.Checked.{Checked, refused, passed, bind, refuseIf, present}
+use Rattle.spec.specs.Count.{bit, count, lowest}
+use Rattle.spec.specs.Handles.{reach, reachDirectory}
 use Rattle.spec.specs.Image.{Store, objects, names, objectAt, nameAt}
 use Rattle.spec.specs.Procedures.{cut, act}
 use Rattle.spec.specs.Procedures.Attributes.{isGiven, sizeSet, badAttributes, lacksRoom, differs, checkSetattr, setattrEdit, edited, setattr}
 use Rattle.spec.specs.Procedures.Data.{mostBytes, reachRegular, grown, checkWrite, writeDone, write}
-use Rattle.spec.specs.Procedures.Names.{Target, new, existing, isNew, targetOf, roomForNew, checkNew, checkExisting, checkAttributed, checkHow, checkCreate, createEdit, settableOf, create, checkMkdir, mkdir, createdIn, newEdit}
-use Rattle.spec.specs.Replies.{resultBytes}
-use Rattle.spec.specs.Results.{Done, Result, null, changed, wrote, created, failChanging, settle}
+use Rattle.spec.specs.Procedures.Names.{Target, existing, isNew, roomForNew, checkNew, checkExisting, checkAttributed, checkCreate, createEdit, settableOf, create, checkMkdir, mkdir, createdIn, newEdit}
+use Rattle.spec.specs.Results.{Result, failChanging, settle}
 use Rattle.spec.specs.Room.{isRegular, isDirectory, isAvailable, isUsedName, sizeOf, need, freeBlockCount, availableCount, availableObject, freeNameCount, availableName, findName}
-use Rattle.spec.specs.Rpc.{accepted}
-use Rattle.spec.proofs.Count.{by-bool, true-false, sum-at, lowest-passes, lowest-none}
+use Rattle.spec.proofs.Count.{by-bool, sum-at, lowest-passes, lowest-none}
 use Rattle.spec.proofs.Error.{statusOf}
 use Rattle.spec.proofs.Searches.{count-nothing}
 use Rattle.history.specs.Book.{Ledger, statusIn, isOk}
 use Rattle.history.specs.Run.{Request, replyTo}
-use Rattle.history.specs.Statement.{Asks, AnswersRoom, BlocksMissing, RoomMissing, placesIn, namedLines, spentRecords, blocksLeft, namesLeft, objectsLeft}
+use Rattle.history.specs.Statement.{Asks, AnswersRoom, BlocksMissing, RoomMissing, blocksLeft, namesLeft, objectsLeft}
 use Rattle.history.proofs.Inv.{Inv}
 use Rattle.history.proofs.Replies.{status-is, answered-ok}
 use Rattle.history.proofs.Counts.{free-blocks, free-names, available-objects}

@@ -1,12 +1,12 @@
 -- The book's step, by a call's result. Assumes nothing.
-use mathlib.Core.Path.{_≡_, refl, sym, ap, _∙_, subst}
-use mathlib.Core.Logic.{_≢_, _⊎_, by-cases}
-use mathlib.Core.Bool.{Bool, true, false, _&&_, cond}
+use mathlib.Core.Path.{_≡_, refl, ap, _∙_}
+use mathlib.Core.Logic.{_≢_}
+use mathlib.Core.Bool.{Bool, true, false, cond}
 use mathlib.Core.Option.{Option, some, none}
-use mathlib.Core.List.{List, [], _∷_}
-use Prim.Native.Nat.{ℕ, _+_, _≤_, _<_}
+use mathlib.Core.List.{List, _∷_}
+use Prim.Native.Nat.{ℕ, _<_}
 use native.Mathlib.Omega.{arith}
-use lib.Dec.{eqb, lit<}
+use lib.Dec.{eqb}
 use borrow.Author.Tests.{eq-eqb, ne-eqb}
 use Rattle.kinds.specs.declared.object.Change.{Change}
 use Rattle.kinds.specs.declared.call.Arguments.{Arguments}
@@ -15,10 +15,10 @@ use Rattle.spec.specs.Handles.{reach, handleChange}
 use Rattle.spec.specs.Image.{Store}
 use Rattle.spec.specs.Procedures.Removal.{renamedOr, failRenaming}
 use Rattle.spec.specs.Replies.{resultBytes}
-use Rattle.spec.specs.Results.{Result, null, dead, failed, changed, renamed, showingOf, changingOf, failShowing, failChanging}
+use Rattle.spec.specs.Results.{Result, null, dead, changed, showingOf, changingOf, failShowing, failChanging}
 use Rattle.spec.specs.Rpc.{accepted}
 use Rattle.spec.proofs.Error.{statusOf}
-use Rattle.history.specs.Book.{Standing, under, Line, Ledger, asked, isOk, someAt, add, noted, note}
+use Rattle.history.specs.Book.{under, Ledger, asked, isOk, someAt, add, noted, note}
 use Rattle.history.proofs.Replies.{answered-ok}
 
 -- a call with these arguments was answered with this result

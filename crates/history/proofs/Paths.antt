@@ -1,17 +1,17 @@
 -- Paths in the store and in the book: one for each live object, and short. Assumes nothing.
 use mathlib.Core.Path.{_≡_, refl, sym, ap, _∙_, subst}
-use mathlib.Core.Logic.{_≢_, _↔_, _⊎_, inl, inr, by-cases}
-use mathlib.Core.Bool.{Bool, true, false}
-use mathlib.Core.List.{List, [], _∷_, map, List·Memᴰ}
-use Prim.Native.Nat.{ℕ, zero, suc, _+_, _≤_, _<_}
+use mathlib.Core.Logic.{_⊎_, inl, inr}
+use mathlib.Core.Bool.{true}
+use mathlib.Core.List.{List, [], _∷_, map}
+use Prim.Native.Nat.{ℕ, suc, _≤_, _<_}
 use native.Mathlib.Omega.{arith}
 use lib.ListN.{length, length-map}
-use Rattle.spec.specs.Image.{Store, objects, names, nameAt}
-use Rattle.spec.specs.Room.{isLive, isUsedName}
-use Rattle.history.specs.Book.{Standing, asRoot, under, Line, Book, Ledger}
-use Rattle.history.specs.Statement.{In, HasLine, StoredPath, BookPath, liveObjects}
-use Rattle.history.proofs.View.{View, Live, Used, Path}
-use Rattle.history.proofs.Tree.{Tree, living, lone, path-same, path-short}
+use Rattle.spec.specs.Image.{Store, objects, nameAt}
+use Rattle.spec.specs.Room.{isLive}
+use Rattle.history.specs.Book.{Standing, asRoot, under, Line, Ledger}
+use Rattle.history.specs.Statement.{HasLine, StoredPath, BookPath, liveObjects}
+use Rattle.history.proofs.View.{Live, Used, Path}
+use Rattle.history.proofs.Tree.{Tree, lone, path-same, path-short}
 use Rattle.history.proofs.Handles.{same-object}
 use Rattle.history.proofs.Agree.{handleIn, lineOf, rootLine}
 use Rattle.history.proofs.Seen.{view, dir-at, child-at, used-in, used-of, of-used}

@@ -1,18 +1,14 @@
--- A removal keeps the tree.
--- Assumes nothing.
-use mathlib.Core.Path.{_≡_, refl, sym, ap, _∙_, subst}
-use mathlib.Core.Logic.{_≢_, by-cases}
-use mathlib.Core.List.{List, [], _∷_}
-use Prim.Native.Nat.{ℕ, zero, suc, _+_, _≤_, _<_}
-use native.Mathlib.Decide.{ℕ-discrete, decLt}
+-- A removal keeps the tree. Assumes nothing.
+use mathlib.Core.Path.{_≡_, refl, sym, ap, _∙_}
+use mathlib.Core.Logic.{_≢_}
+use mathlib.Core.List.{[]}
+use Prim.Native.Nat.{ℕ, _<_}
 use native.Mathlib.Omega.{arith}
-use lib.ListN.{length, drop, length-drop}
-use Rattle.spec.specs.Count.{bit, sum}
-use Rattle.spec.proofs.Count.{sum-upd, sum-at, sum-zero}
+use lib.ListN.{length}
 use Rattle.history.proofs.Sum.{ind, ind-no}
-use Rattle.history.proofs.View.{View, Live, Used, Names, At, names?, at?, namings, entries, Path, Avoids, SameName, SetName, SetObj, namings-set, entries-set, named-by, not-named, named-once}
-use Rattle.history.proofs.Tree.{Tree, live?, living, path-live, one-name}
-use Rattle.history.proofs.Change.{Created, Removed, Moved, path-avoids, avoid-free, avoid-empty}
+use Rattle.history.proofs.View.{View, Live, Used, names?, at?, namings-set, entries-set}
+use Rattle.history.proofs.Tree.{Tree, one-name}
+use Rattle.history.proofs.Change.{Removed, path-avoids, avoid-empty}
 
 module _ (P Q : ℕ) (v w : View) (o q d c : ℕ) (T : Tree P Q v) (G : Removed P Q v w o q d c) where
   row : q < Q

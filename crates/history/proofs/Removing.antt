@@ -1,50 +1,49 @@
 -- REMOVE, RMDIR and RENAME: the invariant after the call, with the book's step. Assumes nothing.
 use mathlib.Core.Path.{_≡_, refl, sym, ap, _∙_, subst}
-use mathlib.Core.Logic.{_≢_, _⊎_, by-cases}
-use mathlib.Core.Bool.{Bool, true, false, _&&_, _||_, not, cond}
+use mathlib.Core.Logic.{_≢_}
+use mathlib.Core.Bool.{Bool, false, _&&_, _||_, not}
 use mathlib.Core.Option.{Option, some, none}
-use mathlib.Core.List.{List, [], _∷_}
-use Prim.Native.Nat.{ℕ, zero, suc, _+_, _-_, _≤_, _<_}
-use native.Mathlib.Decide.{ℕ-discrete, decLt}
+use mathlib.Core.List.{List}
+use Prim.Native.Nat.{ℕ, _-_, _<_}
 use native.Mathlib.Omega.{arith}
-use lib.Dec.{eqb, leb, ltb, lit<}
+use lib.Dec.{eqb, lit<}
 use lib.ListN.{length}
-use borrow.Author.Tests.{eqb-true, eqb-false, eq-eqb}
+use borrow.Author.Tests.{eqb-false}
 use Rattle.kinds.specs.declared.object.Context.{Context}
 use Rattle.kinds.specs.declared.object.Change.{Change}
 use Rattle.kinds.specs.declared.call.Part.{Part}
 use Rattle.kinds.specs.declared.call.NameIn.{NameIn}
 use Rattle.kinds.specs.declared.call.Arguments.{Arguments}
 use Rattle.kinds.specs.declared.call.Arguments.the-variants as Call
-use Rattle.spec.specs.Checked.{Checked, refused, passed, bind, present, absent}
+use Rattle.spec.specs.Checked.{Checked, refused, passed, present, absent}
 use Rattle.spec.specs.Count.{some-below, iterate}
 use Rattle.spec.specs.Edits.{setAttributes, onlyCtime, mtimeAndCtime, removeObject, moveName}
-use Rattle.spec.specs.Handles.{reachDirectory, checkName, change}
-use Rattle.spec.specs.Image.{Store, objects, names, objectAt, nameAt}
+use Rattle.spec.specs.Handles.{reachDirectory, checkName}
+use Rattle.spec.specs.Image.{Store, objects, objectAt, nameAt}
 use Rattle.spec.specs.Names.{isDots}
 use Rattle.spec.specs.Procedures.{cut}
 use Rattle.spec.specs.Procedures.Attributes.{edited}
 use Rattle.spec.specs.Procedures.Names.{touchDirectory}
 use Rattle.spec.specs.Procedures.Removal.{checkRemove, hasEntries, checkRmdir, removeFrom, remove, rmdir, isWithin, checkRename, renameEdit, failRenaming, renamedTo, rename}
-use Rattle.spec.specs.Results.{Done, Result, changed, renamed, failChanging, settle, null}
-use Rattle.spec.specs.Room.{isDirectory, isIn, findName, above}
+use Rattle.spec.specs.Results.{changed, renamed, failChanging, settle, null}
+use Rattle.spec.specs.Room.{isDirectory, findName, above}
 use Rattle.spec.proofs.Count.{by-bool, true-false, some-none}
 use Rattle.spec.proofs.Error.{statusOf}
 use Rattle.spec.proofs.Range.{Below}
 use Rattle.spec.proofs.RecordRange.{below-part}
 use Rattle.spec.proofs.SetAttributes.{only-ctime-fits, only-ctime-allowed, mtime-and-ctime-fits, mtime-and-ctime-allowed}
-use Rattle.spec.proofs.Tests.{and-true, or-none}
-use Rattle.spec.proofs.Valid.{GoodName, true-directory}
+use Rattle.spec.proofs.GoodRecords.{GoodClock}
+use Rattle.spec.proofs.Passed.{Reached, EntryPassed, remove-passed, rmdir-passed, no-entries, RenamePassed, rename-passed}
+use Rattle.spec.proofs.Valid.{true-directory}
 use Rattle.history.specs.Book.{Ledger, strikeLines, strike, moveLines, move, noted, note}
-use Rattle.history.proofs.View.{View, Live, Used, At, entries, Path, Avoids}
-use Rattle.history.proofs.Tree.{Flat, Tree, single, path-short, live-bound}
+use Rattle.history.proofs.View.{Live, Used, At, Path, Avoids}
+use Rattle.history.proofs.Tree.{single, path-short, live-bound}
 use Rattle.history.proofs.Walk.{parentIn, outside, outside-file}
 use Rattle.history.proofs.Agree.{handleIn}
-use Rattle.history.proofs.Seen.{view, kind-at, dir-at, child-at, text-at, live-in, used-in, used-of, above-same}
-use Rattle.history.proofs.Inv.{Inv, Owes, Keeps, keeps-refl, keeps-trans, owes-trans, tree, touch-inv, removed-of, remove-inv, move-keeps}
-use Rattle.history.proofs.Checks.{Reached, reached-directory, passed-bind, passed-then, passed-present, passed-absent, found-name, no-name, name-passed, Sure, sure-bind, sure-then, sure-passed, sure-present, sure-absent, sure-directory, sure-name}
-use Rattle.history.proofs.Noted.{Answer, Fails, changing-fails, renaming-fails, note-failed, note-ok}
-use Rattle.history.proofs.Sizes.{Clocked}
+use Rattle.history.proofs.Seen.{view, kind-at, dir-at, child-at, text-at, live-in, used-in, text-long, above-same}
+use Rattle.history.proofs.Inv.{Inv, Owes, keeps-refl, keeps-trans, owes-trans, tree, touch-inv, removed-of, remove-inv, move-keeps}
+use Rattle.history.proofs.Checks.{found-name, no-name, Sure, sure-bind, sure-then, sure-passed, sure-present, sure-absent, sure-directory, sure-name}
+use Rattle.history.proofs.Noted.{Answer, changing-fails, renaming-fails, note-failed, note-ok}
 use Rattle.history.proofs.Making.{directory-kind, directory-handle}
 
 -- ---- the checks' statuses
@@ -85,40 +84,32 @@ changed-some n c e = let z : _≡_ {A = ℕ} 0 1 = cc in omega arith
 renamed-some : (n : ℕ) (c d : Option Change) → renamed n c d ≢ null
 renamed-some n c d e = let z : _≡_ {A = ℕ} 0 1 = cc in omega arith
 
-not-false : (t : Bool) → not t ≡ false → t ≡ true
-not-false true e = refl
-not-false false e = true-false e
-
-module _ (σ p q r : ℕ) (s : Store) (L : Ledger) (I : Inv σ p q r s L) (c : Context) (clock : Clocked c) where
+module _ (σ p q r : ℕ) (s : Store) (L : Ledger) (I : Inv σ p q r s L) (c : Context) (clock : GoodClock (c .clock)) where
   -- the object of name record n goes, with its name
   module _ (h text : List ℕ) (d n : ℕ) (w : Reached s h d) (dk : objectAt s d .kind ≡ 2) (hb : Below 256 h) (at : At (view s) n d text)
       (empty : (m : ℕ) → Used (view s) m → view s .dir m ≢ nameAt s n .child) where
-    pub gone-owes : Owes σ p q r s (touchDirectory (removeObject s n) c d) (strike h text L)
+    pub removed-owes : Owes σ p q r s (touchDirectory (removeObject s n) c d) (strike h text L)
     unfolding strike
-    gone-owes =
+    removed-owes =
         let first = remove-inv σ p q r s L I n (at .0) empty in
-        let gone = removed-of σ p q r s L I n (at .0) empty in
+        let away = removed-of σ p q r s L I n (at .0) empty in
         let k = directory-kind σ p q r s L I c clock h text d w dk hb in
         let other : d ≢ nameAt s n .child = λ e. empty n (at .0) (at .1 ∙ e) in
         let t = removeObject s n in
         let M : Ledger = record { book = strikeLines (handleIn σ (view s) (view s .dir n)) (view s .text n) (L .book); given = L .given } in
-        let second = touch-inv σ p q r t M (first .inv) (c .clock) d mtimeAndCtime (omega (arith, gone .obj .other d other .0)) (clock .fits) (clock .good) mtime-and-ctime-fits mtime-and-ctime-allowed in
+        let second = touch-inv σ p q r t M (first .inv) (c .clock) d mtimeAndCtime (omega (arith, away .obj .other d other .0)) clock mtime-and-ctime-fits mtime-and-ctime-allowed in
         let e : handleIn σ (view s) (view s .dir n) ≡ h = ap (handleIn σ (view s)) (at .1) ∙ sym (directory-handle σ p q r s L I c clock h text d w dk hb) in
         let book : M ≡ record { book = strikeLines h text (L .book); given = L .given } = λ i. record { book = strikeLines (e i) (at .2 i) (L .book); given = L .given } in
         subst (Owes σ p q r s (touchDirectory t c d)) book (owes-trans σ p q r s t (touchDirectory t c d) M M first (second .owes))
 
-  -- a directory has no entries, and a file none at all
-  file-empty : (o : ℕ) → o < objects s → isDirectory s o ≡ false → (m : ℕ) → Used (view s) m → view s .dir m ≢ o
-  file-empty o l f m u e =
-      let k = tree σ p q r s L I .flat .dirs m u in
-      true-false (sym (true-directory s o (sym (kind-at s o l) ∙ ap (view s .kind) (sym e) ∙ k)) ∙ f)
+  -- no name is in a file, or in a directory without entries
+  file-empty : (o : ℕ) → o < objects s → objectAt s o .kind ≢ 2 → (m : ℕ) → Used (view s) m → view s .dir m ≢ o
+  file-empty o l f m u e = let k = tree σ p q r s L I .flat .dirs m u in f (sym (kind-at s o l) ∙ ap (view s .kind) (sym e) ∙ k)
 
-  no-entries : (o : ℕ) → hasEntries s o ≡ false → (m : ℕ) → Used (view s) m → view s .dir m ≢ o
-  unfolding hasEntries isIn
-  no-entries o f m u e =
+  directory-empty : (o : ℕ) → hasEntries s o ≡ false → (m : ℕ) → Used (view s) m → view s .dir m ≢ o
+  directory-empty o f m u e =
       let l = used-in s m u in
-      true-false (sym (and-true _ (eqb (nameAt s m .directory) o) (used-of s (I .valid .good-names) m l u) (eq-eqb (nameAt s m .directory) o (sym (dir-at s m l) ∙ e)))
-      ∙ some-none (isIn s o) (names s) m f l)
+      no-entries s o m f l (omega (arith, ap length (text-at s m l), text-long s (I .valid .good-names) m l)) (sym (dir-at s m l) ∙ e)
 
   child-in : (d n : ℕ) (text : List ℕ) → At (view s) n d text → nameAt s n .child < objects s
   child-in d n text at =
@@ -127,36 +118,24 @@ module _ (σ p q r : ℕ) (s : Store) (L : Ledger) (I : Inv σ p q r s L) (c : C
       live-in s (nameAt s n .child) (omega (arith, ap (view s .kind) (child-at s n l)))
 
   -- ---- REMOVE and RMDIR
+  entry-owes : (h text : List ℕ) → Below 256 h → (d n : ℕ) → EntryPassed s h text d n
+      → (((o : ℕ) → o < objects s → nameAt s n .child ≡ o → (m : ℕ) → Used (view s) m → view s .dir m ≢ o))
+      → Owes σ p q r s (touchDirectory (removeObject s n) c d) (strike h text L)
+  entry-owes h text hb d n w empty =
+      let (l, at) = found-name s (I .valid .good-names) d text n (w .found) in
+      removed-owes h text d n (w .reached) (w .directory) hb at (empty (nameAt s n .child) (child-in d n text at) refl)
+
   remove-facts : (h text : List ℕ) → Below 256 h → (x : ℕ × ℕ) → checkRemove s h text ≡ passed x
       → Owes σ p q r s (touchDirectory (removeObject s (x .1)) c (x .0)) (strike h text L)
-  unfolding checkRemove
   remove-facts h text hb x e =
-      let (d, e₁, f₁) = passed-bind (reachDirectory s h) _ x e in
-      let (u, e₂, f₂) = passed-bind (checkName text) _ x f₁ in
-      let (a, f₃) = passed-then (isDots text) _ _ x f₂ in
-      let (n, e₃, f₄) = passed-bind (present 2 (findName s d text)) _ x f₃ in
-      let (b, f₅) = passed-then (isDirectory s (nameAt s n .child)) _ _ x f₄ in
-      let is : (d, n) ≡ x = cc in
-      let (w, dk) = reached-directory s h d e₁ in
-      let (l, at) = found-name s (I .valid .good-names) d text n (passed-present 2 (findName s d text) n e₃) in
-      subst (λ (y : ℕ × ℕ). Owes σ p q r s (touchDirectory (removeObject s (y .1)) c (y .0)) (strike h text L)) is
-      (gone-owes h text d n w dk hb at (file-empty (nameAt s n .child) (child-in d n text at) b))
+      let w = remove-passed s h text x e in
+      entry-owes h text hb (x .0) (x .1) (w .entry) (λ o l is. file-empty o l (λ k. w .file (ap (λ (i : ℕ). objectAt s i .kind) is ∙ k)))
 
   rmdir-facts : (h text : List ℕ) → Below 256 h → (x : ℕ × ℕ) → checkRmdir s h text ≡ passed x
       → Owes σ p q r s (touchDirectory (removeObject s (x .1)) c (x .0)) (strike h text L)
-  unfolding checkRmdir
   rmdir-facts h text hb x e =
-      let (d, e₁, f₁) = passed-bind (reachDirectory s h) _ x e in
-      let (u, e₂, f₂) = passed-bind (checkName text) _ x f₁ in
-      let (a, f₃) = passed-then (isDots text) _ _ x f₂ in
-      let (n, e₃, f₄) = passed-bind (present 2 (findName s d text)) _ x f₃ in
-      let (b, f₅) = passed-then (not (isDirectory s (nameAt s n .child))) _ _ x f₄ in
-      let (g, f₆) = passed-then (hasEntries s (nameAt s n .child)) _ _ x f₅ in
-      let is : (d, n) ≡ x = cc in
-      let (w, dk) = reached-directory s h d e₁ in
-      let (l, at) = found-name s (I .valid .good-names) d text n (passed-present 2 (findName s d text) n e₃) in
-      subst (λ (y : ℕ × ℕ). Owes σ p q r s (touchDirectory (removeObject s (y .1)) c (y .0)) (strike h text L)) is
-      (gone-owes h text d n w dk hb at (no-entries (nameAt s n .child) g))
+      let w = rmdir-passed s h text x e in
+      entry-owes h text hb (x .0) (x .1) (w .entry) (λ o l is. directory-empty o (ap (hasEntries s) (sym is) ∙ w .empty))
 
   -- ---- RENAME
   clear : (o e : ℕ) → o < objects s → view s .kind e ≡ 2 → isWithin s o e ≡ false → (qs : List ℕ) → Path (view s) e qs → Avoids (view s) o e qs
@@ -170,45 +149,33 @@ module _ (σ p q r : ℕ) (s : Store) (L : Ledger) (I : Inv σ p q r s L) (c : C
       (sym (above-same s (I .valid .good-names) j e) ∙ ap (λ (y : ℕ). iterate j (parentIn y (view s)) e) (I .nams) ∙ z)))
       (λ t. outside-file p q (view s) (T .flat) o e qs (λ z. true-false (sym (true-directory s o (sym (kind-at s o l) ∙ z)) ∙ t)) k a)
 
-  rename-facts : (h text g title : List ℕ) → Below 256 h → Below 256 g → Below 256 title → (x : ℕ × ℕ × ℕ) → checkRename s h text g title ≡ passed x
-      → Owes σ p q r s (renameEdit s c (x .0) (x .1) (x .2) title) (move h text g title L)
-  unfolding checkRename renameEdit move
-  rename-facts h text g title hb gb tb x z =
-      let (d, e₁, f₁) = passed-bind (reachDirectory s h) _ x z in
-      let (e, e₂, f₂) = passed-bind (reachDirectory s g) _ x f₁ in
-      let (u, e₃, f₃) = passed-bind (checkName text) _ x f₂ in
-      let (v, e₄, f₄) = passed-bind (checkName title) _ x f₃ in
-      let (a, f₅) = passed-then (isDots text || isDots title) _ _ x f₄ in
-      let (n, e₅, f₆) = passed-bind (present 2 (findName s d text)) _ x f₅ in
-      let (y, e₆, f₇) = passed-bind (absent 17 (findName s e title)) _ x f₆ in
-      let (b, f₈) = passed-then (isWithin s (nameAt s n .child) e) _ _ x f₇ in
-      let is : (d, e, n) ≡ x = cc in
-      let (w, dk) = reached-directory s h d e₁ in
-      let (o, ek) = reached-directory s g e e₂ in
-      let good = name-passed title v e₄ (or-none (isDots text) (isDots title) a .1) in
-      let (l, at) = found-name s (I .valid .good-names) d text n (passed-present 2 (findName s d text) n e₅) in
-      let gap = no-name s (I .valid .good-names) e title (passed-absent 17 (findName s e title) y e₆) in
+  rename-facts : (h text g title : List ℕ) → Below 256 h → Below 256 g → Below 256 title → (d e n : ℕ) → RenamePassed s h text g title d e n
+      → Owes σ p q r s (renameEdit s c d e n title) (move h text g title L)
+  unfolding renameEdit move
+  rename-facts h text g title hb gb tb d e n w =
+      let o = nameAt s n .child in
+      let (l, at) = found-name s (I .valid .good-names) d text n (w .found) in
+      let gap = no-name s (I .valid .good-names) e title (w .fresh) in
       let i = child-in d n text at in
-      let kd = directory-kind σ p q r s L I c clock h text d w dk hb in
-      let ke = directory-kind σ p q r s L I c clock g title e o ek gb in
-      let first = move-keeps σ p q r s L I n e title (at .0) good tb ke gap (clear (nameAt s n .child) e i ke b) in
+      let kd = directory-kind σ p q r s L I c clock h text d (w .reached) (w .directory) hb in
+      let ke = directory-kind σ p q r s L I c clock g title e (w .target-reached) (w .target-directory) gb in
+      let first = move-keeps σ p q r s L I n e title (at .0) (w .target-good) tb ke gap (clear o e i ke (w .outside)) in
       let M : Ledger = record { book = moveLines (handleIn σ (view s) (view s .dir n)) (view s .text n) (handleIn σ (view s) e) title (L .book); given = L .given } in
       let t₁ = moveName s n e title in
-      let live : Live (view s) (nameAt s n .child) = (let q = tree σ p q r s L I .flat .ends n (at .0) in omega (arith, ap (view s .kind) (child-at s n l))) in
-      let second = touch-inv σ p q r t₁ M (first .owes .inv) (c .clock) (nameAt s n .child) onlyCtime (omega (arith, first .kinds (nameAt s n .child) live)) (clock .fits) (clock .good) only-ctime-fits only-ctime-allowed in
-      let t₂ = setAttributes t₁ (c .clock) (nameAt s n .child) onlyCtime in
+      let live : Live (view s) o = subst (Live (view s)) (child-at s n l) (tree σ p q r s L I .flat .ends n (at .0)) in
+      let second = touch-inv σ p q r t₁ M (first .owes .inv) (c .clock) o onlyCtime (omega (arith, first .kinds o live)) clock only-ctime-fits only-ctime-allowed in
+      let t₂ = setAttributes t₁ (c .clock) o onlyCtime in
       let two = keeps-trans σ p q r s t₁ t₂ M M first second in
-      let third = touch-inv σ p q r t₂ M (two .owes .inv) (c .clock) d mtimeAndCtime (omega (arith, two .kinds d (omega arith))) (clock .fits) (clock .good) mtime-and-ctime-fits mtime-and-ctime-allowed in
+      let third = touch-inv σ p q r t₂ M (two .owes .inv) (c .clock) d mtimeAndCtime (omega (arith, two .kinds d (omega arith))) clock mtime-and-ctime-fits mtime-and-ctime-allowed in
       let t₃ = touchDirectory t₂ c d in
       let three = keeps-trans σ p q r s t₂ t₃ M M two third in
-      let fourth = touch-inv σ p q r t₃ M (three .owes .inv) (c .clock) e mtimeAndCtime (omega (arith, three .kinds e (omega arith))) (clock .fits) (clock .good) mtime-and-ctime-fits mtime-and-ctime-allowed in
+      let fourth = touch-inv σ p q r t₃ M (three .owes .inv) (c .clock) e mtimeAndCtime (omega (arith, three .kinds e (omega arith))) clock mtime-and-ctime-fits mtime-and-ctime-allowed in
       let four = keeps-trans σ p q r s t₃ (touchDirectory t₃ c e) M M three fourth in
-      let hd : handleIn σ (view s) (view s .dir n) ≡ h = ap (handleIn σ (view s)) (at .1) ∙ sym (directory-handle σ p q r s L I c clock h text d w dk hb) in
-      let he : handleIn σ (view s) e ≡ g = sym (directory-handle σ p q r s L I c clock g title e o ek gb) in
+      let hd : handleIn σ (view s) (view s .dir n) ≡ h = ap (handleIn σ (view s)) (at .1) ∙ sym (directory-handle σ p q r s L I c clock h text d (w .reached) (w .directory) hb) in
+      let he : handleIn σ (view s) e ≡ g = sym (directory-handle σ p q r s L I c clock g title e (w .target-reached) (w .target-directory) gb) in
       let book : M ≡ record { book = moveLines h text g title (L .book); given = L .given } =
       λ j. record { book = moveLines (hd j) (at .2 j) (he j) title (L .book); given = L .given } in
-      subst (λ (y : ℕ × ℕ × ℕ). Owes σ p q r s (renameEdit s c (y .0) (y .1) (y .2) title) (record { book = moveLines h text g title (L .book); given = L .given })) is
-      (subst (Owes σ p q r s (touchDirectory t₃ c e)) book (four .owes))
+      subst (Owes σ p q r s (touchDirectory t₃ c e)) book (four .owes)
 
   -- ---- the calls
   module _ (call reply : List ℕ) (bytes : Below 256 call) where
@@ -270,4 +237,4 @@ module _ (σ p q r : ℕ) (s : Store) (L : Ledger) (I : Inv σ p q r s L) (c : C
             subst (Owes σ p q r s s) (sym (note-failed call reply (Call.Rename a b) _ A n (renaming-fails s h g n) (z .0) (z .1) L)) (keeps-refl σ p q r s L I .owes)
         go (passed x) e A =
             subst (Owes σ p q r s (renameEdit s c (x .0) (x .1) (x .2) title)) (sym (note-ok call reply (Call.Rename a b) _ A (renamed-some 0 _ _) refl L))
-            (rename-facts h text g title (cut-below (a .directory)) (cut-below (b .directory)) (cut-below (b .name)) x e)
+            (rename-facts h text g title (cut-below (a .directory)) (cut-below (b .directory)) (cut-below (b .name)) (x .0) (x .1) (x .2) (rename-passed s h text g title x e))

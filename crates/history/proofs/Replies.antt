@@ -1,20 +1,19 @@
 -- What the words of a reply say: its status, the handle in it, and numbers of 64 bits. Assumes nothing.
-use mathlib.Core.Path.{_≡_, refl, sym, ap, ap₂, _∙_, subst}
+use mathlib.Core.Path.{_≡_, refl, sym, ap, ap₂, _∙_}
 use mathlib.Core.Logic.{_≢_}
-use mathlib.Core.Bool.{Bool, true, false, _&&_}
+use mathlib.Core.Bool.{Bool, _&&_}
 use mathlib.Core.List.{List, [], _∷_, _++_, append-assoc, append-nil}
-use mathlib.Core.Option.{Option, some, none}
-use Prim.Native.Nat.{ℕ, zero, suc, _+_, _*_, _/_, _%_, _^_, _≤_, _<_}
+use Prim.Native.Nat.{ℕ, suc, _+_, _*_, _≤_, _<_}
 use native.Mathlib.Omega.{arith}
-use lib.Dec.{eqb, leb, lit<, lit≤}
+use lib.Dec.{eqb, lit<}
 use lib.ListN.{length, getD, replicate, length-append}
-use borrow.Author.Tests.{le-leb, lt-leb, eq-eqb}
+use borrow.Author.Tests.{le-leb}
 use Rattle.kinds.specs.declared.object.Attributes.{Attributes}
 use Rattle.kinds.specs.declared.object.Change.{Change}
 use Rattle.kinds.specs.Numbers.{zeroWords}
-use Rattle.spec.specs.Bytes.{part, beAt, bytesOf, words, opaqueBytes, zeros, padding}
+use Rattle.spec.specs.Bytes.{part, beAt, bytesOf, words, opaqueBytes}
 use Rattle.spec.specs.Count.{bit}
-use Rattle.spec.specs.Replies.{resultBytes, fattr3, postOp, preOp, wccData, wccOption, entriesBytes, hyper}
+use Rattle.spec.specs.Replies.{resultBytes, fattr3, postOp, wccData, wccOption, entriesBytes, hyper}
 use Rattle.spec.specs.Results.{Result, null, dead, failed, changed, renamed, gotAttributes, found, granted, gotBytes, wrote, created, listed, gotRoom, gotLimits, gotNaming, committed}
 use Rattle.spec.specs.Rpc.{accepted}
 use Rattle.spec.proofs.Bytes.{part-left, part-right, part-whole, be-add}

@@ -1,30 +1,30 @@
 -- A store's bytes as a view: functions of a record's number, built from spec's readers. A number out of range reads as free. The counts and
 -- searches of spec are those of the view. Assumes nothing.
-use mathlib.Core.Path.{_≡_, refl, sym, ap, ap₂, _∙_, subst}
-use mathlib.Core.Logic.{_≢_, _⊎_, ⊎-elim, by-cases}
-use mathlib.Core.Bool.{Bool, true, false, _&&_, cond}
+use mathlib.Core.Path.{_≡_, refl, sym, ap, _∙_}
+use mathlib.Core.Logic.{_⊎_, by-cases}
+use mathlib.Core.Bool.{Bool, true, _&&_, cond}
 use mathlib.Core.Option.{Option, some, none}
-use mathlib.Core.List.{List, [], _∷_}
-use Prim.Native.Nat.{ℕ, zero, suc, _+_, _≤_, _<_}
-use native.Mathlib.Decide.{ℕ-discrete, decLt}
+use mathlib.Core.List.{List, []}
+use Prim.Native.Nat.{ℕ, _≤_, _<_}
+use native.Mathlib.Decide.{decLt}
 use native.Mathlib.Omega.{arith}
 use lib.Dec.{eqb, ltb}
 use lib.ListN.{length}
-use borrow.Author.Tests.{eq-eqb, ne-eqb, eqb-true, lt-ltb, le-ltb, ltb-true, ltb-false}
+use borrow.Author.Tests.{eq-eqb, eqb-true, lt-ltb, le-ltb}
 use Rattle.spec.specs.Bytes.{sameBytes}
 use Rattle.spec.specs.Count.{bit, sum, count, lowest, iterate, times}
-use Rattle.spec.specs.Image.{Store, objects, names, blocks, stamp, objectAt, nameAt, nameLength}
-use Rattle.spec.specs.Room.{isLive, isUsedName, isNaming, isIn, isNamed, held, uses, parent, directoryOf, above}
+use Rattle.spec.specs.Image.{Store, objects, names, objectAt, nameAt, nameLength}
+use Rattle.spec.specs.Room.{isUsedName, isNaming, isIn, isNamed, held, uses, parent, directoryOf, above}
 use Rattle.spec.specs.Room as Spec
 use Rattle.spec.proofs.Bytes.{same-yes, same-no}
 use Rattle.spec.proofs.Count.{sum-ext, and-both, true-false, lowest-ext, lowest-passes}
 use Rattle.spec.proofs.Searches.{iterate-ext}
 use Rattle.spec.proofs.Tests.{and-true}
-use Rattle.spec.proofs.Valid.{FreeName, UsedName, GoodNameRecord, GoodNames, used-true, true-used}
+use Rattle.spec.proofs.Valid.{GoodNameRecord, GoodNames, used-true, true-used}
 use Rattle.history.proofs.Sum.{holds, ind, holds-same}
 use Rattle.history.proofs.Lists.{text?}
-use Rattle.history.proofs.View.{View, Live, Used, Names, At, names?, at?, namings, entries}
-use Rattle.history.proofs.Walk.{directoryAt, naming, parentIn}
+use Rattle.history.proofs.View.{View, Live, Used, names?, at?, namings, entries}
+use Rattle.history.proofs.Walk.{directoryAt, parentIn}
 
 -- x below n, and y from n on
 pub within : {A : Type 0} → ℕ → A → ℕ → A → A

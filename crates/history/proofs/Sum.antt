@@ -1,15 +1,13 @@
 -- Further laws of the sums of spec, and tests that are decided as 1 and 0. Assumes nothing.
-use mathlib.Core.Path.{_≡_, refl, sym, ap, _∙_, subst}
-use mathlib.Core.Logic.{_≢_, _⊎_, inl, inr, by-cases, ite, if-pos, if-neg}
+use mathlib.Core.Path.{_≡_, refl, sym}
+use mathlib.Core.Logic.{_≢_, by-cases, ite, if-pos, if-neg}
 use mathlib.Core.Bool.{Bool, true, false}
-use Prim.Native.Nat.{ℕ, zero, suc, _+_, _≤_, _<_}
+use Prim.Native.Nat.{ℕ, zero, suc, _≤_, _<_}
 use native.Mathlib.Nat.{not-suc-le-zero}
-use native.Mathlib.Decide.{ℕ-discrete, decLt, decLe}
+use native.Mathlib.Decide.{ℕ-discrete, decLt}
 use native.Mathlib.Omega.{arith}
-use lib.Dec.{eqb}
-use borrow.Author.Tests.{eq-eqb, ne-eqb, eqb-true, eqb-false}
 use Rattle.spec.specs.Count.{bit, sum}
-use Rattle.spec.proofs.Count.{sum-ext, sum-upd, sum-at, sum-zero, sum-add, by-bool, true-false}
+use Rattle.spec.proofs.Count.{sum-upd, true-false}
 
 -- a decided test, as the Bool that spec counts
 abbrev pub holds : {A : Type 0} → Dec A → Bool
@@ -55,35 +53,12 @@ pub holds-yes : {A : Type 0} (d : Dec A) → A → holds d ≡ true
 holds-yes (yes a) x = refl
 holds-yes (no n) x = absurd (n x)
 
-pub bit-le : (t : Bool) → bit t ≤ 1
-bit-le true = omega arith
-bit-le false = omega arith
-
-pub bit-one : (t : Bool) → 0 < bit t → t ≡ true
-bit-one true h = refl
-bit-one false h = absurd (not-suc-le-zero h)
-
--- two Bools that say the same
-pub same-bool : (t u : Bool) → (t ≡ true → u ≡ true) → (u ≡ true → t ≡ true) → t ≡ u
-same-bool true u f g = sym (f refl)
-same-bool false true f g = g refl
-same-bool false false f g = refl
-
 pub sum-find : (n : ℕ) (f : ℕ → ℕ) → 0 < sum n f → (i : ℕ) × (i < n) × (0 < f i)
 unfolding sum
 sum-find zero f h = absurd (not-suc-le-zero h)
 sum-find (suc n) f h = by-cases (decLt 0 (f n))
     (λ p. (n, omega arith, p))
     (λ x. let r = sum-find n f (omega arith) in (r .0, omega arith, r .2))
-
--- exactly one number below n is x
-pub sum-one : (n x : ℕ) → x < n → sum n (λ i. bit (eqb x i)) ≡ 1
-sum-one n x l = omega (
-  arith,
-  sum-upd n x (λ i. 0) (λ i. bit (eqb x i)) l (λ i d. ap bit (ne-eqb x i (λ e. d (sym e)))),
-  sum-zero n (λ i. 0) (λ i k. refl),
-  ap bit (eq-eqb x x refl),
-)
 
 -- f, with 0 at o
 abbrev pub less : (ℕ → ℕ) → ℕ → ℕ → ℕ

@@ -1,17 +1,15 @@
--- The tree: every live object but the root is named once, and the records that name it lead up to the root.
--- Assumes nothing.
-use mathlib.Core.Path.{_≡_, refl, sym, ap, _∙_, subst}
+-- The tree: every live object but the root is named once, and the records that name it lead up to the root. Assumes nothing.
+use mathlib.Core.Path.{_≡_, refl, ap, subst}
 use mathlib.Core.Logic.{_≢_, by-cases}
 use mathlib.Core.List.{List, [], _∷_}
-use Prim.Native.Nat.{ℕ, zero, suc, _+_, _≤_, _<_}
+use Prim.Native.Nat.{ℕ, zero, suc, _≤_, _<_}
 use native.Mathlib.Decide.{ℕ-discrete, decLt}
 use native.Mathlib.Omega.{arith}
 use lib.ListN.{length, drop, length-drop}
-use Rattle.spec.specs.Count.{bit, sum}
-use Rattle.spec.proofs.Count.{sum-upd, sum-at, sum-zero}
+use Rattle.spec.specs.Count.{sum}
 use Rattle.spec.specs.Check.{mostNames}
 use Rattle.history.proofs.Sum.{ind, ind-yes, ind-le, pigeon}
-use Rattle.history.proofs.View.{View, Live, Used, Names, At, names?, at?, namings, entries, Path, Avoids, SameName, SetName, SetObj, namings-set, entries-set, named-by, not-named, named-once, entry-once}
+use Rattle.history.proofs.View.{View, Live, Used, Names, At, namings, entries, Path, not-named, named-once, entry-once}
 
 pub record Flat (P Q : ℕ) (v : View) : Type 0 where
   pub few : P ≤ 64
@@ -92,7 +90,7 @@ module _ (P Q : ℕ) (v : View) (T : Tree P Q v) where
   path-directory (q ∷ qs) i (suc zero) z l a = T .flat .dirs q (a .0 .0)
   path-directory (q ∷ qs) i (suc (suc k)) z l a = path-directory qs (v .dir q) (suc k) (omega arith) (omega arith) (a .1)
 
-  -- the way up has fewer steps than there are live objects
+  -- a path has fewer steps than there are live objects
   pub path-short : (qs : List ℕ) (i : ℕ) → Path v i qs → length qs < living P v
   path-short qs i a = pigeon (suc (length qs)) P (λ j. ind (live? v j)) (above v i qs)
       (λ j l. let c = path-above qs i j (omega arith) a in let x = path-live (drop j qs) (above v i qs j) c in

@@ -1,17 +1,17 @@
--- What the store holds, as functions of an object's, a name record's number: the only thing that the whole-run claims speak of.
--- Assumes nothing.
-use mathlib.Core.Path.{_≡_, refl, sym, ap, _∙_, subst}
+-- What a store holds, as functions of an object's and of a name record's number: the only thing that the tree, the book and the handles are
+-- said of. Assumes nothing.
+use mathlib.Core.Path.{_≡_, sym, ap, _∙_}
 use mathlib.Core.Logic.{_≢_, by-cases, Dec·and}
 use mathlib.Core.List.{List, [], _∷_}
-use Prim.Native.Nat.{ℕ, zero, suc, _+_, _≤_, _<_}
+use Prim.Native.Nat.{ℕ, _+_, _≤_, _<_}
 use native.Mathlib.Decide.{ℕ-discrete, decLt}
 use native.Mathlib.Omega.{arith}
 use lib.ListN.{length}
 use Rattle.history.proofs.Lists.{text?}
-use Rattle.spec.specs.Count.{bit, sum}
-use Rattle.spec.proofs.Count.{sum-upd, sum-at, sum-zero}
+use Rattle.spec.specs.Count.{sum}
+use Rattle.spec.proofs.Count.{sum-upd, sum-at}
 use Rattle.spec.proofs.Unique.{sum-two}
-use Rattle.history.proofs.Sum.{holds, ind, ind-same, ind-yes, ind-true, sum-find}
+use Rattle.history.proofs.Sum.{ind, ind-same, ind-yes, ind-true, sum-find}
 
 pub record View : Type 0 where
   pub kind : ℕ → ℕ
@@ -58,7 +58,7 @@ abbrev pub Path : View → ℕ → List ℕ → Type 0
 Path v i [] = i ≡ 0
 Path v i (q ∷ qs) = Names v q i × Path v (v .dir q) qs
 
--- object c is not on the way from i up the records qs
+-- object c is not on the path from i up the records qs
 abbrev pub Avoids : View → ℕ → ℕ → List ℕ → Type 0
 Avoids v c i [] = i ≢ c
 Avoids v c i (q ∷ qs) = (i ≢ c) × Avoids v c (v .dir q) qs

@@ -1,19 +1,18 @@
 -- Parents as spec computes them: from a live directory, as many steps as there are objects lead to the root, and what is not met within them
 -- is not on the path. Assumes nothing.
-use mathlib.Core.Path.{_≡_, refl, sym, ap, _∙_, subst}
+use mathlib.Core.Path.{_≡_, refl, sym, ap, _∙_}
 use mathlib.Core.Logic.{_≢_, by-cases}
-use mathlib.Core.Bool.{Bool, true, false}
 use mathlib.Core.Option.{Option, some, none}
 use mathlib.Core.List.{List, [], _∷_}
-use Prim.Native.Nat.{ℕ, zero, suc, _+_, _≤_, _<_}
-use native.Mathlib.Decide.{ℕ-discrete, decLt}
+use Prim.Native.Nat.{ℕ, zero, suc, _≤_, _<_}
+use native.Mathlib.Decide.{ℕ-discrete}
 use native.Mathlib.Omega.{arith}
 use lib.ListN.{length}
 use Rattle.spec.specs.Count.{lowest, iterate}
 use Rattle.spec.proofs.Count.{lowest-passes, lowest-none, true-false}
 use Rattle.history.proofs.Sum.{holds, holds-true, holds-yes}
-use Rattle.history.proofs.View.{View, Live, Used, Names, names?, namings, Path, Avoids, named-by, not-named}
-use Rattle.history.proofs.Tree.{Flat, Tree, one-name, single}
+use Rattle.history.proofs.View.{View, Live, Names, names?, namings, Path, Avoids, named-by, not-named}
+use Rattle.history.proofs.Tree.{Flat, one-name, single}
 
 -- the directory of the record that is found, and 0 where none is
 abbrev pub directoryAt : View → Option ℕ → ℕ

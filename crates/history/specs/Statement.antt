@@ -1,18 +1,17 @@
 -- DEMAND 3: what holds of the store and of the book after any list of requests from any successful format. `Kept` is the statement; the
 -- definitions above it are its words. Each field quotes the sentence of document 01 that it says.
-use Prim.Native.Nat.{ℕ, zero, suc, _+_, _*_, _-_, _≤_, _<_, min}
+use Prim.Native.Nat.{ℕ, suc, _+_, _*_, _-_, _≤_, _<_, min}
 use mathlib.Core.Path.{_≡_}
 use mathlib.Core.Logic.{_⊎_, _↔_}
 use mathlib.Core.List.{List, [], _∷_, List·Memᴰ}
 use mathlib.Core.Bool.{Bool, true, false, _&&_, _||_, not}
-use mathlib.Core.Option.{Option, some, none}
+use mathlib.Core.Option.{some, none}
 use lib.Dec.{eqb}
-use lib.ListN.{length, take, getD}
-use Rattle.kinds.specs.Numbers.{OK, NOSPC, STALE, REGULAR}
+use lib.ListN.{length, getD}
+use Rattle.kinds.specs.Numbers.{NOSPC, STALE, REGULAR}
 use Rattle.kinds.specs.declared.object.Time.{Time}
 use Rattle.kinds.specs.declared.call.Part.{Part}
 use Rattle.kinds.specs.declared.call.NameIn.{NameIn}
-use Rattle.kinds.specs.declared.call.SetSize.{SetSize}
 use Rattle.kinds.specs.declared.call.Settable.{Settable}
 use Rattle.kinds.specs.declared.call.Guard.{Guard}
 use Rattle.kinds.specs.declared.call.How.{How}
@@ -212,31 +211,31 @@ pub record Kept (σ p q r : ℕ) (w : State) : Type 0 where
   pub stale : (g : List ℕ) → IsRemoved (w .ledger) g → (xs : List Request) → AllLent xs
       → (x : Request) (h : Part) → Asks x (Call.Getattr h) → cut (x .call) h ≡ g → statusIn (replyTo (run w xs .store) x) ≡ STALE
   -- it never has another object's line again
-  pub gone : (g : List ℕ) → IsRemoved (w .ledger) g → (xs : List Request) → AllLent xs → (kind : ℕ) → HasLine (run w xs .ledger .book) g kind → ⊥
+  pub neverAgain : (g : List ℕ) → IsRemoved (w .ledger) g → (xs : List Request) → AllLent xs → (kind : ℕ) → HasLine (run w xs .ledger .book) g kind → ⊥
   -- and keeps its type while it has one
   pub sameKind : (g : List ℕ) (i j : ℕ) → HasLine (w .ledger .book) g i → (xs : List Request) → AllLent xs → HasLine (run w xs .ledger .book) g j → i ≡ j
   -- "The earlier checks are those these papers name; a call that passes them, asks for room and has it is answered OK.": and NOSPC is answered
   -- exactly when the room is missing. SETATTR:
-  pub setattrRoom : (x : Request) (h : Part) (a : Settable) (g : Guard) (o : ℕ) → Lent x → Asks x (Call.Setattr h a g)
+  pub setattrRoom : (x : Request) (h : Part) (a : Settable) (g : Guard) (o : ℕ) → Asks x (Call.Setattr h a g)
       → reach (w .store) (cut (x .call) h) ≡ passed o → differs g (objectAt (w .store) o .ctime) ≡ false → badAttributes a ≡ false
       → isGiven (a .size) && isDirectory (w .store) o ≡ false
       → AnswersRoom (replyTo (w .store) x)
       (BlocksMissing r (w .store) (w .ledger) (sizeOf (w .store) o) (sizeSet (a .size) (sizeOf (w .store) o)))
   -- WRITE:
-  pub writeRoom : (x : Request) (h : Part) (offset n : ℕ) (bytes : Part) (o : ℕ) → Lent x → Asks x (Call.Write h offset n bytes)
+  pub writeRoom : (x : Request) (h : Part) (offset n : ℕ) (bytes : Part) (o : ℕ) → Asks x (Call.Write h offset n bytes)
       → reachRegular (w .store) (cut (x .call) h) ≡ passed o → n ≡ length (cut (x .call) bytes)
       → 0 < n → offset + min n mostBytes ≤ 8192
       → AnswersRoom (replyTo (w .store) x)
       (BlocksMissing r (w .store) (w .ledger) (sizeOf (w .store) o) (grown (w .store) o offset (min n mostBytes)))
   -- CREATE of a new file, UNCHECKED or GUARDED:
-  pub createRoom : (x : Request) (target : NameIn) (manner : How) (a : Settable) (d : ℕ) → Lent x → Asks x (Call.Create target manner)
+  pub createRoom : (x : Request) (target : NameIn) (manner : How) (a : Settable) (d : ℕ) → Asks x (Call.Create target manner)
       → (manner ≡ How.Unchecked a) ⊎ (manner ≡ How.Guarded a)
       → reachDirectory (w .store) (cut (x .call) (target .directory)) ≡ passed d
       → checkNew (w .store) d (cut (x .call) (target .name)) (badAttributes a) ≡ passed tt
       → findName (w .store) d (cut (x .call) (target .name)) ≡ none
       → AnswersRoom (replyTo (w .store) x) (RoomMissing σ p q r (w .store) (w .ledger) (sizeSet (a .size) 0))
   -- CREATE, UNCHECKED, of an existing regular file:
-  pub recreateRoom : (x : Request) (target : NameIn) (a : Settable) (d n : ℕ) → Lent x → Asks x (Call.Create target (How.Unchecked a))
+  pub recreateRoom : (x : Request) (target : NameIn) (a : Settable) (d n : ℕ) → Asks x (Call.Create target (How.Unchecked a))
       → reachDirectory (w .store) (cut (x .call) (target .directory)) ≡ passed d
       → checkNew (w .store) d (cut (x .call) (target .name)) (badAttributes a) ≡ passed tt
       → findName (w .store) d (cut (x .call) (target .name)) ≡ some n → isRegular (w .store) (nameAt (w .store) n .child) ≡ true
@@ -244,7 +243,7 @@ pub record Kept (σ p q r : ℕ) (w : State) : Type 0 where
       (BlocksMissing r (w .store) (w .ledger) (sizeOf (w .store) (nameAt (w .store) n .child))
       (sizeSet (a .size) (sizeOf (w .store) (nameAt (w .store) n .child))))
   -- MKDIR:
-  pub mkdirRoom : (x : Request) (target : NameIn) (a : Settable) (d : ℕ) → Lent x → Asks x (Call.Mkdir target a)
+  pub mkdirRoom : (x : Request) (target : NameIn) (a : Settable) (d : ℕ) → Asks x (Call.Mkdir target a)
       → reachDirectory (w .store) (cut (x .call) (target .directory)) ≡ passed d
       → checkNew (w .store) d (cut (x .call) (target .name)) (badAttributes a || isGiven (a .size)) ≡ passed tt
       → findName (w .store) d (cut (x .call) (target .name)) ≡ none
