@@ -1,17 +1,17 @@
 -- Writes keep what the store check gives of a store's counts and of its name records. Assumes nothing.
 use mathlib.Core.Path.{_≡_, sym, ap, _∙_}
-use mathlib.Core.Logic.{_≢_, by-cases}
+use mathlib.Core.Logic.{by-cases}
 use mathlib.Core.Bool.{not, true}
-use Prim.Native.Nat.{ℕ, _+_, _≤_, _<_}
+use Prim.Native.Nat.{ℕ, _≤_, _<_}
 use native.Mathlib.Decide.{ℕ-discrete}
 use native.Mathlib.Omega.{arith}
 use lib.Dec.{eqb}
 use lib.ListN.{length}
-use Rattle.spec.specs.Image.{Store, Name, objects, names, blockStart, nameStart, nameAt, nameLength, putName}
+use Rattle.spec.specs.Image.{Store, Name, objects, names, blockStart, nameAt, nameLength, putName}
 use Rattle.spec.specs.Room.{isUsedName}
 use Rattle.spec.proofs.Shape.{SameShape}
 use Rattle.spec.proofs.Names.{SameName, FitsName, nameAt-same, nameLength-same}
-use Rattle.spec.proofs.Writes.{NameWritten, name-written}
+use Rattle.spec.proofs.Writes.{name-written}
 use Rattle.image.specs.Shaped.{Shaped, SoundNames}
 
 pub shaped-same : (s s′ : Store) → SameShape s s′ → Shaped s → Shaped s′

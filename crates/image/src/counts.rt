@@ -2,7 +2,7 @@
 ghost use mathlib.Core.Path.{_≡_};
 ghost use Prim.Native.Nat.{_+_, _≤_};
 ghost use lib.ListN.{length};
-ghost use Rattle.spec.specs.Image.{volumes, stamp, objects, names, blocks, objectStart, nameStart, blockStart};
+ghost use Rattle.spec.specs.Image.{nameRecordLength, objectLength, volumes, stamp, objects, names, blocks, objectStart, nameStart, blockStart};
 use kinds::numbers::BlockNumber;
 use kinds::numbers::Limit;
 use kinds::numbers::NameNumber;
@@ -48,7 +48,7 @@ pub fn block_count(store: &[u8]) -> usize
 
 // Where an object record starts; its 80 bytes lie in the store.
 pub fn object_start(store: &[u8], o: ObjectNumber) -> usize
-    requires { ⌜ objectStart (o .0) + 80 ≤ length (now store) ⌝ }
+    requires { ⌜ objectStart (o .0) + objectLength ≤ length (now store) ⌝ }
     ensures { λ r. ⌜ r ≡ objectStart (o .0) ⌝ }
 {
     let i = o.0;
@@ -57,7 +57,7 @@ pub fn object_start(store: &[u8], o: ObjectNumber) -> usize
 
 // Where a name record starts; its 44 bytes lie in the store.
 pub fn name_start(store: &[u8], n: NameNumber) -> usize
-    requires { ⌜ nameStart (now store) (n .0) + 44 ≤ length (now store) ⌝ }
+    requires { ⌜ nameStart (now store) (n .0) + nameRecordLength ≤ length (now store) ⌝ }
     ensures { λ r. ⌜ r ≡ nameStart (now (store .entry)) (n .0) ⌝ }
 {
     let p = object_count(store);

@@ -3,7 +3,7 @@ ghost use mathlib.Core.Path.{_≡_};
 ghost use Prim.Native.Nat.{_+_, _<_, _≤_};
 ghost use lib.ListN.{length};
 ghost use Rattle.spec.specs.Bytes.{part};
-ghost use Rattle.spec.specs.Image.{objects, nameStart, nameAt, nameLength, putName, freeName};
+ghost use Rattle.spec.specs.Image.{nameRecordLength, nameStart, nameAt, nameLength, putName, freeName};
 ghost use Rattle.spec.specs.Room.{isUsedName};
 ghost use Rattle.image.specs.Text.{nameOf, textOf};
 use crate::counts::name_start;
@@ -14,7 +14,7 @@ use kinds::numbers::ObjectNumber;
 
 // The directory that a record's name is in.
 pub fn name_directory(store: &[u8], n: NameNumber) -> ObjectNumber
-    requires { ⌜ nameStart (now store) (n .0) + 44 ≤ length (now store) ⌝ }
+    requires { ⌜ nameStart (now store) (n .0) + nameRecordLength ≤ length (now store) ⌝ }
     ensures { λ r. ⌜ r .0 ≡ nameAt (now (store .entry)) (n .0) .directory ⌝ }
 {
     let at = name_start(store, n);
@@ -23,7 +23,7 @@ pub fn name_directory(store: &[u8], n: NameNumber) -> ObjectNumber
 
 // The object that a record names.
 pub fn name_child(store: &[u8], n: NameNumber) -> ObjectNumber
-    requires { ⌜ nameStart (now store) (n .0) + 44 ≤ length (now store) ⌝ }
+    requires { ⌜ nameStart (now store) (n .0) + nameRecordLength ≤ length (now store) ⌝ }
     ensures { λ r. ⌜ r .0 ≡ nameAt (now (store .entry)) (n .0) .child ⌝ }
 {
     let at = name_start(store, n);
@@ -32,7 +32,7 @@ pub fn name_child(store: &[u8], n: NameNumber) -> ObjectNumber
 
 // The length that a record states; 0 where it is free.
 pub fn name_length(store: &[u8], n: NameNumber) -> usize
-    requires { ⌜ nameStart (now store) (n .0) + 44 ≤ length (now store) ⌝ }
+    requires { ⌜ nameStart (now store) (n .0) + nameRecordLength ≤ length (now store) ⌝ }
     ensures { λ r. ⌜ r ≡ nameLength (now (store .entry)) (n .0) ⌝ }
 {
     let at = name_start(store, n);
@@ -40,7 +40,7 @@ pub fn name_length(store: &[u8], n: NameNumber) -> usize
 }
 
 pub fn is_used_name(store: &[u8], n: NameNumber) -> bool
-    requires { ⌜ nameStart (now store) (n .0) + 44 ≤ length (now store) ⌝ }
+    requires { ⌜ nameStart (now store) (n .0) + nameRecordLength ≤ length (now store) ⌝ }
     ensures { λ r. ⌜ r ≡ isUsedName (now (store .entry)) (n .0) ⌝ }
 {
     name_length(store, n) != 0
@@ -55,7 +55,7 @@ pub fn save_name(
     call: &[u8],
     name: Part,
 )
-    requires { ⌜ nameStart (now store) (n .0) + 44 ≤ length (now store) ⌝ }
+    requires { ⌜ nameStart (now store) (n .0) + nameRecordLength ≤ length (now store) ⌝ }
     requires { ⌜ directory .0 < 4294967296 ⌝ }
     requires { ⌜ child .0 < 4294967296 ⌝ }
     requires { ⌜ name .start + name .length ≤ length (now call) ⌝ }
@@ -74,7 +74,7 @@ pub fn save_name(
 
 // Frees a record.
 pub fn clear_name(store: &mut [u8], n: NameNumber)
-    requires { ⌜ nameStart (now store) (n .0) + 44 ≤ length (now store) ⌝ }
+    requires { ⌜ nameStart (now store) (n .0) + nameRecordLength ≤ length (now store) ⌝ }
     ensures { λ _. ⌜ now (store .exit) ≡ putName (now (store .entry)) (n .0) freeName ⌝ }
 {
     let at = name_start(store, n);

@@ -3,7 +3,7 @@ ghost use mathlib.Core.Path.{_≡_};
 ghost use Prim.Native.Nat.{_+_, _<_, _≤_};
 ghost use lib.ListN.{length, getD};
 ghost use Rattle.spec.specs.Bytes.{overlay};
-ghost use Rattle.spec.specs.Image.{objectStart, timeAt, timeBytes, halvesAt, halvesBytes, headBytes, timesBytes, objectAt, putObject};
+ghost use Rattle.spec.specs.Image.{objectLength, objectStart, timeAt, timeBytes, halvesAt, halvesBytes, headBytes, timesBytes, objectAt, putObject};
 ghost use Rattle.spec.specs.Room.{isLive, isRegular, isDirectory, sizeOf};
 use crate::counts::object_start;
 use kinds::numbers::BlockNumber;
@@ -39,7 +39,7 @@ fn load_blocks(store: &[u8], at: usize) -> [u16; 16]
 }
 
 pub fn load_object(store: &[u8], o: ObjectNumber) -> Object
-    requires { ⌜ objectStart (o .0) + 80 ≤ length (now store) ⌝ }
+    requires { ⌜ objectStart (o .0) + objectLength ≤ length (now store) ⌝ }
     ensures { λ r. ⌜ r ≡ objectAt (now (store .entry)) (o .0) ⌝ }
 {
     let at = object_start(store, o);
@@ -114,7 +114,7 @@ fn save_times(store: &mut [u8], at: usize, v: Object)
 }
 
 pub fn save_object(store: &mut [u8], o: ObjectNumber, v: Object)
-    requires { ⌜ objectStart (o .0) + 80 ≤ length (now store) ⌝ }
+    requires { ⌜ objectStart (o .0) + objectLength ≤ length (now store) ⌝ }
     ensures { λ _. ⌜ now (store .exit) ≡ putObject (now (store .entry)) (o .0) v ⌝ }
 {
     let at = object_start(store, o);
@@ -126,7 +126,7 @@ pub fn save_object(store: &mut [u8], o: ObjectNumber, v: Object)
 
 // Single fields of a record.
 pub fn kind_of(store: &[u8], o: ObjectNumber) -> u32
-    requires { ⌜ objectStart (o .0) + 80 ≤ length (now store) ⌝ }
+    requires { ⌜ objectStart (o .0) + objectLength ≤ length (now store) ⌝ }
     ensures { λ r. ⌜ r ≡ objectAt (now (store .entry)) (o .0) .kind ⌝ }
 {
     let at = object_start(store, o);
@@ -134,7 +134,7 @@ pub fn kind_of(store: &[u8], o: ObjectNumber) -> u32
 }
 
 pub fn generation_of(store: &[u8], o: ObjectNumber) -> u32
-    requires { ⌜ objectStart (o .0) + 80 ≤ length (now store) ⌝ }
+    requires { ⌜ objectStart (o .0) + objectLength ≤ length (now store) ⌝ }
     ensures { λ r. ⌜ r ≡ objectAt (now (store .entry)) (o .0) .generation ⌝ }
 {
     let at = object_start(store, o);
@@ -142,7 +142,7 @@ pub fn generation_of(store: &[u8], o: ObjectNumber) -> u32
 }
 
 pub fn size_of(store: &[u8], o: ObjectNumber) -> u32
-    requires { ⌜ objectStart (o .0) + 80 ≤ length (now store) ⌝ }
+    requires { ⌜ objectStart (o .0) + objectLength ≤ length (now store) ⌝ }
     ensures { λ r. ⌜ r ≡ sizeOf (now (store .entry)) (o .0) ⌝ }
 {
     let at = object_start(store, o);
@@ -151,7 +151,7 @@ pub fn size_of(store: &[u8], o: ObjectNumber) -> u32
 
 // The k-th of the 16 block numbers of a record.
 pub fn block_of(store: &[u8], o: ObjectNumber, k: usize) -> BlockNumber
-    requires { ⌜ objectStart (o .0) + 80 ≤ length (now store) ⌝ }
+    requires { ⌜ objectStart (o .0) + objectLength ≤ length (now store) ⌝ }
     requires { ⌜ k < 16 ⌝ }
     ensures { λ r. ⌜ r .0 ≡ getD (objectAt (now (store .entry)) (o .0) .blocks) k 0 ⌝ }
 {
@@ -161,21 +161,21 @@ pub fn block_of(store: &[u8], o: ObjectNumber, k: usize) -> BlockNumber
 
 // Whether an object is live, a regular file, or a directory.
 pub fn is_live(store: &[u8], o: ObjectNumber) -> bool
-    requires { ⌜ objectStart (o .0) + 80 ≤ length (now store) ⌝ }
+    requires { ⌜ objectStart (o .0) + objectLength ≤ length (now store) ⌝ }
     ensures { λ r. ⌜ r ≡ isLive (now (store .entry)) (o .0) ⌝ }
 {
     kind_of(store, o) != Kind::FREE
 }
 
 pub fn is_regular(store: &[u8], o: ObjectNumber) -> bool
-    requires { ⌜ objectStart (o .0) + 80 ≤ length (now store) ⌝ }
+    requires { ⌜ objectStart (o .0) + objectLength ≤ length (now store) ⌝ }
     ensures { λ r. ⌜ r ≡ isRegular (now (store .entry)) (o .0) ⌝ }
 {
     kind_of(store, o) == Kind::REGULAR
 }
 
 pub fn is_directory(store: &[u8], o: ObjectNumber) -> bool
-    requires { ⌜ objectStart (o .0) + 80 ≤ length (now store) ⌝ }
+    requires { ⌜ objectStart (o .0) + objectLength ≤ length (now store) ⌝ }
     ensures { λ r. ⌜ r ≡ isDirectory (now (store .entry)) (o .0) ⌝ }
 {
     kind_of(store, o) == Kind::DIRECTORY

@@ -1,20 +1,17 @@
 -- Lists of block numbers in range: the blocks that an object has, and the free ones. Assumes nothing.
-use mathlib.Core.Path.{_≡_, refl, sym, ap, _∙_}
+use mathlib.Core.Path.{_≡_, _∙_}
 use mathlib.Core.Logic.{⊎-elim}
-use mathlib.Core.Bool.{true}
-use mathlib.Core.List.{List, [], _∷_, _++_}
-use Prim.Native.Nat.{ℕ, zero, suc, _+_, _-_, _≤_, _<_, min}
+use mathlib.Core.List.{List, _++_}
+use Prim.Native.Nat.{ℕ, _+_, _-_, _≤_, _<_, min}
 use native.Mathlib.Omega.{arith}
 use lib.ListN.{length, take, drop, getD, length-append, length-take, length-drop, List·getD-append}
 use lib.Seq.{getD-take, getD-drop, getD-append-add}
-use Rattle.kinds.specs.declared.object.Object.{Object}
-use Rattle.spec.specs.Count.{passing}
 use Rattle.spec.specs.Image.{Store, blocks, objectAt}
 use Rattle.spec.specs.Room.{sizeOf, need, held, isFreeBlock, freeBlocks, freeBlockCount}
 use Rattle.spec.proofs.Bytes.{lt-or-le}
 use Rattle.spec.proofs.Count.{passing-length, passing-member}
 use Rattle.spec.proofs.Records.{FitsObject}
-use Rattle.spec.proofs.Valid.{LiveObject, live-size, need-few}
+use Rattle.spec.proofs.Valid.{LiveObject, need-few}
 
 -- every number of the list is below m
 abbrev pub InRange : ℕ → List ℕ → Type 0

@@ -263,7 +263,7 @@ same-head x y false u e q = absurd (false-true q)
     false-true : false ≡ true → ⊥
     false-true z = let w : _≡_ {A = ℕ} 0 1 = cc in omega arith
 
-same-eq : (xs ys : List ℕ) → sameBytes xs ys ≡ true → xs ≡ ys
+pub same-eq : (xs ys : List ℕ) → sameBytes xs ys ≡ true → xs ≡ ys
 unfolding sameBytes
 same-eq [] [] e = refl
 same-eq [] (y ∷ ys) e = let z : _≡_ {A = ℕ} 0 1 = cc in absurd (omega arith)

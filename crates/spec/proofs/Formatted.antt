@@ -1,64 +1,34 @@
 -- The store that format makes: its counts, its records, that it is bytes and that it passes the check. Assumes nothing.
 use mathlib.Core.Path.{_≡_, refl, sym, ap, _∙_}
-use mathlib.Core.Logic.{_≢_, _⊎_, by-cases}
-use mathlib.Core.Bool.{true, false, _&&_}
-use mathlib.Core.Option.{none}
+use mathlib.Core.Logic.{_⊎_, by-cases}
+use mathlib.Core.Bool.{true, false}
 use mathlib.Core.List.{List, [], _∷_, _++_}
-use Prim.Native.Nat.{ℕ, zero, suc, _+_, _-_, _*_, _^_, _≤_, _<_}
+use Prim.Native.Nat.{ℕ, _+_, _-_, _*_, _^_, _≤_, _<_}
 use native.Mathlib.Omega.{arith}
 use native.Mathlib.Nat.{add-zero}
 use native.Mathlib.Decide.{ℕ-discrete}
-use lib.Dec.{lit<, lit≤, eqb}
-use lib.ListN.{length, take, getD, replicate, length-append, length-replicate, getD-replicate}
+use lib.Dec.{lit<, lit≤}
+use lib.ListN.{length, length-append, length-replicate}
 use Rattle.kinds.specs.Objects.{rootObject, freeObject}
 use Rattle.kinds.specs.declared.object.Time.{Time}
 use Rattle.kinds.specs.declared.object.Object.{Object}
 use Rattle.spec.specs.Bytes.{part, beOf, bytesOf, beAt, words, zeros}
-use Rattle.spec.specs.Count.{count, times, lowest}
-use Rattle.spec.specs.Image.{Store, volumes, stamp, objects, names, blocks, objectStart, nameStart, objectFrom, objectBytes, objectAt, nameAt, nameLength, freeName}
-use Rattle.spec.specs.Room.{isLive, sizeOf, need, held, uses, isUsedName, isNaming, namings, directoryOf, parent, above}
+use Rattle.spec.specs.Count.{times}
+use Rattle.spec.specs.Image.{volumes, stamp, objects, names, blocks, objectStart, objectFrom, objectBytes, objectAt}
+use Rattle.spec.specs.Room.{sizeOf, held, uses, isNaming, namings, parent, above}
 use Rattle.spec.specs.Check.{imageLength, passes}
 use Rattle.spec.specs.Serve.{formatted}
-use Rattle.spec.proofs.Bytes.{part-left, part-right, part-whole, be-bytes, bytes-length}
+use Rattle.spec.proofs.Bytes.{part-left, part-right, part-whole, be-bytes}
 use Rattle.spec.proofs.Count.{sum-zero}
-use Rattle.spec.proofs.Range.{Below, below-append, below-bytes}
+use Rattle.spec.proofs.PlainObject.{plain-fits, plain-live}
+use Rattle.spec.proofs.Range.{Below, below-append}
 use Rattle.spec.proofs.RecordRange.{object-bytes, below-zeros}
-use Rattle.spec.proofs.Records.{FitsTime, FitsObject, object-length, object-part, object-again}
+use Rattle.spec.proofs.Records.{object-length, object-part, object-again}
 use Rattle.spec.proofs.Searches.{count-nothing, lowest-nothing, iterate-fixed}
-use Rattle.spec.proofs.Valid.{Shaped, LiveObject, FreeObject, GoodObject, FreeName, Live, Valid, free-zeros, free-name, false-used, passes-valid}
-use Rattle.spec.proofs.WordRange.{below-words, below-same}
+use Rattle.spec.proofs.Valid.{Shaped, GoodObject, FreeName, Live, Valid, free-zeros, free-name, false-used, passes-valid}
+use Rattle.spec.proofs.WordRange.{below-words}
 use Rattle.spec.proofs.Words.{words-one, words-length}
 use Rattle.spec.proofs.Zeros.{part-zeros}
-
--- the root's record fits its places, and is as the check demands
-pub root-fits : (clock : Time) → FitsTime clock → FitsObject (rootObject clock)
-root-fits clock f =
-    record {
-      kind = lit< tt;
-      generation = lit< tt;
-      mode = lit< tt;
-      uid = lit< tt;
-      gid = lit< tt;
-      size = lit< tt;
-      atime = f;
-      mtime = f;
-      ctime = f;
-      long = refl;
-      halves = below-same (2 ^ 16) 16 65535 (lit< tt) (lit< tt);
-    }
-
-pub root-live : (r : ℕ) (clock : Time) → clock .nanoseconds < 1000000000 → LiveObject r (rootObject clock)
-root-live r clock h =
-    record {
-      generation = lit< tt;
-      mode = lit≤ tt;
-      atime = h;
-      mtime = h;
-      ctime = h;
-      size = _⊎_.inr (refl, refl);
-      held = λ k l. absurd (omega arith);
-      rest = λ k l m. getD-replicate 16 k 65535 0 m;
-    }
 
 -- what format is asked for: counts in range, a stamp of four bytes, a clock that fits
 pub record FormatAsked (mark p q r : ℕ) (clock : Time) : Type 0 where
@@ -197,7 +167,7 @@ module _ (mark p q r : ℕ) (clock : Time) (h : FormatAsked mark p q r clock) wh
       object-part (formatted mark p q r clock) 12
       ∙ ap (λ (x : List ℕ). objectFrom x 0)
       (in-front 12 80 (lit≤ tt) ∙ part-right counted (objectBytes (rootObject clock)) 12 0 80 counted-length ∙ part-whole (objectBytes (rootObject clock)) 80 (object-length (rootObject clock)))
-      ∙ object-again (rootObject clock) (root-fits clock (record { seconds = h .seconds; nanoseconds = omega (arith, h .nanoseconds) }))
+      ∙ object-again (rootObject clock) (plain-fits 2 493 clock (lit< tt) (lit< tt) (record { seconds = h .seconds; nanoseconds = omega (arith, h .nanoseconds) }))
 
   pub formatted-free : (o : ℕ) → 1 ≤ o → o < p → objectAt (formatted mark p q r clock) o ≡ freeObject 0
   unfolding objects-end
@@ -243,7 +213,7 @@ module _ (mark p q r : ℕ) (clock : Time) (h : FormatAsked mark p q r clock) wh
   formatted-good : (o : ℕ) → o < p → GoodObject r (objectAt (formatted mark p q r clock) o)
   formatted-good o l =
       by-cases (ℕ-discrete o 0)
-      (λ e. rw (e, formatted-root) (_⊎_.inr (root-live r clock (h .nanoseconds))))
+      (λ e. rw (e, formatted-root) (_⊎_.inr (plain-live r 2 493 clock (_⊎_.inr refl) (lit≤ tt) (h .nanoseconds))))
       (λ d. rw (formatted-free o (omega arith) l) (_⊎_.inl refl))
 
   pub formatted-valid : Valid (formatted mark p q r clock)

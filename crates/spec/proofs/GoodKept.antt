@@ -1,34 +1,28 @@
 -- That the demands on single records and on blocks hold after an edit, from what the edit set. Assumes nothing.
-use mathlib.Core.Path.{_≡_, refl, sym, ap, _∙_}
-use mathlib.Core.Logic.{_≢_, _⊎_, ⊎-elim, by-cases}
-use mathlib.Core.List.{List}
+use mathlib.Core.Path.{_≡_, ap, _∙_}
+use mathlib.Core.Logic.{_≢_, _⊎_, by-cases}
 use Prim.Native.Nat.{ℕ, _+_, _≤_, _<_}
 use native.Mathlib.Omega.{arith}
 use native.Mathlib.Decide.{ℕ-discrete}
-use lib.ListN.{length, take}
 use Rattle.kinds.specs.Numbers.{DIRECTORY}
 use Rattle.kinds.specs.declared.object.Object.{Object}
-use Rattle.spec.specs.Count.{sum, times}
-use Rattle.spec.specs.Image.{Store, objects, names, blocks, objectAt, Name, nameAt, nameLength}
-use Rattle.spec.specs.Room.{sizeOf, need, held, uses}
+use Rattle.spec.specs.Count.{times}
+use Rattle.spec.specs.Image.{Store, objects, names, blocks, objectAt, Name, nameAt}
+use Rattle.spec.specs.Room.{held, uses}
 use Rattle.spec.proofs.Searches.{sum-upd-below}
-use Rattle.spec.proofs.Kept.{NameKept, NameIs, RecordsKept, ObjectSet, NameSet, BothSet}
-use Rattle.spec.proofs.SameReads.{held-reads, uses-reads}
+use Rattle.spec.proofs.Count.{sum-at}
+use Rattle.spec.proofs.Kept.{NameKept, NameIs}
+use Rattle.spec.proofs.SameReads.{held-reads}
 use Rattle.spec.proofs.Shape.{SameShape}
-use Rattle.spec.proofs.Valid.{GoodObject, GoodObjects, GoodName, Live, Used, Padded, UsedName, FreeName, GoodNameRecord, GoodNames, BlocksUsedOnce}
+use Rattle.spec.proofs.Valid.{GoodObject, GoodObjects, GoodName, Live, Used, UsedName, FreeName, GoodNameRecord, GoodNames}
 
 -- ---- objects
-pub good-objects-set : (s t : Store) (o : ℕ) (v : Object) → ObjectSet s o v t → GoodObject (blocks s) v → GoodObjects s → GoodObjects t
-good-objects-set s t o v e g f i l =
-    let k : i < objects s = rw (e .shape .objects) at l in
-    rw (e .shape .blocks)
-    (by-cases (ℕ-discrete i o) (λ q. rw (q, e .object) g) (λ d. rw (e .other-objects i k d) (f i k)))
-
-pub good-objects-both : (s t : Store) (o : ℕ) (v : Object) (n : ℕ) (x : Name) → BothSet s o v n x t → GoodObject (blocks s) v → GoodObjects s → GoodObjects t
-good-objects-both s t o v n x e g f i l =
-    let k : i < objects s = rw (e .shape .objects) at l in
-    rw (e .shape .blocks)
-    (by-cases (ℕ-discrete i o) (λ q. rw (q, e .object) g) (λ d. rw (e .other-objects i k d) (f i k)))
+-- object o is v now, and every other object as it was
+pub good-objects-set : (s t : Store) (o : ℕ) (v : Object) → SameShape s t → objectAt t o ≡ v → ((i : ℕ) → i < objects s → i ≢ o → objectAt t i ≡ objectAt s i)
+    → GoodObject (blocks s) v → GoodObjects s → GoodObjects t
+good-objects-set s t o v e q w g f i l =
+    let k : i < objects s = rw (e .objects) at l in
+    rw (e .blocks) (by-cases (ℕ-discrete i o) (λ z. rw (z, q) g) (λ d. rw (w i k d) (f i k)))
 
 pub good-objects-kept : (s t : Store) → SameShape s t → ((i : ℕ) → i < objects s → objectAt t i ≡ objectAt s i) → GoodObjects s → GoodObjects t
 good-objects-kept s t e f g i l =
@@ -53,6 +47,11 @@ used-kept s t n p e d c u =
 
 pub free-kept : (s t : Store) (n : ℕ) → NameKept s t n → FreeName s n → FreeName t n
 free-kept s t n e f = record { empty = e .long ∙ f .empty; all = e .all ∙ f .all; padded = e .padded (f .padded) }
+
+-- of a good record that is used
+pub used-of : (s : Store) (n : ℕ) → Used s n → GoodNameRecord s n → UsedName s n
+used-of s n u (_⊎_.inl f) = absurd (omega (arith, f .empty))
+used-of s n u (_⊎_.inr g) = g
 
 -- a record that is kept stays good, if its objects keep what it asks of them
 pub record-kept : (s t : Store) (n : ℕ) → objects t ≡ objects s → NameKept s t n
@@ -92,3 +91,8 @@ unfolding uses
 uses-object-set s t o h p f r =
     rw p (sum-upd-below (objects s) o (λ i. times r (held s i)) (λ i. times r (held t i)) h (λ i l d.
     ap (times r) (held-reads s t i (ap (λ (v : Object). v .size) (f i l d)) (ap (λ (v : Object). v .blocks) (f i l d)))))
+
+-- an object's blocks are among those that are used
+pub uses-at : (s : Store) (o : ℕ) → o < objects s → (r : ℕ) → times r (held s o) ≤ uses s r
+unfolding uses
+uses-at s o l r = sum-at (objects s) o (λ i. times r (held s i)) l

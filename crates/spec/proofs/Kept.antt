@@ -2,23 +2,23 @@
 use mathlib.Core.Path.{_≡_, refl, sym, ap, _∙_}
 use mathlib.Core.Logic.{_≢_, _⊎_, ⊎-elim, by-cases}
 use mathlib.Core.List.{List, _++_}
-use Prim.Native.Nat.{ℕ, _+_, _-_, _*_, _≤_, _<_}
+use Prim.Native.Nat.{ℕ, _+_, _-_, _≤_, _<_}
 use native.Mathlib.Omega.{arith}
 use native.Mathlib.Nat.{add-zero, add-assoc}
 use native.Mathlib.Decide.{ℕ-discrete}
 use lib.ListN.{length, length-append, length-replicate}
 use Rattle.kinds.specs.declared.object.Object.{Object}
 use Rattle.spec.specs.Bytes.{part, overlay, beAt, bytesOf, zeros}
-use Rattle.spec.specs.Image.{Store, volumes, objects, names, blocks, objectStart, nameStart, blockStart, objectAt, putObject, Name, nameFrom, nameBytes, nameAt, nameLength, putName}
+use Rattle.spec.specs.Image.{Store, objects, names, objectStart, nameStart, blockStart, objectAt, putObject, Name, nameBytes, nameAt, nameLength, putName}
 use Rattle.spec.proofs.Bytes.{lt-or-le, bytes-length, part-part, part-right, part-whole}
-use Rattle.spec.proofs.Apart.{Apart, part-apart}
-use Rattle.spec.proofs.Names.{FitsName, SameName, name-length, name-by-part, length-by-part, bytes-same, nameAt-same, nameLength-same}
+use Rattle.spec.proofs.Apart.{part-apart}
+use Rattle.spec.proofs.Names.{FitsName, name-length, name-by-part, length-by-part, bytes-same, nameAt-same, nameLength-same}
 use Rattle.spec.proofs.Range.{Below, below-overlay}
 use Rattle.spec.proofs.RecordRange.{below-putObject, below-putName}
 use Rattle.spec.proofs.Records.{FitsObject, object-length, objectAt-same}
 use Rattle.spec.proofs.Shape.{SameShape, same-refl, same-trans}
-use Rattle.spec.proofs.Valid.{Shaped, Padded, FreeName, UsedName, GoodNameRecord, Valid}
-use Rattle.spec.proofs.Writes.{ObjectWritten, NameWritten, BlocksWritten, object-written, name-written, blocks-written}
+use Rattle.spec.proofs.Valid.{Shaped, Padded, GoodNameRecord, Valid}
+use Rattle.spec.proofs.Writes.{object-written, name-written, blocks-written}
 
 -- a store of bytes whose counts and length agree, and in which no name record states more than 32 bytes
 pub record Sound (s : Store) : Type 0 where
@@ -226,8 +226,8 @@ object-kept s t u o v h a b =
     }
 
 -- the same object is set twice
-pub object-again : (s t u : Store) (o : ℕ) (v w : Object) → ObjectSet s o v t → ObjectSet t o w u → ObjectSet s o w u
-object-again s t u o v w a b =
+pub object-set-twice : (s t u : Store) (o : ℕ) (v w : Object) → ObjectSet s o v t → ObjectSet t o w u → ObjectSet s o w u
+object-set-twice s t u o v w a b =
     record {
       shape = same-trans s t u (a .shape) (b .shape);
       sound = b .sound;

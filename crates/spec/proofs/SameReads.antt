@@ -1,20 +1,17 @@
 -- What each definition about a store reads: it gives the same in two stores that agree in that. Assumes nothing.
-use mathlib.Core.Path.{_≡_, refl, sym, ap, ap₂, _∙_}
-use mathlib.Core.Bool.{Bool, true, false, _&&_, not, and-false}
+use mathlib.Core.Path.{_≡_, refl, ap, ap₂}
+use mathlib.Core.Bool.{Bool, _&&_, not}
 use mathlib.Core.Option.{Option, some, none}
 use mathlib.Core.List.{List}
-use Prim.Native.Nat.{ℕ, _+_, _*_, _/_, _%_, _<_}
+use Prim.Native.Nat.{ℕ, _<_}
 use lib.Dec.{eqb, ltb}
-use lib.ListN.{length, getD, take}
-use Rattle.spec.specs.Bytes.{sameBytes}
-use Rattle.spec.specs.Count.{sum, count, some-below, passing, lowest, times}
-use Rattle.spec.specs.Image.{Store, objects, names, blocks, blockStart, objectAt, Name, nameAt, nameLength}
-use Rattle.spec.specs.Procedures.Removal.{hasEntries}
+use lib.ListN.{take}
+use Rattle.spec.specs.Count.{count, lowest, times}
+use Rattle.spec.specs.Image.{Store, objects, names, blocks, objectAt, Name, nameAt, nameLength}
 use Rattle.spec.specs.Room.{isLive, isRegular, isDirectory, sizeOf, need, held, uses, isFreeBlock, freeBlocks, freeBlockCount, isAvailable, availableCount, availableObject, isUsedName, availableName, freeNameCount, isNaming, namings, isIn, isNamed, findName, subdirectories, directoryOf, parent, above, byteAt}
 use Rattle.spec.proofs.Count.{by-bool, sum-ext, passing-ext, lowest-ext, lowest-passes}
-use Rattle.spec.proofs.Kept.{NameKept, RecordsKept}
+use Rattle.spec.proofs.Kept.{NameKept}
 use Rattle.spec.proofs.Searches.{count-ext, iterate-ext}
-use Rattle.spec.proofs.Shape.{SameShape}
 use Rattle.spec.proofs.Valid.{Used, used-true}
 
 module _ (s t : Store) where

@@ -1,14 +1,14 @@
 -- Counts and searches in which nothing passes, and steps that stay where they are. Assumes nothing.
 use mathlib.Core.Path.{_≡_, refl, sym, ap, _∙_}
-use mathlib.Core.Bool.{Bool, true, false}
-use mathlib.Core.Option.{Option, some, none}
-use mathlib.Core.List.{List, []}
+use mathlib.Core.Bool.{Bool, false}
+use mathlib.Core.Option.{none}
+use mathlib.Core.List.{[]}
 use Prim.Native.Nat.{ℕ, zero, suc, _+_, _<_}
 use Rattle.spec.specs.Count.{bit, sum, count, passing, first, lowest, iterate}
-use native.Mathlib.Decide.{decLt, ℕ-discrete}
-use mathlib.Core.Logic.{_≢_, by-cases, ite}
+use native.Mathlib.Decide.{ℕ-discrete}
+use mathlib.Core.Logic.{_≢_, by-cases}
 use native.Mathlib.Omega.{arith}
-use Rattle.spec.proofs.Count.{sum-ext, sum-upd, sum-zero, passing-ext}
+use Rattle.spec.proofs.Count.{sum-ext, sum-zero, passing-ext}
 
 pub count-ext : (n : ℕ) (p q : ℕ → Bool) → ((i : ℕ) → i < n → p i ≡ q i) → count n p ≡ count n q
 count-ext n p q f = sum-ext n (λ i. bit (p i)) (λ i. bit (q i)) (λ i l. ap bit (f i l))

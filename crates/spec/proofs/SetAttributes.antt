@@ -1,36 +1,34 @@
 -- The first edit: an object's attributes and times. Assumes nothing.
-use mathlib.Core.Path.{_≡_, refl, sym, ap, _∙_}
+use mathlib.Core.Path.{_≡_, refl}
 use mathlib.Core.Logic.{_⊎_}
 use mathlib.Core.Bool.{Bool, true, false, _||_, cond}
-use Prim.Native.Nat.{ℕ, _+_, _^_, _≤_, _<_}
+use Prim.Native.Nat.{ℕ, _^_, _≤_, _<_}
 use native.Mathlib.Omega.{arith}
-use lib.Dec.{ltb, leb, lit<, lit≤}
-use lib.ListN.{getD, replicate, getD-replicate}
+use lib.Dec.{ltb, lit<, lit≤}
 use borrow.Author.Tests.{ltb-false, leb-false}
 use Rattle.kinds.specs.Numbers.{REGULAR, DIRECTORY}
 use Rattle.kinds.specs.declared.object.Time.{Time}
 use Rattle.kinds.specs.declared.object.Object.{Object}
 use Rattle.kinds.specs.declared.call.SetNumber.{SetNumber}
 use Rattle.kinds.specs.declared.call.SetNumber.the-variants as SetNumber
-use Rattle.kinds.specs.declared.call.SetSize.{SetSize}
 use Rattle.kinds.specs.declared.call.SetSize.the-variants as SetSize
 use Rattle.kinds.specs.declared.call.SetTime.{SetTime}
 use Rattle.kinds.specs.declared.call.SetTime.the-variants as SetTime
 use Rattle.kinds.specs.declared.call.Settable.{Settable}
 use Rattle.spec.specs.Bytes.{part}
 use Rattle.spec.specs.Edits.{numberSet, timeSet, withAttributes, setAttributes, onlyCtime, mtimeAndCtime}
-use Rattle.spec.specs.Image.{Store, objects, blocks, blockStart, objectAt, putObject}
+use Rattle.spec.specs.Image.{Store, objects, blocks, blockStart, objectAt}
 use Rattle.spec.specs.Procedures.Attributes.{isGiven, sizeSet, numberOver, badTime, badAttributes, orServer, sizeTouches}
 use Rattle.spec.specs.Procedures.Names.{newObject}
 use Rattle.spec.proofs.GoodKept.{good-objects-set}
 use Rattle.spec.proofs.Kept.{Sound, ObjectSet, put-object}
+use Rattle.spec.proofs.PlainObject.{plainObject, plain-fits, plain-live}
 use Rattle.spec.proofs.RecordRange.{objectAt-fits}
 use Rattle.spec.proofs.Records.{FitsTime, FitsObject}
 use Rattle.spec.proofs.Structure.{SameStructure, set-structure}
 use Rattle.spec.proofs.Tests.{or-none}
-use Rattle.spec.proofs.Valid.{LiveObject, GoodObject, GoodObjects}
-use Rattle.spec.proofs.WordRange.{below-same}
-use Rattle.spec.proofs.Writes.{ObjectWritten, object-written}
+use Rattle.spec.proofs.Valid.{LiveObject, GoodObjects}
+use Rattle.spec.proofs.Writes.{object-written}
 
 -- ---- attributes whose numbers fit their places, as those of the code's type do
 abbrev pub FitsNumber : SetNumber → Type 0
@@ -82,16 +80,17 @@ only-ctime-fits = record { mode = tt; uid = tt; gid = tt; atime = tt; mtime = tt
 pub mtime-and-ctime-fits : FitsSettable mtimeAndCtime
 mtime-and-ctime-fits = record { mode = tt; uid = tt; gid = tt; atime = tt; mtime = tt }
 
-server-fits : (b : Bool) (x : SetTime) → FitsSetTime x → FitsSetTime (cond b (orServer x) x)
-server-fits false x f = f
-server-fits true SetTime.Keep f = tt
-server-fits true SetTime.ToServer f = tt
-server-fits true (SetTime.ToClient t) f = f
+-- what holds of the server's time and of a time that is set holds of the time that goes with a size
+server-keeps : (P : SetTime → Type 0) (b : Bool) (x : SetTime) → P SetTime.ToServer → P x → P (cond b (orServer x) x)
+server-keeps P false x h f = f
+server-keeps P true SetTime.Keep h f = h
+server-keeps P true SetTime.ToServer h f = h
+server-keeps P true (SetTime.ToClient t) h f = f
 
 pub size-touches-fits : (a : Settable) → FitsSettable a → FitsSettable (sizeTouches a)
 unfolding sizeTouches
 size-touches-fits a f =
-    record { mode = f .mode; uid = f .uid; gid = f .gid; atime = f .atime; mtime = server-fits (isGiven (a .size)) (a .mtime) (f .mtime) }
+    record { mode = f .mode; uid = f .uid; gid = f .gid; atime = f .atime; mtime = server-keeps (λ x. FitsSetTime x) (isGiven (a .size)) (a .mtime) tt (f .mtime) }
 
 -- ---- attributes that the check of a store allows
 abbrev pub AllowedMode : SetNumber → Type 0
@@ -141,16 +140,10 @@ only-ctime-allowed = record { mode = tt; atime = tt; mtime = tt; size = lit≤ t
 pub mtime-and-ctime-allowed : Allowed mtimeAndCtime
 mtime-and-ctime-allowed = record { mode = tt; atime = tt; mtime = tt; size = lit≤ tt }
 
-server-allowed : (b : Bool) (x : SetTime) → AllowedTime x → AllowedTime (cond b (orServer x) x)
-server-allowed false x f = f
-server-allowed true SetTime.Keep f = tt
-server-allowed true SetTime.ToServer f = tt
-server-allowed true (SetTime.ToClient t) f = f
-
 pub size-touches-allowed : (a : Settable) → Allowed a → Allowed (sizeTouches a)
 unfolding sizeTouches
 size-touches-allowed a f =
-    record { mode = f .mode; atime = f .atime; mtime = server-allowed (isGiven (a .size)) (a .mtime) (f .mtime); size = f .size }
+    record { mode = f .mode; atime = f .atime; mtime = server-keeps (λ x. AllowedTime x) (isGiven (a .size)) (a .mtime) tt (f .mtime); size = f .size }
 
 mode-allowed : (x : SetNumber) (old : ℕ) → AllowedMode x → old ≤ 4095 → numberSet x old ≤ 4095
 mode-allowed SetNumber.Keep old f h = h
@@ -196,44 +189,16 @@ module _ (s : Store) (clock : Time) (o : ℕ) (a : Settable) (h : Sound s) (l : 
   pub set-attributes-good : FitsTime clock → FitsSettable a → clock .nanoseconds < 1000000000 → Allowed a → LiveObject (blocks s) (objectAt s o)
       → GoodObjects s → GoodObjects (setAttributes s clock o a)
   set-attributes-good c f n g v =
-      good-objects-set s (setAttributes s clock o a) o (withAttributes clock a (objectAt s o)) (set-attributes c f)
+      let e = set-attributes c f in
+      good-objects-set s (setAttributes s clock o a) o (withAttributes clock a (objectAt s o)) (e .shape) (e .object) (e .other-objects)
       (_⊎_.inr (attributes-live (blocks s) clock a (objectAt s o) n g v))
 
 -- ---- a new object
 pub new-fits : (clock : Time) (kind : ℕ) (a : Settable) → FitsTime clock → kind < 2 ^ 32 → FitsSettable a → FitsObject (newObject clock kind a)
 unfolding newObject
-new-fits clock kind a c k f =
-    attributes-fit clock a _ c f
-    (record {
-      kind = k;
-      generation = lit< tt;
-      mode = lit< tt;
-      uid = lit< tt;
-      gid = lit< tt;
-      size = lit< tt;
-      atime = c;
-      mtime = c;
-      ctime = c;
-      long = refl;
-      halves = below-same (2 ^ 16) 16 65535 (lit< tt) (lit< tt);
-    })
+new-fits clock kind a c k f = attributes-fit clock a (plainObject kind 0 clock) c f (plain-fits kind 0 clock k (lit< tt) c)
 
 pub new-live : (r : ℕ) (clock : Time) (kind : ℕ) (a : Settable) → clock .nanoseconds < 1000000000 → Allowed a → (kind ≡ REGULAR) ⊎ (kind ≡ DIRECTORY)
     → LiveObject r (newObject clock kind a)
 unfolding newObject
-new-live r clock kind a c f k =
-    attributes-live r clock a _ c f
-    (record {
-      generation = lit< tt;
-      mode = lit≤ tt;
-      atime = c;
-      mtime = c;
-      ctime = c;
-      size = either k;
-      held = λ j b. absurd (omega arith);
-      rest = λ j b d. getD-replicate 16 j 65535 0 d;
-    })
-  where
-    either : (kind ≡ REGULAR) ⊎ (kind ≡ DIRECTORY) → ((kind ≡ REGULAR) × (0 ≤ 8192)) ⊎ ((kind ≡ DIRECTORY) × (_≡_ {A = ℕ} 0 0))
-    either (_⊎_.inl e) = _⊎_.inl (e, lit≤ tt)
-    either (_⊎_.inr e) = _⊎_.inr (e, refl)
+new-live r clock kind a c f k = attributes-live r clock a (plainObject kind 0 clock) c f (plain-live r kind 0 clock k (lit≤ tt) c)

@@ -1,8 +1,8 @@
 -- What tests joined by "and", "or" and "not" tell, and when they hold. Assumes nothing.
-use mathlib.Core.Path.{_≡_, refl, sym, _∙_}
+use mathlib.Core.Path.{_≡_, refl, sym}
 use mathlib.Core.Logic.{_⊎_}
-use mathlib.Core.Bool.{Bool, true, false, _&&_, _||_, not, cond}
-use Prim.Native.Nat.{ℕ, _≤_, _<_}
+use mathlib.Core.Bool.{Bool, true, false, _&&_, _||_, not}
+use Prim.Native.Nat.{ℕ, _<_}
 use native.Mathlib.Omega.{arith}
 use lib.Dec.{eqb}
 use borrow.Author.Tests.{eqb-true, eqb-false, eq-eqb, ne-eqb}
@@ -29,11 +29,6 @@ implied false u e h = true-false (sym h)
 pub implies : (t u : Bool) → (t ≡ true → u ≡ true) → not t || u ≡ true
 implies true u f = f refl
 implies false u f = refl
-
--- a test that fails at once, where it cannot hold
-pub is-false : (t : Bool) → (t ≡ true → ⊥) → t ≡ false
-is-false true f = absurd (f refl)
-is-false false f = refl
 
 -- a number that is 0 or not
 pub nonzero-true : (n : ℕ) → not (eqb n 0) ≡ true → 0 < n

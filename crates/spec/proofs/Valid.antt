@@ -1,28 +1,27 @@
 -- What the store check demands, as facts about the records, and that the check passes exactly where they hold. Assumes nothing.
 use mathlib.Core.Path.{_≡_, refl, sym, ap, _∙_}
 use mathlib.Core.Logic.{_≢_, _⊎_, ⊎-elim}
-use mathlib.Core.Bool.{Bool, true, false, _&&_, _||_, not, cond}
+use mathlib.Core.Bool.{Bool, true, false, _&&_, not}
 use mathlib.Core.List.{List, [], _∷_}
-use Prim.Native.Nat.{ℕ, zero, suc, _+_, _-_, _*_, _/_, _≤_, _<_}
+use Prim.Native.Nat.{ℕ, zero, suc, _+_, _-_, _≤_, _<_}
 use native.Mathlib.Omega.{arith}
 use native.Mathlib.Nat.{add-zero}
 use lib.Dec.{eqb, leb, ltb, lit≤}
 use lib.ListN.{length, getD, length-take, length-drop}
 use borrow.Author.Tests.{ltb-true, ltb-false, leb-true, eqb-true, eqb-false, lt-ltb, le-ltb, le-leb, eq-eqb, ne-eqb, not-true}
-use Rattle.kinds.specs.Numbers.{FREE, REGULAR, DIRECTORY}
+use Rattle.kinds.specs.Numbers.{REGULAR, DIRECTORY}
 use Rattle.kinds.specs.Objects.{freeObject}
-use Rattle.kinds.specs.declared.object.Time.{Time}
 use Rattle.kinds.specs.declared.object.Object.{Object}
 use Rattle.spec.specs.Bytes.{part, beAt, zeros, sameBytes, allBytes}
 use Rattle.spec.specs.Count.{count, every}
 use Rattle.spec.specs.Image.{Store, volumes, objects, names, blocks, objectStart, nameStart, timeAt, objectFrom, objectAt, nameFrom, nameAt, nameLength, freeName}
-use Rattle.spec.specs.Room.{isLive, isDirectory, need, uses, isUsedName, namings, isNamed, above}
-use Rattle.spec.specs.Names.{isDot, isDotDot, isDots, goodByte, goodBytes, goodName, longestName}
+use Rattle.spec.specs.Room.{isLive, isRegular, isDirectory, need, uses, isUsedName, namings, isNamed, above}
+use Rattle.spec.specs.Names.{isDot, isDotDot, isDots, goodByte, goodBytes, goodName}
 use Rattle.spec.specs.Check.{isZero, goodCounts, imageLength, goodShape, goodTime, goodBlock, goodSize, goodLive, goodFree, goodObject, goodRoot, goodUsed, goodNameRecord, isDistinct, mostNames, isNamedOnce, isUsedOnce, leadsToRoot, passes}
 use Rattle.spec.proofs.Bytes.{part-length, same-yes, same-no}
 use Rattle.spec.proofs.Count.{true-false, by-bool, and-both, every-at, every-all}
 use Rattle.spec.proofs.RecordRange.{text-length}
-use Rattle.spec.proofs.Tests.{and-true, or-one, or-none, implied, implies, is-false, nonzero-true, nonzero-false, true-nonzero, false-nonzero}
+use Rattle.spec.proofs.Tests.{and-true, or-one, or-none, implied, implies, nonzero-true, nonzero-false, true-nonzero, false-nonzero}
 use Rattle.spec.proofs.Zeros.{isZero-zeros, zeros-isZero, zero-within, be-zero, zero-part, zero-join, halves-zero, zero-halves}
 
 -- ---- THE DEMANDS
@@ -169,6 +168,14 @@ false-used s n h = false-nonzero (nameLength s n) h
 pub directory-true : (s : Store) (o : ℕ) → isDirectory s o ≡ true → objectAt s o .kind ≡ DIRECTORY
 unfolding isDirectory
 directory-true s o e = eqb-true (objectAt s o .kind) 2 e
+
+pub regular-true : (s : Store) (o : ℕ) → isRegular s o ≡ true → objectAt s o .kind ≡ REGULAR
+unfolding isRegular
+regular-true s o e = eqb-true (objectAt s o .kind) 1 e
+
+pub true-regular : (s : Store) (o : ℕ) → objectAt s o .kind ≡ REGULAR → isRegular s o ≡ true
+unfolding isRegular
+true-regular s o h = eq-eqb (objectAt s o .kind) 1 h
 
 pub true-directory : (s : Store) (o : ℕ) → objectAt s o .kind ≡ DIRECTORY → isDirectory s o ≡ true
 unfolding isDirectory

@@ -1,6 +1,6 @@
 -- The laws of zero bytes: what they spell, and that only they spell 0. Assumes nothing.
 use mathlib.Core.Path.{_≡_, refl, sym, ap, ap₂, _∙_}
-use mathlib.Core.Bool.{Bool, true, false, _&&_}
+use mathlib.Core.Bool.{true}
 use mathlib.Core.List.{List, [], _∷_, _++_}
 use Prim.Native.Nat.{ℕ, zero, suc, _+_, _*_, _≤_, _<_}
 use native.Mathlib.Omega.{arith}
@@ -9,13 +9,13 @@ use native.Mathlib.Numerals.{add-one}
 use native.Mathlib.Decide.{ℕ-discrete}
 use mathlib.Core.Logic.{by-cases}
 use lib.Dec.{eqb}
-use lib.ListN.{length, take, drop, getD, replicate, length-replicate, getD-replicate, replicate-append-replicate}
+use lib.ListN.{length, getD, length-replicate, getD-replicate, replicate-append-replicate}
 use lib.Seq.{ext-getD}
-use borrow.Author.Tests.{eqb-true, eq-eqb}
+use borrow.Author.Tests.{eqb-true}
 use Rattle.spec.specs.Bytes.{part, digits, beOf, beAt, zeros, allBytes}
 use Rattle.spec.specs.Image.{halvesAt}
 use Rattle.spec.specs.Check.{isZero}
-use Rattle.spec.proofs.Bytes.{part-length, part-add, part-part, be-part, getD-part}
+use Rattle.spec.proofs.Bytes.{part-length, part-add, part-part, getD-part}
 use Rattle.spec.proofs.Count.{and-both}
 use Rattle.spec.proofs.Records.{half-read}
 use Rattle.spec.proofs.Xdr.{not-zero}

@@ -1,12 +1,11 @@
 -- Bytes of blocks written: whole blocks zeroed, a file's tail zeroed, and file data. No record changes. Assumes nothing.
-use mathlib.Core.Path.{_≡_, refl, sym, ap, _∙_}
-use mathlib.Core.Bool.{Bool, true, false, cond}
-use mathlib.Core.List.{List, [], _∷_}
-use Prim.Native.Nat.{ℕ, zero, suc, _+_, _-_, _*_, _/_, _%_, _≤_, _<_, min}
+use mathlib.Core.List.{List, [], _∷_, _++_}
+use mathlib.Core.Path.{_≡_, refl}
+use Prim.Native.Nat.{ℕ, suc, _+_, _-_, _/_, _%_, _≤_, _<_, min}
 use native.Mathlib.Omega.{arith}
-use native.Mathlib.Nat.{add-assoc, add-zero}
+use native.Mathlib.Nat.{add-zero}
 use lib.Dec.{eqb}
-use lib.ListN.{length, getD, length-replicate}
+use lib.ListN.{length, length-replicate}
 use borrow.Author.Tests.{eqb-false}
 use Rattle.spec.specs.Bytes.{overlay, zeros}
 use Rattle.spec.specs.Edits.{clearBlocks, clearTail, writeThrough, writeFile}
@@ -31,6 +30,12 @@ clear-blocks s (r ∷ rs) h f =
     let t = overlay s (blockStart s r) (zeros 512) in
     kept-trans s t (clearBlocks t rs) a
     (clear-blocks t rs (a .sound) (λ k l. rw (a .shape .blocks) (f (suc k) (omega arith))))
+
+-- blocks zeroed one after the other
+pub clear-append : (s : Store) (xs ys : List ℕ) → clearBlocks s (xs ++ ys) ≡ clearBlocks (clearBlocks s xs) ys
+unfolding clearBlocks
+clear-append s [] ys = refl
+clear-append s (r ∷ rs) ys = clear-append (overlay s (blockStart s r) (zeros 512)) rs ys
 
 -- ---- the place of a file's byte: in the block that holds it
 module _ (s : Store) (o : ℕ) (h : Sound s) (v : LiveObject (blocks s) (objectAt s o)) where
