@@ -40,3 +40,5 @@ pub mod Answers
 pub mod Carried
 pub mod Nospc
 pub mod Demand
+-- The book over bytes, by computation.
+pub mod Examples
