@@ -1,15 +1,15 @@
 -- What `serve` does with a request: where a procedure is asked, its act; otherwise the store and the book stay. Assumes nothing.
 use mathlib.Core.Path.{_≡_, refl, sym, ap, _∙_}
 use mathlib.Core.Logic.{_⊎_, inl, inr}
-use mathlib.Core.Bool.{true}
+use mathlib.Core.Bool.{true, false}
 use mathlib.Core.Option.{Option, some, none}
 use mathlib.Core.List.{List}
 use Prim.Native.Nat.{ℕ, _≤_, _<_}
 use native.Mathlib.Omega.{arith}
-use lib.Dec.{leb, ltb}
+use lib.Dec.{ltb}
 use lib.ListN.{length, take}
 use lib.Seq.{take-at}
-use borrow.Author.Tests.{le-leb, lt-ltb, leb-true, ltb-true}
+use borrow.Author.Tests.{le-ltb, lt-ltb, ltb-false, ltb-true}
 use Rattle.kinds.specs.Reading.{Read, got, bad}
 use Rattle.kinds.specs.declared.object.Context.{Context}
 use Rattle.kinds.specs.declared.call.Header.{Header}
@@ -21,8 +21,10 @@ use Rattle.spec.specs.Check.{passes, goodTime}
 use Rattle.spec.specs.Image.{Store}
 use Rattle.spec.specs.Procedures.{act}
 use Rattle.spec.specs.Replies.{resultBytes}
-use Rattle.spec.specs.Rpc.{header, accepted, nfs, Judged, stopped, runs, judge}
-use Rattle.spec.specs.Serve.{Outcome, refuse, Sent, send, perform, answer, respond, serve}
+use Rattle.spec.specs.Checked.{Checked, refused, passed}
+use Rattle.spec.specs.Header.{header}
+use Rattle.spec.specs.Rpc.{accepted, nfs, judge}
+use Rattle.spec.specs.Serve.{Outcome, refuse, Sent, send, perform, answer, complete, outcome as settled, serve}
 use Rattle.spec.proofs.Count.{by-bool, true-false}
 use Rattle.history.specs.Book.{Ledger, readArguments, judgedArguments, headedArguments, asked, isOk, noted, note}
 use Rattle.history.specs.Run.{Request, outcome, replyTo}
@@ -51,7 +53,7 @@ module _ (s : Store) (x : Request) where
   sent a xid p = record { reply = actReply s (x .context) (x .call) a xid p; store = act s (x .context) (x .call) a .store }
 
   answered : (a : Arguments) (r : Read Header) → headedArguments (x .call) r ≡ some a
-      → (xid : ℕ) × (p : ℕ) × (respond s (x .context) (x .call) (x .space) r ≡ send (x .space) (sent a xid p))
+      → (xid : ℕ) × (p : ℕ) × (settled (x .space) s (complete s (x .context) (x .call) r) ≡ send (x .space) (sent a xid p))
   unfolding sent
   answered a (bad p) e = some-none e
   answered a (got (Header.OtherVersion xid) at) e = some-none e
@@ -62,12 +64,12 @@ module _ (s : Store) (x : Request) where
       read (bad p) e = some-none e
       read (got b next) e = let q : b ≡ a = cc in (h .xid, h .procedure, ap (λ (b : Arguments). send (x .space) (sent b (h .xid) (h .procedure))) q)
 
-      judged : (j : Judged) → judgedArguments (x .call) h at j ≡ some a
+      judged : (j : Checked (Unit {0})) → judgedArguments (x .call) h at j ≡ some a
           → (xid : ℕ) × (p : ℕ) × (send (x .space) (answer s (x .context) (x .call) h at j) ≡ send (x .space) (sent a xid p))
-      judged (stopped stat body) e = some-none e
-      judged runs e = read (arguments (h .procedure) (x .call) at) e
+      judged (refused stat) e = some-none e
+      judged (passed _) e = read (arguments (h .procedure) (x .call) at) e
 
-  unanswered : (r : Read Header) → headedArguments (x .call) r ≡ none → respond s (x .context) (x .call) (x .space) r .store ≡ s
+  unanswered : (r : Read Header) → headedArguments (x .call) r ≡ none → settled (x .space) s (complete s (x .context) (x .call) r) .store ≡ s
   unanswered (bad p) e = refl
   unanswered (got (Header.OtherVersion xid) at) e = refl
   unanswered (got (Header.Call h) at) e = judged (judge nfs h) e
@@ -76,16 +78,16 @@ module _ (s : Store) (x : Request) where
       read (bad p) e = refl
       read (got b next) e = some-none (sym e)
 
-      judged : (j : Judged) → judgedArguments (x .call) h at j ≡ none → answer s (x .context) (x .call) h at j .store ≡ s
-      judged (stopped stat body) e = refl
-      judged runs e = read (arguments (h .procedure) (x .call) at) e
+      judged : (j : Checked (Unit {0})) → judgedArguments (x .call) h at j ≡ none → answer s (x .context) (x .call) h at j .store ≡ s
+      judged (refused stat) e = refl
+      judged (passed _) e = read (arguments (h .procedure) (x .call) at) e
 
   -- the tests in the table's order
   heard : 4224 ≤ length (x .space) → x .context .clock .nanoseconds < 1000000000 → length (x .call) ≤ 8192 → passes s ≡ true
-      → outcome s x ≡ respond s (x .context) (x .call) (x .space) (header (x .call) 0)
+      → outcome s x ≡ settled (x .space) s (complete s (x .context) (x .call) (header (x .call) 0))
   unfolding serve goodTime
   heard a b c d =
-      rw (le-leb 4224 (length (x .space)) a, lt-ltb (x .context .clock .nanoseconds) 1000000000 b, le-leb (length (x .call)) 8192 c, d)
+      rw (le-ltb (length (x .space)) 4224 a, lt-ltb (x .context .clock .nanoseconds) 1000000000 b, le-ltb 8192 (length (x .call)) c, d)
 
   pub acted : (a : Arguments) → Asks x a → passes s ≡ true → Acted s x a
   unfolding replyTo asked sent
@@ -114,7 +116,7 @@ module _ (s : Store) (x : Request) where
         unasked = λ t. true-false (sym t ∙ ap (λ (o : Outcome). isOk (take (o .length) (o .space))) e);
       }
 
-  unasked-idle : asked (x .call) ≡ none → outcome s x ≡ respond s (x .context) (x .call) (x .space) (header (x .call) 0) → Idle
+  unasked-idle : asked (x .call) ≡ none → outcome s x ≡ settled (x .space) s (complete s (x .context) (x .call) (header (x .call) 0)) → Idle
   unfolding note asked noted
   unasked-idle n e =
       record {
@@ -127,15 +129,15 @@ module _ (s : Store) (x : Request) where
   pub served : passes s ≡ true → Idle ⊎ ((a : Arguments) × Asks x a)
   unfolding serve goodTime
   served v =
-      by-bool (leb 4224 (length (x .space)))
-      (λ a. by-bool (ltb (x .context .clock .nanoseconds) 1000000000)
-      (λ b. by-bool (leb (length (x .call)) 8192)
-      (λ c. go (asked (x .call)) refl a b c)
-      (λ c. inl (refused-idle 4 (rw (a, b, c)))))
-      (λ b. inl (refused-idle 3 (rw (a, b)))))
+      by-bool (ltb (length (x .space)) 4224)
       (λ a. inl (refused-idle 2 (rw a)))
+      (λ a. by-bool (ltb (x .context .clock .nanoseconds) 1000000000)
+      (λ b. by-bool (ltb 8192 (length (x .call)))
+      (λ c. inl (refused-idle 4 (rw (a, b, c))))
+      (λ c. go (asked (x .call)) refl a b c))
+      (λ b. inl (refused-idle 3 (rw (a, b)))))
     where
-      go : (o : Option Arguments) → asked (x .call) ≡ o → leb 4224 (length (x .space)) ≡ true → ltb (x .context .clock .nanoseconds) 1000000000 ≡ true
-          → leb (length (x .call)) 8192 ≡ true → Idle ⊎ ((a : Arguments) × Asks x a)
+      go : (o : Option Arguments) → asked (x .call) ≡ o → ltb (length (x .space)) 4224 ≡ false → ltb (x .context .clock .nanoseconds) 1000000000 ≡ true
+          → ltb 8192 (length (x .call)) ≡ false → Idle ⊎ ((a : Arguments) × Asks x a)
       go none n a b c = inl (unasked-idle n (rw (a, b, c, v)))
-      go (some r) n a b c = inr (r, record { space = leb-true _ _ a; clock = ltb-true _ _ b; short = leb-true _ _ c; reads = n })
+      go (some r) n a b c = inr (r, record { space = ltb-false _ _ a; clock = ltb-true _ _ b; short = ltb-false _ _ c; reads = n })

@@ -10,7 +10,9 @@ use Rattle.kinds.specs.declared.call.Header.{Header}
 use Rattle.kinds.specs.declared.call.Header.the-variants as Header
 use Rattle.kinds.specs.declared.call.Arguments.{Arguments}
 use Rattle.spec.specs.Arguments.{arguments}
-use Rattle.spec.specs.Rpc.{header, nfs, Judged, stopped, runs, judge}
+use Rattle.spec.specs.Checked.{Checked, refused, passed}
+use Rattle.spec.specs.Header.{header}
+use Rattle.spec.specs.Rpc.{nfs, judge}
 use Rattle.spec.proofs.ArgumentRange.{FitsArguments, arguments-fit}
 use Rattle.spec.proofs.Range.{Below}
 use Rattle.history.specs.Book.{readArguments, judgedArguments, headedArguments, asked}
@@ -26,9 +28,9 @@ asked-fits call b a e = headed (header call 0) e
     read p at (bad q) f e = none-some e
     read p at (got x q) f e = let z : x ≡ a = cc in arguments-fit p call b at a q (f ∙ ap (λ (y : Arguments). got y q) z)
 
-    judged : (h : CallHeader) (at : ℕ) (j : Judged) → judgedArguments call h at j ≡ some a → FitsArguments a
-    judged h at (stopped stat body) e = none-some e
-    judged h at runs e = read (h .procedure) at (arguments (h .procedure) call at) refl e
+    judged : (h : CallHeader) (at : ℕ) (j : Checked (Unit {0})) → judgedArguments call h at j ≡ some a → FitsArguments a
+    judged h at (refused stat) e = none-some e
+    judged h at (passed _) e = read (h .procedure) at (arguments (h .procedure) call at) refl e
 
     headed : (r : Read Header) → headedArguments call r ≡ some a → FitsArguments a
     headed (bad p) e = none-some e

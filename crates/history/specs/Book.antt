@@ -15,7 +15,9 @@ use Rattle.kinds.specs.declared.call.Arguments.the-variants as Call
 use Rattle.spec.specs.Bytes.{part, words, beAt, sameBytes}
 use Rattle.spec.specs.Arguments.{arguments}
 use Rattle.spec.specs.Procedures.{cut}
-use Rattle.spec.specs.Rpc.{header, nfs, Judged, stopped, runs, judge}
+use Rattle.spec.specs.Checked.{Checked, refused, passed}
+use Rattle.spec.specs.Header.{header}
+use Rattle.spec.specs.Rpc.{nfs, judge}
 
 -- where a line's object stands: "but for the root's, a directory handle and a name"
 pub data Standing : Type 0 where
@@ -95,9 +97,9 @@ abbrev pub readArguments : Read Arguments → Option Arguments
 readArguments (bad p) = none
 readArguments (got a next) = some a
 
-abbrev pub judgedArguments : List ℕ → CallHeader → ℕ → Judged → Option Arguments
-judgedArguments call h at (stopped stat body) = none
-judgedArguments call h at runs = readArguments (arguments (h .procedure) call at)
+abbrev pub judgedArguments : List ℕ → CallHeader → ℕ → Checked (Unit {0}) → Option Arguments
+judgedArguments call h at (refused stat) = none
+judgedArguments call h at (passed _) = readArguments (arguments (h .procedure) call at)
 
 abbrev pub headedArguments : List ℕ → Read Header → Option Arguments
 headedArguments call (bad p) = none

@@ -54,7 +54,7 @@ unfolding sum
 sum-add zero f g = refl
 sum-add (suc n) f g = let r = sum-add n f g in omega arith
 
--- a term is at most the sum, and a sum that is not 0 has a term that is not 0
+-- a term is at most the sum, and where every term is 0 the sum is 0
 pub sum-at : (n i : ℕ) (f : ℕ → ℕ) → i < n → f i ≤ sum n f
 unfolding sum
 sum-at zero i f l = absurd (not-suc-le-zero l)
@@ -65,6 +65,10 @@ pub sum-zero : (n : ℕ) (f : ℕ → ℕ) → ((i : ℕ) → i < n → f i ≡ 
 unfolding sum
 sum-zero zero f h = refl
 sum-zero (suc n) f h = let r = sum-zero n f (λ i l. h i (omega arith)) in let e = h n (omega arith) in omega arith
+
+-- a count whose next number passes or not
+pub count-more : (p : ℕ → Bool) (i k r : ℕ) (t : Bool) → k ≡ count i p → r ≡ bit t → t ≡ p i → k + r ≡ count (i + 1) p
+count-more p i k r t e q b = rw (q, b) (omega (arith, e, sum-more i (λ j. bit (p j))))
 
 -- a count is at most the bound
 pub count-bound : (n : ℕ) (p : ℕ → Bool) → count n p ≤ n

@@ -8,6 +8,7 @@ pub mod Count
 pub mod CreateObject
 pub mod Error
 pub mod FileData
+pub mod FileBytes
 pub mod Formatted
 pub mod FreeCount
 pub mod FreeRoom
@@ -16,6 +17,7 @@ pub mod GoodRecords
 pub mod Handles
 pub mod Kept
 pub mod MoveName
+pub mod Listing
 pub mod Names
 pub mod Passed
 pub mod PlainObject
@@ -38,4 +40,9 @@ pub mod WordRange
 pub mod Words
 pub mod Writes
 pub mod Xdr
+pub mod Setting
+pub mod Edges
 pub mod Zeros
+pub mod Arguments
+pub mod Answers
+pub mod Damaged

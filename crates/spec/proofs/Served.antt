@@ -2,12 +2,12 @@
 use mathlib.Core.Path.{_≡_, refl, ap, _∙_}
 use mathlib.Core.Logic.{_≢_, _⊎_, ⊎-elim, by-cases}
 use native.Mathlib.Decide.{ℕ-discrete}
-use mathlib.Core.Bool.{true}
+use mathlib.Core.Bool.{true, false}
 use mathlib.Core.List.{List}
 use Prim.Native.Nat.{ℕ, _≤_, _<_}
-use lib.Dec.{leb}
+use lib.Dec.{ltb}
 use lib.ListN.{length}
-use borrow.Author.Tests.{leb-true, ltb-true}
+use borrow.Author.Tests.{ltb-false, ltb-true}
 use Rattle.kinds.specs.Reading.{Read, got, bad}
 use Rattle.kinds.specs.declared.object.Context.{Context}
 use Rattle.kinds.specs.declared.call.CallHeader.{CallHeader}
@@ -17,10 +17,12 @@ use Rattle.kinds.specs.declared.call.Arguments.{Arguments}
 use Rattle.spec.specs.Arguments.{arguments}
 use Rattle.spec.specs.Bytes.{beAt}
 use Rattle.spec.specs.Check.{goodTime, passes}
+use Rattle.spec.specs.Checked.{Checked, refused, passed}
+use Rattle.spec.specs.Header.{header}
 use Rattle.spec.specs.Image.{Store}
 use Rattle.spec.specs.Procedures.{act}
-use Rattle.spec.specs.Rpc.{header, nfs, Judged, stopped, runs, judge}
-use Rattle.spec.specs.Serve.{Outcome, send, finish, perform, answer, respond, serve}
+use Rattle.spec.specs.Rpc.{nfs, judge}
+use Rattle.spec.specs.Serve.{Outcome, send, finish, perform, answer, respond, complete, outcome, serve}
 use Rattle.spec.proofs.Count.{by-bool}
 use Rattle.spec.proofs.Error.{statusOf, NotDone, act-kept, status-word}
 
@@ -33,7 +35,7 @@ pub record Ran (call : List ℕ) (s : Store) (space : List ℕ) (c : Context) : 
   pub head : CallHeader
   pub at : ℕ
   pub head-read : header call 0 ≡ got (Header.Call head) at
-  pub judged : judge nfs head ≡ runs
+  pub judged : judge nfs head ≡ passed tt
   pub asked : Arguments
   pub next : ℕ
   pub asked-read : arguments (head .procedure) call at ≡ got asked next
@@ -41,13 +43,13 @@ pub record Ran (call : List ℕ) (s : Store) (space : List ℕ) (c : Context) : 
 
 module _ (call : List ℕ) (s : Store) (space : List ℕ) (c : Context) where
   -- the tests before the header
-  after-tests : leb 4224 (length space) ≡ true → goodTime (c .clock) ≡ true → leb (length call) 8192 ≡ true → passes s ≡ true
-      → serve call s space c ≡ respond s c call space (header call 0)
+  after-tests : ltb (length space) 4224 ≡ false → goodTime (c .clock) ≡ true → ltb 8192 (length call) ≡ false → passes s ≡ true
+      → serve call s space c ≡ outcome space s (complete s c call (header call 0))
   unfolding serve
   after-tests a b d e = rw (a, b, d, e)
 
-  module _ (a : leb 4224 (length space) ≡ true) (b : goodTime (c .clock) ≡ true) (d : leb (length call) 8192 ≡ true) (e : passes s ≡ true) where
-    by-arguments : (h : CallHeader) (at : ℕ) → header call 0 ≡ got (Header.Call h) at → judge nfs h ≡ runs
+  module _ (a : ltb (length space) 4224 ≡ false) (b : goodTime (c .clock) ≡ true) (d : ltb 8192 (length call) ≡ false) (e : passes s ≡ true) where
+    by-arguments : (h : CallHeader) (at : ℕ) → header call 0 ≡ got (Header.Call h) at → judge nfs h ≡ passed tt
         → (r : Read Arguments) → arguments (h .procedure) call at ≡ r → (serve call s space c .store ≡ s) ⊎ Ran call s space c
     unfolding goodTime
     by-arguments h at q j (bad p) f =
@@ -55,9 +57,9 @@ module _ (call : List ℕ) (s : Store) (space : List ℕ) (c : Context) where
         _⊎_.inl (ap (λ (o : Outcome). o .store) w)
     by-arguments h at q j (got asked next) f =
         _⊎_.inr (record {
-          space-long = leb-true 4224 (length space) a;
+          space-long = ltb-false (length space) 4224 a;
           clock-valid = ltb-true (c .clock .nanoseconds) 1000000000 b;
-          call-short = leb-true (length call) 8192 d;
+          call-short = ltb-false 8192 (length call) d;
           store-passes = e;
           head = h;
           at = at;
@@ -69,19 +71,19 @@ module _ (call : List ℕ) (s : Store) (space : List ℕ) (c : Context) where
           outcome = after-tests a b d e ∙ rw (q, j, f);
         })
 
-    by-judged : (h : CallHeader) (at : ℕ) → header call 0 ≡ got (Header.Call h) at → (j : Judged) → judge nfs h ≡ j
+    by-judged : (h : CallHeader) (at : ℕ) → header call 0 ≡ got (Header.Call h) at → (j : Checked (Unit {0})) → judge nfs h ≡ j
         → (serve call s space c .store ≡ s) ⊎ Ran call s space c
-    by-judged h at q (stopped stat body) f =
-        let w : serve call s space c ≡ send space (answer s c call h at (stopped stat body)) = after-tests a b d e ∙ rw (q, f) in
+    by-judged h at q (refused stat) f =
+        let w : serve call s space c ≡ send space (answer s c call h at (refused stat)) = after-tests a b d e ∙ rw (q, f) in
         _⊎_.inl (ap (λ (o : Outcome). o .store) w)
-    by-judged h at q runs f = by-arguments h at q f (arguments (h .procedure) call at) refl
+    by-judged h at q (passed tt) f = by-arguments h at q f (arguments (h .procedure) call at) refl
 
     by-header : (r : Read Header) → header call 0 ≡ r → (serve call s space c .store ≡ s) ⊎ Ran call s space c
     by-header (bad p) q =
-        let w : serve call s space c ≡ respond s c call space (bad p) = after-tests a b d e ∙ rw q in
+        let w : serve call s space c ≡ outcome space s (refused 5) = after-tests a b d e ∙ rw q in
         _⊎_.inl (ap (λ (o : Outcome). o .store) w)
     by-header (got (Header.OtherVersion xid) at) q =
-        let w : serve call s space c ≡ respond s c call space (got (Header.OtherVersion xid) at) = after-tests a b d e ∙ rw q in
+        let w : serve call s space c ≡ send space (respond s c call (Header.OtherVersion xid) at) = after-tests a b d e ∙ rw q in
         _⊎_.inl (ap (λ (o : Outcome). o .store) w)
     by-header (got (Header.Call h) at) q = by-judged h at q (judge nfs h) refl
 
@@ -89,15 +91,15 @@ module _ (call : List ℕ) (s : Store) (space : List ℕ) (c : Context) where
   pub serve-ran : (serve call s space c .store ≡ s) ⊎ Ran call s space c
   unfolding serve
   serve-ran =
-      by-bool (leb 4224 (length space))
+      by-bool (ltb (length space) 4224)
+      (λ a. _⊎_.inl (rw a))
       (λ a. by-bool (goodTime (c .clock))
-      (λ b. by-bool (leb (length call) 8192)
+      (λ b. by-bool (ltb 8192 (length call))
+      (λ d. _⊎_.inl (rw (a, b, d)))
       (λ d. by-bool (passes s)
       (λ e. by-header a b d e (header call 0) refl)
-      (λ e. _⊎_.inl (rw (a, b, d, e))))
-      (λ d. _⊎_.inl (rw (a, b, d))))
+      (λ e. _⊎_.inl (rw (a, b, d, e)))))
       (λ b. _⊎_.inl (rw (a, b))))
-      (λ a. _⊎_.inl (rw a))
 
   -- ---- errors
   -- an answer other than 0 leaves the store

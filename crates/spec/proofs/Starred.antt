@@ -1,132 +1,13 @@
 -- The starred examples of document 01, about `serve`, `check` and `format` themselves, by computation.
-use Prim.Native.Nat.{ℕ, _+_, _-_, _*_}
+use Prim.Native.Nat.{_+_}
 use lib.ListN.{length, getD, replicate}
 use mathlib.Core.Bool.{true}
-use mathlib.Core.List.{List, [], _∷_, _++_, map}
+use mathlib.Core.List.{[], _∷_, _++_, map}
 use mathlib.Core.Path.{_≡_, refl}
-use Rattle.kinds.specs.declared.object.Context.{Context}
-use Rattle.spec.specs.Arguments.{handle, unbounded, nameIn, time, setNumber, setSize, setTime, settable, guard, how, setattrArguments, accessArguments, readArguments, writeArguments, createArguments, mkdirArguments, renameArguments, readdirArguments, commitArguments, arguments}
-use Rattle.spec.specs.Bytes.{part, overlay, zeros, digits, beOf, bytesOf, beAt, words, opaqueBytes, sameBytes, allBytes}
-use Rattle.spec.specs.Check.{isZero, goodCounts, goodShape, goodTime, goodBlock, goodSize, goodLive, goodFree, goodObject, goodRoot, goodUsed, goodNameRecord, isDistinct, isNamedOnce, isUsedOnce, leadsToRoot, passes}
-use Rattle.spec.specs.Count.{sum, count, every, some-below, passing, lowest, times, iterate}
-use Rattle.spec.specs.Edits.{withAttributes, setAttributes, clearBlocks, clearTail, blockNumbers, withSize, resize, withGeneration, createObject, removeObject, moveName, writeThrough, readThrough, writeFile, readFile}
-use Rattle.spec.specs.Handles.{handleOf, reach, reachDirectory, checkName, shownSize, usedBytes, linkCount, attributes, before, change, handleChange}
-use Rattle.spec.specs.Image.{Store, volumes, stamp, objects, names, blocks, halvesAt, halvesBytes, timeAt, timeBytes, objectFrom, headBytes, timesBytes, objectBytes, objectAt, putObject, nameFrom, nameBytes, nameAt, nameLength, putName}
-use Rattle.spec.specs.Names.{isDot, isDotDot, goodByte, goodBytes, goodName}
-use Rattle.spec.specs.Procedures.{act}
-use Rattle.spec.specs.Procedures.Attributes.{badAttributes, lacksRoom, sizeTouches, getattr, checkSetattr, setattrEdit, setattr, grantedBits, access}
-use Rattle.spec.specs.Procedures.Data.{reachRegular, readLength, readResult, read, checkWrite, writeEdit, writeStore, writeDone, write, commit}
-use Rattle.spec.specs.Procedures.Listing.{entryOf, dotEntries, entries, entriesAbove, fitting, checkListing, checkReaddir, readdir}
-use Rattle.spec.specs.Procedures.Names.{lookIn, checkLookup, lookup, roomForNew, newObject, newEdit, checkExisting, checkNew, checkAttributed, checkCreate, create, checkMkdir, mkdir}
-use Rattle.spec.specs.Procedures.Removal.{checkRemove, hasEntries, checkRmdir, removeFrom, remove, rmdir, isWithin, checkRename, renameEdit, failRenaming, rename}
-use Rattle.spec.specs.Procedures.Volume.{fsstat, fsinfo, pathconf}
-use Rattle.spec.specs.Replies.{fattr3, postOp, preOp, wccData, entryBytes, entriesBytes, resultBytes}
-use Rattle.spec.specs.Results.{failShowing, failChanging}
-use Rattle.spec.specs.Room.{isLive, isRegular, isDirectory, sizeOf, held, uses, isFreeBlock, freeBlocks, freeBlockCount, isAvailable, availableCount, availableObject, isUsedName, availableName, freeNameCount, isNaming, namings, isIn, isNamed, findName, subdirectories, parent, above, byteAt}
-use Rattle.spec.specs.Rpc.{credential, header, denied, accepted, judge}
-use Rattle.spec.specs.Serve.{Outcome, serve, check, formatted, format}
-use Rattle.spec.specs.Xdr.{number, word, long, choice, flag, bytes, pad, opaque, end}
-
--- THE SETTING
-
--- a clock, a verifier and a reply space of 4,224 bytes whose bytes are not zero
-abbrev pub context : Context
-context = record { clock = record { seconds = 5; nanoseconds = 6 }; verifier = 8 }
-
-abbrev pub space : List ℕ
-space = replicate 4224 165
-
--- a store of stamp 9, formatted with counts p, q, r
-abbrev pub fresh : ℕ → ℕ → ℕ → Store
-fresh p q r = format (zeros (20 + 80 * p + 44 * q + 512 * r)) 9 p q r (context .clock) .store
-
--- a call of procedure p with xid 7, credential and verifier of flavor 0 and length 0
-abbrev pub callTo : ℕ → List ℕ → List ℕ
-callTo p rest = words (7 ∷ 0 ∷ 2 ∷ 100003 ∷ 3 ∷ p ∷ 0 ∷ 0 ∷ 0 ∷ 0 ∷ []) ++ rest
-
-abbrev pub served : List ℕ → Store → Outcome
-served call s = serve call s space context
-
--- the store after calls in a row
-abbrev pub after : List (List ℕ) → Store → Store
-after [] s = s
-after (c ∷ cs) s = after cs (served c s .store)
-
--- the outcome of a call whose reply is these bytes and which leaves the store t: nothing past the reply changes
-abbrev pub replied : List ℕ → Store → Outcome
-replied reply t = record { number = 0; length = length reply; space = reply ++ replicate (4224 - length reply) 165; store = t }
-
--- the words of an accepted reply to xid 7
-abbrev pub answered : List ℕ → List ℕ
-answered rest = words (7 ∷ 1 ∷ 0 ∷ 0 ∷ 0 ∷ 0 ∷ rest)
-
--- the status word of a reply
-abbrev pub statusIn : Outcome → ℕ
-statusIn o = beAt (o .space) 24 4
-
--- the handle of object o at generation 0, as XDR
-abbrev pub handleTo : ℕ → List ℕ
-handleTo o = words (12 ∷ 9 ∷ o ∷ 0 ∷ [])
-
--- GETATTR of object o
-abbrev pub getattrCall : ℕ → List ℕ
-getattrCall o = callTo 1 (handleTo o)
-
--- LOOKUP, CREATE (UNCHECKED, nothing set), MKDIR and REMOVE of a name in the root
-abbrev pub lookupCall : List ℕ → List ℕ
-lookupCall name = callTo 3 (handleTo 0 ++ opaqueBytes name)
-
-abbrev pub createCall : List ℕ → List ℕ
-createCall name = callTo 8 (handleTo 0 ++ opaqueBytes name ++ words (0 ∷ 0 ∷ 0 ∷ 0 ∷ 0 ∷ 0 ∷ 0 ∷ []))
-
-abbrev pub mkdirCall : List ℕ → List ℕ
-mkdirCall name = callTo 9 (handleTo 0 ++ opaqueBytes name ++ words (0 ∷ 0 ∷ 0 ∷ 0 ∷ 0 ∷ 0 ∷ []))
-
-abbrev pub removeCall : List ℕ → List ℕ
-removeCall name = callTo 12 (handleTo 0 ++ opaqueBytes name)
-
--- WRITE of bytes at an offset below 2^32, FILE_SYNC, and READ of 100 bytes from the start, on object o
-abbrev pub writeCall : ℕ → ℕ → List ℕ → List ℕ
-writeCall o offset bytes = callTo 7 (handleTo o ++ words (0 ∷ offset ∷ length bytes ∷ 2 ∷ []) ++ opaqueBytes bytes)
-
-abbrev pub readCall : ℕ → List ℕ
-readCall o = callTo 6 (handleTo o ++ words (0 ∷ 0 ∷ 100 ∷ []))
-
--- READDIR of the root from a cookie
-abbrev pub readdirCall : ℕ → ℕ → List ℕ
-readdirCall cookie count = callTo 16 (handleTo 0 ++ words (0 ∷ cookie ∷ 0 ∷ 0 ∷ count ∷ []))
-
--- the attributes of the root that was just formatted, with so many subdirectories
-abbrev pub rootWords : List ℕ
-rootWords = 2 ∷ 493 ∷ 2 ∷ 0 ∷ 0 ∷ 0 ∷ 512 ∷ 0 ∷ 0 ∷ 0 ∷ 0 ∷ 0 ∷ 9 ∷ 0 ∷ 1 ∷ 5 ∷ 6 ∷ 5 ∷ 6 ∷ 5 ∷ 6 ∷ []
-
--- the names 0123456789 and 123456789, and "a"
-abbrev pub tag0123456789 : List ℕ
-tag0123456789 = 0x30 ∷ 0x31 ∷ 0x32 ∷ 0x33 ∷ 0x34 ∷ 0x35 ∷ 0x36 ∷ 0x37 ∷ 0x38 ∷ 0x39 ∷ []
-
-abbrev pub tag123456789 : List ℕ
-tag123456789 = 0x31 ∷ 0x32 ∷ 0x33 ∷ 0x34 ∷ 0x35 ∷ 0x36 ∷ 0x37 ∷ 0x38 ∷ 0x39 ∷ []
-
-abbrev pub nameA : List ℕ
-nameA = 0x61 ∷ []
-
--- a store with a root alone; with the file "a" and room for sixteen blocks; with both tags, of which one holds "A" and the other "BC"
-abbrev pub rootAlone : Store
-rootAlone = fresh 1 0 0
-
-abbrev pub withA : Store
-withA = after (createCall nameA ∷ []) (fresh 2 1 16)
-
-abbrev pub withTags : Store
-withTags = after (createCall tag0123456789 ∷ createCall tag123456789 ∷ writeCall 1 0 (0x41 ∷ []) ∷ writeCall 2 0 (0x42 ∷ 0x43 ∷ []) ∷ []) (fresh 3 2 2)
-
--- a file's reply to READ: its attributes, the count, eof and the bytes
-abbrev pub fileRead : ℕ → List ℕ → List ℕ
-fileRead fileid bytes =
-    answered (0 ∷ 1 ∷ 1 ∷ 0 ∷ 1 ∷ 0 ∷ 0 ∷ 0 ∷ length bytes ∷ 0 ∷ 512 ∷ 0 ∷ 0 ∷ 0 ∷ 9 ∷ 0 ∷ fileid ∷ 5 ∷ 6 ∷ 5 ∷ 6 ∷ 5 ∷ 6 ∷ length bytes ∷ 1 ∷ length bytes ∷ [])
-    ++ bytes ++ zeros (4 - length bytes)
-
--- THE EXAMPLES
+use Rattle.spec.specs.Bytes.{part, words}
+use Rattle.spec.specs.Count.{passing}
+use Rattle.spec.specs.Serve.{check}
+use Rattle.spec.proofs.Setting.{space, fresh, callTo, served, replied, answered, statusIn, handleTo, getattrCall, lookupCall, createCall, mkdirCall, writeCall, readCall, readdirCall, rootWords, tag0123456789, tag123456789, nameA, rootAlone, withA, withTags, fileRead, computing}
 
 pub record Starred : Type 0 where
   -- "NULL, xid 7: words 7 1 0 0 0 0."
@@ -164,11 +45,6 @@ pub record Starred : Type 0 where
   pub second-found : part (served (lookupCall tag123456789) withTags .space) 28 16 ≡ handleTo 2
   pub first-read : part (served (readCall 1) withTags .space) 0 132 ≡ fileRead 2 (0x41 ∷ [])
   pub second-read : part (served (readCall 2) withTags .space) 0 132 ≡ fileRead 3 (0x42 ∷ 0x43 ∷ [])
-
--- what computing an entry unfolds: naming `computing` on an `unfolding` line unfolds all of these
-computing : ℕ
-unfolding handle unbounded nameIn time setNumber setSize setTime settable guard how setattrArguments accessArguments readArguments writeArguments createArguments mkdirArguments renameArguments readdirArguments commitArguments arguments part overlay digits beOf bytesOf beAt words opaqueBytes sameBytes allBytes isZero goodCounts goodShape goodTime goodBlock goodSize goodLive goodFree goodObject goodRoot goodUsed goodNameRecord isDistinct isNamedOnce isUsedOnce leadsToRoot passes sum every some-below passing lowest times iterate withAttributes setAttributes clearBlocks clearTail blockNumbers withSize resize withGeneration createObject removeObject moveName writeThrough readThrough writeFile readFile handleOf reach reachDirectory checkName shownSize usedBytes linkCount attributes before change handleChange volumes stamp objects names blocks halvesAt halvesBytes timeAt timeBytes objectFrom headBytes timesBytes objectBytes objectAt putObject nameFrom nameBytes nameAt nameLength putName isDot isDotDot goodByte goodBytes goodName act badAttributes lacksRoom sizeTouches getattr checkSetattr setattrEdit setattr grantedBits access reachRegular readLength readResult read checkWrite writeEdit writeStore writeDone write commit entryOf dotEntries entries entriesAbove fitting checkListing checkReaddir readdir lookIn checkLookup lookup roomForNew newObject newEdit checkExisting checkNew checkAttributed checkCreate create checkMkdir mkdir checkRemove hasEntries checkRmdir removeFrom remove rmdir isWithin checkRename renameEdit failRenaming rename fsstat fsinfo pathconf fattr3 postOp preOp wccData entryBytes entriesBytes resultBytes failShowing failChanging isLive isRegular isDirectory sizeOf held uses isFreeBlock freeBlocks freeBlockCount isAvailable availableCount availableObject isUsedName availableName freeNameCount isNaming namings isIn isNamed findName subdirectories parent above byteAt credential header denied accepted judge serve check formatted format number word long choice flag bytes pad opaque end
-computing = 0
 
 null-computes : served (callTo 0 []) rootAlone ≡ replied (answered []) rootAlone
 unfolding computing

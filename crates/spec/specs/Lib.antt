@@ -11,6 +11,7 @@ pub mod Check
 pub mod Handles
 pub mod Edits
 pub mod Results
+pub mod Header
 pub mod Rpc
 pub mod Procedures
 pub mod Replies

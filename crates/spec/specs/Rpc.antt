@@ -1,36 +1,11 @@
--- The header of an RPC call (RFC 5531 section 9), and the outcomes before a procedure runs.
+-- The outcomes of a call before its procedure runs, and the heads of replies (RFC 5531 section 9).
 use Prim.Native.Nat.{ℕ}
 use mathlib.Core.List.{List, [], _∷_, _++_}
-use mathlib.Core.Bool.{Bool, true, false, not, cond}
-use lib.Dec.{eqb, leb, ltb}
-use Rattle.kinds.specs.declared.call.Credential.{Credential}
+use mathlib.Core.Bool.{_||_, not, cond}
+use lib.Dec.{eqb, ltb}
 use Rattle.kinds.specs.declared.call.CallHeader.{CallHeader}
-use Rattle.kinds.specs.declared.call.Header.{Header}
-use Rattle.kinds.specs.declared.call.Header.the-variants as Header
 use Rattle.spec.specs.Bytes.{words}
-use Rattle.spec.specs.Xdr.{Reader, _>>=_, _>>_, done, word, choice, opaque}
-
--- opaque_auth: "a credential or verifier over 400 bytes or padded with other than zero" is no complete header; any flavor is accepted
-unfoldable pub credential : Reader Credential
-credential = do
-  flavor ← word
-  body ← opaque 400
-  done (record { flavor = flavor; body = body })
-
--- xid; message type CALL, 0; the RPC version. A call of another version than 2 is denied, whatever follows
-unfoldable pub header : Reader Header
-header = do
-  xid ← word
-  type ← choice 0
-  rpc ← word
-  cond (eqb rpc 2) (do
-    program ← word
-    version ← word
-    procedure ← word
-    cred ← credential
-    verf ← credential
-    done (Header.Call (record { xid = xid; program = program; version = version; procedure = procedure; credential = cred; verifier = verf })))
-      (done (Header.OtherVersion xid))
+use Rattle.spec.specs.Checked.{Checked, _>>_, refuseIf}
 
 -- rejected_reply: xid, REPLY, MSG_DENIED, "RPC_MISMATCH 2 2"
 unfoldable pub denied : ℕ → List ℕ
@@ -51,17 +26,29 @@ pub record Program : Type 0 where
 abbrev pub nfs : Program
 nfs = record { number = 100003; lowest = 3; highest = 3; last = 21 }
 
--- what becomes of a call: an accept_stat with what follows it, or the procedure runs
-pub data Judged : Type 0 where
-  stopped : ℕ → List ℕ → Judged
-  runs : Judged
+-- the accept_stat numbers
+abbrev pub SUCCESS : ℕ
+SUCCESS = 0
 
-unfoldable pub judge : Program → CallHeader → Judged
-judge p h =
-    cond (eqb (h .program) (p .number))
-    (cond (leb (p .lowest) (h .version))
-    (cond (leb (h .version) (p .highest))
-    (cond (leb (h .procedure) (p .last)) runs (stopped 3 []))
-    (stopped 2 (words (p .lowest ∷ p .highest ∷ []))))
-    (stopped 2 (words (p .lowest ∷ p .highest ∷ []))))
-    (stopped 1 [])
+abbrev pub PROG-UNAVAIL : ℕ
+PROG-UNAVAIL = 1
+
+abbrev pub PROG-MISMATCH : ℕ
+PROG-MISMATCH = 2
+
+abbrev pub PROC-UNAVAIL : ℕ
+PROC-UNAVAIL = 3
+
+abbrev pub GARBAGE-ARGS : ℕ
+GARBAGE-ARGS = 4
+
+-- whether a procedure runs, or the accept_stat
+unfoldable pub judge : Program → CallHeader → Checked (Unit {0})
+judge p h = do
+  refuseIf (not (eqb (h .program) (p .number))) PROG-UNAVAIL
+  refuseIf (ltb (h .version) (p .lowest) || ltb (p .highest) (h .version)) PROG-MISMATCH
+  refuseIf (ltb (p .last) (h .procedure)) PROC-UNAVAIL
+
+-- what follows an accept_stat other than SUCCESS: PROG_MISMATCH has the lowest and the highest version
+unfoldable pub mismatch : Program → ℕ → List ℕ
+mismatch p stat = cond (eqb stat PROG-MISMATCH) (words (p .lowest ∷ p .highest ∷ [])) []

@@ -1,8 +1,8 @@
 -- The three entries: for any bytes, what each answers and what it leaves in the lent buffers.
-use Prim.Native.Nat.{ℕ, _+_, _*_, _-_}
+use Prim.Native.Nat.{ℕ, _*_, _-_}
 use mathlib.Core.List.{List, [], _∷_, _++_}
-use mathlib.Core.Bool.{Bool, true, false, not, cond}
-use lib.Dec.{eqb, leb, ltb}
+use mathlib.Core.Bool.{not, cond}
+use lib.Dec.{eqb, ltb}
 use lib.ListN.{length}
 use Rattle.kinds.specs.Reading.{Read, got, bad}
 use Rattle.kinds.specs.Objects.{rootObject}
@@ -19,7 +19,9 @@ use Rattle.spec.specs.Arguments.{arguments}
 use Rattle.spec.specs.Procedures.{act}
 use Rattle.spec.specs.Results.{Done}
 use Rattle.spec.specs.Replies.{resultBytes}
-use Rattle.spec.specs.Rpc.{header, denied, accepted, nfs, Judged, stopped, runs, judge}
+use Rattle.spec.specs.Header.{header}
+use Rattle.spec.specs.Rpc.{denied, accepted, nfs, SUCCESS, GARBAGE-ARGS, judge, mismatch}
+use Rattle.spec.specs.Checked.{Checked, refused, passed, _>>_, refuseIf}
 
 -- an entry's outcome: the answer's number, the reply's length, the reply space and the store
 pub record Outcome : Type 0 where
@@ -43,35 +45,38 @@ send space t = record { number = 0; length = length (t .reply); space = overlay 
 
 -- a procedure's reply
 abbrev pub finish : CallHeader → Done → Sent
-finish h d = record { reply = accepted (h .xid) 0 (resultBytes (h .procedure) (d .result)); store = d .store }
+finish h d = record { reply = accepted (h .xid) SUCCESS (resultBytes (h .procedure) (d .result)); store = d .store }
 
--- "arguments not exactly the XDR type, GARBAGE_ARGS", 4
+-- "arguments not exactly the XDR type, GARBAGE_ARGS"
 abbrev pub perform : Store → Context → List ℕ → CallHeader → Read Arguments → Sent
-perform s c call h (bad p) = record { reply = accepted (h .xid) 4 []; store = s }
+perform s c call h (bad p) = record { reply = accepted (h .xid) GARBAGE-ARGS []; store = s }
 perform s c call h (got a next) = finish h (act s c call a)
 
-abbrev pub answer : Store → Context → List ℕ → CallHeader → ℕ → Judged → Sent
-answer s c call h at (stopped stat body) = record { reply = accepted (h .xid) stat body; store = s }
-answer s c call h at runs = perform s c call h (arguments (h .procedure) call at)
+abbrev pub answer : Store → Context → List ℕ → CallHeader → ℕ → Checked (Unit {0}) → Sent
+answer s c call h at (refused stat) = record { reply = accepted (h .xid) stat (mismatch nfs stat); store = s }
+answer s c call h at (passed _) = perform s c call h (arguments (h .procedure) call at)
 
--- "5 | no complete call header"; "Then, in order: RPC version not 2 is denied .."
-abbrev pub respond : Store → Context → List ℕ → List ℕ → Read Header → Outcome
-respond s c call space (bad p) = refuse 5 space s
-respond s c call space (got (Header.OtherVersion xid) at) = send space (record { reply = denied xid; store = s })
-respond s c call space (got (Header.Call h) at) = send space (answer s c call h at (judge nfs h))
+-- "Then, in order: RPC version not 2 is denied with RPC_MISMATCH 2 2; .."
+abbrev pub respond : Store → Context → List ℕ → Header → ℕ → Sent
+respond s c call (Header.OtherVersion xid) at = record { reply = denied xid; store = s }
+respond s c call (Header.Call h) at = answer s c call h at (judge nfs h)
+
+abbrev pub complete : Store → Context → List ℕ → Read Header → Checked Sent
+complete s c call (bad p) = refused 5
+complete s c call (got h at) = passed (respond s c call h at)
+
+abbrev pub outcome : List ℕ → Store → Checked Sent → Outcome
+outcome space s (refused number) = refuse number space s
+outcome space s (passed t) = send space t
 
 -- the call entry: its tests in the table's order, 2, 3, 4, 1, 5
 unfoldable pub serve : List ℕ → Store → List ℕ → Context → Outcome
-serve call s space c =
-    cond (leb 4224 (length space))
-    (cond (goodTime (c .clock))
-    (cond (leb (length call) 8192)
-    (cond (passes s)
-    (respond s c call space (header call 0))
-    (refuse 1 space s))
-    (refuse 4 space s))
-    (refuse 3 space s))
-    (refuse 2 space s)
+serve call s space c = outcome space s (do
+  refuseIf (ltb (length space) 4224) 2
+  refuseIf (not (goodTime (c .clock))) 3
+  refuseIf (ltb 8192 (length call)) 4
+  refuseIf (not (passes s)) 1
+  complete s c call (header call 0))
 
 -- the check entry: 0 or 1
 unfoldable pub check : Store → ℕ
@@ -89,13 +94,13 @@ pub record Formatted : Type 0 where
   pub number : ℕ
   pub store : Store
 
--- the format entry: 3, then 6 ("a count out of range, or buffer not of exactly that length"), then 0
+abbrev pub formattedIf : Store → Store → Checked (Unit {0}) → Formatted
+formattedIf s t (refused number) = record { number = number; store = s }
+formattedIf s t (passed _) = record { number = 0; store = t }
+
+-- the format entry: "answers 3, 6 or 0"; "6 | format: a count out of range, or buffer not of exactly that length | after 3"
 unfoldable pub format : Store → ℕ → ℕ → ℕ → ℕ → Time → Formatted
-format s stamp p q r clock =
-    cond (goodTime clock)
-    (cond (goodCounts p q r)
-    (cond (eqb (length s) (imageLength p q r))
-    (record { number = 0; store = formatted stamp p q r clock })
-    (record { number = 6; store = s }))
-    (record { number = 6; store = s }))
-    (record { number = 3; store = s })
+format s stamp p q r clock = formattedIf s (formatted stamp p q r clock) (do
+  refuseIf (not (goodTime clock)) 3
+  refuseIf (not (goodCounts p q r)) 6
+  refuseIf (not (eqb (length s) (imageLength p q r))) 6)

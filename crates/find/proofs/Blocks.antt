@@ -1,0 +1,69 @@
+-- The list of the lowest free blocks, block by block. Assumes nothing.
+use mathlib.Core.Path.{_≡_, refl, sym, ap, _∙_}
+use mathlib.Core.Logic.{_≢_}
+use mathlib.Core.Bool.{Bool, true, false, not}
+use mathlib.Core.List.{List, [], _∷_, _++_}
+use Prim.Native.Nat.{ℕ, suc, _+_, _-_, _≤_, _<_, zero-le}
+use native.Mathlib.Omega.{arith}
+use lib.Dec.{eqb}
+use lib.ListN.{length, take, set, replicate, length-set, length-append}
+use lib.Seq.{set-at, append-snoc, take-all}
+use borrow.Author.Tests.{eq-eqb, ne-eqb}
+use Rattle.spec.specs.Count.{bit, passing}
+use Rattle.spec.proofs.Count.{passing-hit, passing-miss, passing-front}
+use Rattle.find.specs.Blocks.{blockList}
+
+-- a byte of the map, tested
+pub free-byte : (t : Bool) (m : ℕ) → m ≡ bit (not t) → eqb m 0 ≡ t
+free-byte true m e = eq-eqb m 0 e
+free-byte false m e = ne-eqb m 0 (λ z. absurd (omega arith))
+
+-- one more block in the list
+pub listed-more : (xs : List ℕ) (k x : ℕ) → k ≡ length xs → k < 16
+    → set (xs ++ replicate (16 - k) 65535) k x ≡ xs ++ (x ∷ []) ++ replicate (16 - (k + 1)) 65535
+listed-more xs k x e h =
+    let q : 16 - k ≡ suc (16 - (k + 1)) = omega arith in
+    rw q (set-at xs 65535 (replicate (16 - (k + 1)) 65535) x k (sym e) ∙ sym (append-snoc xs x (replicate (16 - (k + 1)) 65535)))
+
+-- the list has the k numbers below i that pass, not more than are wanted, and 65535 in its other places
+pub record Listed (p : ℕ → Bool) (wanted i k : ℕ) (list : List ℕ) : Type 0 where
+  pub few : k ≤ wanted
+  pub long : length list ≡ 16
+  pub count : k ≡ length (passing i p)
+  pub all : list ≡ passing i p ++ replicate (16 - k) 65535
+
+pub listed-none : (p : ℕ → Bool) (wanted : ℕ) → Listed p wanted 0 0 (replicate 16 65535)
+unfolding passing
+listed-none p wanted = record { few = zero-le; long = refl; count = refl; all = refl }
+
+module _ (p : ℕ → Bool) (wanted i k : ℕ) (list : List ℕ) (h : Listed p wanted i k list) where
+  -- i passes, and is listed
+  pub listed-hit : (k′ : ℕ) (list′ : List ℕ) → wanted ≤ 16 → k ≢ wanted → p i ≡ true → list′ ≡ set list k i → k′ ≡ k + 1 → Listed p wanted (i + 1) k′ list′
+  listed-hit k′ list′ few d t e q =
+      record {
+        few = omega arith;
+        long = rw e (simp length-set (h .long));
+        count = rw (passing-hit p i t) (simp length-append (omega arith));
+        all =
+            rw (passing-hit p i t)
+            (e ∙ ap (λ (l : List ℕ). set l k i) (h .all) ∙ listed-more (passing i p) k i (h .count) (omega arith)
+            ∙ ap (λ (m : ℕ). passing i p ++ (i ∷ []) ++ replicate (16 - m) 65535) (sym q));
+      }
+
+  pub listed-miss : (k′ : ℕ) (list′ : List ℕ) → p i ≡ false → list′ ≡ list → k′ ≡ k → Listed p wanted (i + 1) k′ list′
+  listed-miss k′ list′ t e q =
+      rw (e, q) (record { few = h .few; long = h .long; count = rw (passing-miss p i t) (h .count); all = rw (passing-miss p i t) (h .all) })
+
+  listed-by : (n : ℕ) → take wanted (passing n p) ≡ passing i p → list ≡ blockList wanted (passing n p)
+  unfolding blockList
+  listed-by n r = rw r (h .all ∙ ap (λ (m : ℕ). passing i p ++ replicate (16 - m) 65535) (h .count))
+
+  -- as many as are wanted are listed
+  pub listed-wanted : (n : ℕ) → i ≤ n → k ≡ wanted → list ≡ blockList wanted (passing n p)
+  listed-wanted n l q = listed-by n (ap (λ (m : ℕ). take m (passing n p)) (sym q ∙ h .count) ∙ passing-front p i n l)
+
+  -- all that pass are listed
+  pub listed-all : (n : ℕ) → i ≡ n → list ≡ blockList wanted (passing n p)
+  listed-all n q =
+      let m : length (passing n p) ≤ wanted = rw (← q) (omega arith) in
+      listed-by n (take-all wanted (passing n p) m ∙ ap (λ (j : ℕ). passing j p) (sym q))

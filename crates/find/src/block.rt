@@ -1,0 +1,60 @@
+// Free blocks, by a map of those that are used.
+ghost use mathlib.Core.Path.{_≡_};
+ghost use Prim.Native.Nat.{_<_, _≤_};
+ghost use Rattle.spec.specs.Image.{blocks};
+ghost use Rattle.spec.specs.Room.{isFreeBlock, freeBlocks, freeBlockCount};
+ghost use Rattle.image.specs.Shaped.{Shaped};
+ghost use Rattle.find.specs.Blocks.{UsedMap, blockList};
+use crate::found::one_if;
+use image::counts::block_count;
+use kinds::numbers::BlockNumber;
+use kinds::numbers::Limit;
+
+fn is_free_block(store: &[u8], map: &[u8; 1024], r: BlockNumber) -> bool
+    requires { ⌜ Shaped (now store) ⌝ }
+    requires { ⌜ UsedMap (now store) (now map) ⌝ }
+    requires { ⌜ r .0 < blocks (now store) ⌝ }
+    ensures { λ q. ⌜ q ≡ isFreeBlock (now (store .entry)) (r .0) ⌝ }
+{
+    let i = r.0;
+    map[i] == 0
+}
+
+pub fn free_block_count(store: &[u8], map: &[u8; 1024]) -> usize
+    requires { ⌜ Shaped (now store) ⌝ }
+    requires { ⌜ UsedMap (now store) (now map) ⌝ }
+    ensures { λ r. ⌜ r ≡ freeBlockCount (now (store .entry)) ⌝ }
+{
+    let total = block_count(store);
+    let mut found = 0;
+    let mut i = 0;
+    while i < total {
+        found += one_if(is_free_block(store, map, BlockNumber(i)));
+        i += 1;
+    }
+    found
+}
+
+// The lowest-numbered free blocks, as many as are wanted and free, then the number of an unused block.
+pub fn free_blocks(store: &[u8], map: &[u8; 1024], wanted: usize) -> [u16; 16]
+    requires { ⌜ Shaped (now store) ⌝ }
+    requires { ⌜ UsedMap (now store) (now map) ⌝ }
+    requires { ⌜ wanted ≤ 16 ⌝ }
+    ensures { λ r. ⌜ r ≡ blockList wanted (freeBlocks (now (store .entry))) ⌝ }
+{
+    let total = block_count(store);
+    let mut list = [Limit::UNUSED_BLOCK; 16];
+    let mut k = 0;
+    let mut i = 0;
+    while i < total {
+        if k == wanted {
+            return list;
+        }
+        if is_free_block(store, map, BlockNumber(i)) {
+            list[k] = i as u16;
+            k += 1;
+        }
+        i += 1;
+    }
+    list
+}

@@ -1,0 +1,188 @@
+// Free name records, a name in a directory, and the record that names an object.
+ghost use mathlib.Core.Path.{_≡_};
+ghost use mathlib.Core.Bool.{_&&_, not};
+ghost use Prim.Native.Nat.{_+_, _<_, _≤_};
+ghost use lib.ListN.{length};
+ghost use Rattle.spec.specs.Count.{lowest};
+ghost use Rattle.spec.specs.Image.{nameRecordLength, names, nameStart, nameAt, nameLength};
+ghost use Rattle.spec.specs.Room.{isUsedName, isNaming, isIn, isNamed, isDirectory, availableName, freeNameCount, findName, subdirectories, parent};
+ghost use Rattle.image.specs.Shaped.{Shaped, SoundNames};
+ghost use Rattle.image.specs.Text.{textOf};
+ghost use Rattle.find.specs.Found.{foundName};
+use crate::found::FoundName;
+use crate::found::one_if;
+use image::counts::name_count;
+use image::counts::name_start;
+use image::name::is_used_name;
+use image::name::name_child;
+use image::name::name_directory;
+use image::name::name_length;
+use image::object::is_directory;
+use kinds::call::Part;
+use kinds::numbers::NameNumber;
+use kinds::numbers::ObjectNumber;
+
+fn is_free_name(store: &[u8], n: NameNumber) -> bool
+    requires { ⌜ nameStart (now store) (n .0) + nameRecordLength ≤ length (now store) ⌝ }
+    ensures { λ r. ⌜ r ≡ not (isUsedName (now (store .entry)) (n .0)) ⌝ }
+{
+    !is_used_name(store, n)
+}
+
+// The lowest-numbered free record.
+pub fn find_free_name(store: &[u8]) -> FoundName
+    requires { ⌜ Shaped (now store) ⌝ }
+    ensures { λ r. ⌜ foundName r ≡ availableName (now (store .entry)) ⌝ }
+{
+    let total = name_count(store);
+    let mut n = 0;
+    while n < total {
+        if is_free_name(store, NameNumber(n)) {
+            return FoundName::At(NameNumber(n));
+        }
+        n += 1;
+    }
+    FoundName::Nothing
+}
+
+pub fn free_name_count(store: &[u8]) -> usize
+    requires { ⌜ Shaped (now store) ⌝ }
+    ensures { λ r. ⌜ r ≡ freeNameCount (now (store .entry)) ⌝ }
+{
+    let total = name_count(store);
+    let mut found = 0;
+    let mut i = 0;
+    while i < total {
+        found += one_if(is_free_name(store, NameNumber(i)));
+        i += 1;
+    }
+    found
+}
+
+// Whether a record is used, and names an object.
+pub fn is_naming(store: &[u8], n: NameNumber, o: ObjectNumber) -> bool
+    requires { ⌜ nameStart (now store) (n .0) + nameRecordLength ≤ length (now store) ⌝ }
+    ensures { λ r. ⌜ r ≡ isNaming (now (store .entry)) (o .0) (n .0) ⌝ }
+{
+    let child = name_child(store, n);
+    if child.0 != o.0 {
+        return false;
+    }
+    is_used_name(store, n)
+}
+
+// The lowest-numbered record that names an object.
+pub fn find_naming(store: &[u8], o: ObjectNumber) -> FoundName
+    requires { ⌜ Shaped (now store) ⌝ }
+    ensures { λ r. ⌜ foundName r ≡ lowest (names (now (store .entry))) (isNaming (now (store .entry)) (o .0)) ⌝ }
+{
+    let total = name_count(store);
+    let mut i = 0;
+    while i < total {
+        if is_naming(store, NameNumber(i), o) {
+            return FoundName::At(NameNumber(i));
+        }
+        i += 1;
+    }
+    FoundName::Nothing
+}
+
+// The directory that an object is in; the root, which has no name, is in itself.
+pub fn parent_of(store: &[u8], o: ObjectNumber) -> ObjectNumber
+    requires { ⌜ Shaped (now store) ⌝ }
+    ensures { λ r. ⌜ r .0 ≡ parent (now (store .entry)) (o .0) ⌝ }
+{
+    let found = find_naming(store, o);
+    match found {
+        FoundName::At(n) => name_directory(store, n),
+        FoundName::Nothing => ObjectNumber(0),
+    }
+}
+
+// Whether a record is used, and in a directory.
+pub fn is_in(store: &[u8], n: NameNumber, directory: ObjectNumber) -> bool
+    requires { ⌜ nameStart (now store) (n .0) + nameRecordLength ≤ length (now store) ⌝ }
+    ensures { λ r. ⌜ r ≡ isIn (now (store .entry)) (directory .0) (n .0) ⌝ }
+{
+    let d = name_directory(store, n);
+    if d.0 != directory.0 {
+        return false;
+    }
+    is_used_name(store, n)
+}
+
+// Whether a record is that of a name in a directory: the directory is compared, then the length, then the bytes.
+pub fn is_named(
+    store: &[u8],
+    n: NameNumber,
+    directory: ObjectNumber,
+    call: &[u8],
+    name: Part,
+) -> bool
+    requires { ⌜ nameStart (now store) (n .0) + nameRecordLength ≤ length (now store) ⌝ }
+    requires { ⌜ nameLength (now store) (n .0) ≤ 32 ⌝ }
+    requires { ⌜ name .start + name .length ≤ length (now call) ⌝ }
+    ensures { λ r. ⌜ r ≡ isNamed (now (store .entry)) (directory .0) (textOf (now (call .entry)) name) (n .0) ⌝ }
+{
+    let d = name_directory(store, n);
+    if d.0 != directory.0 {
+        return false;
+    }
+    let len = name_length(store, n);
+    if len != name.length {
+        return false;
+    }
+    if len == 0 {
+        return false;
+    }
+    let at = name_start(store, n);
+    wire::same_bytes(store, at + 12, call, name.start, len)
+}
+
+// The record of a name in a directory.
+pub fn find_name(store: &[u8], directory: ObjectNumber, call: &[u8], name: Part) -> FoundName
+    requires { ⌜ Shaped (now store) ⌝ }
+    requires { ⌜ SoundNames (now store) ⌝ }
+    requires { ⌜ name .start + name .length ≤ length (now call) ⌝ }
+    ensures { λ r. ⌜ foundName r ≡ findName (now (store .entry)) (directory .0) (textOf (now (call .entry)) name) ⌝ }
+{
+    let total = name_count(store);
+    let mut i = 0;
+    while i < total {
+        if is_named(store, NameNumber(i), directory, call, name) {
+            return FoundName::At(NameNumber(i));
+        }
+        i += 1;
+    }
+    FoundName::Nothing
+}
+
+// Whether a record names a directory in a directory.
+fn is_subdirectory(store: &[u8], n: NameNumber, directory: ObjectNumber) -> bool
+    requires { ⌜ Shaped (now store) ⌝ }
+    requires { ⌜ SoundNames (now store) ⌝ }
+    requires { ⌜ n .0 < names (now store) ⌝ }
+    ensures { λ r. ⌜ r ≡ isIn (now (store .entry)) (directory .0) (n .0) && isDirectory (now (store .entry)) (nameAt (now (store .entry)) (n .0) .child) ⌝ }
+{
+    if is_in(store, n, directory) {
+        let child = name_child(store, n);
+        return is_directory(store, child);
+    }
+    false
+}
+
+// The directories in a directory.
+pub fn subdirectory_count(store: &[u8], directory: ObjectNumber) -> usize
+    requires { ⌜ Shaped (now store) ⌝ }
+    requires { ⌜ SoundNames (now store) ⌝ }
+    ensures { λ r. ⌜ r ≡ subdirectories (now (store .entry)) (directory .0) ⌝ }
+{
+    let total = name_count(store);
+    let mut found = 0;
+    let mut i = 0;
+    while i < total {
+        found += one_if(is_subdirectory(store, NameNumber(i), directory));
+        i += 1;
+    }
+    found
+}

@@ -1,0 +1,64 @@
+use native.Mathlib.Omega.{arith}
+use Rattle.image.proofs.Runs.{head-run}
+use borrow.Author.Needs.{needs}
+use Rattle.image.proofs.object.save_head.Statement.{statement}
+use Rattle.image.proofs.object.save_head.Tie as tie
+
+put-u32-requires : tie.Need-put-u32-requires
+put-u32-requires c κs = search needs
+
+add-put-u32 : tie.Need-add-put-u32
+add-put-u32 c = search needs
+
+put-u32-requires-2 : tie.Need-put-u32-requires-2
+put-u32-requires-2 c κs = search needs
+
+add-put-u32-2 : tie.Need-add-put-u32-2
+add-put-u32-2 c = search needs
+
+put-u32-requires-3 : tie.Need-put-u32-requires-3
+put-u32-requires-3 c κs = search needs
+
+add-put-u32-3 : tie.Need-add-put-u32-3
+add-put-u32-3 c = search needs
+
+put-u32-requires-4 : tie.Need-put-u32-requires-4
+put-u32-requires-4 c κs = search needs
+
+add-put-u32-4 : tie.Need-add-put-u32-4
+add-put-u32-4 c = search needs
+
+put-u32-requires-5 : tie.Need-put-u32-requires-5
+put-u32-requires-5 c κs = search needs
+
+add-put-u32-5 : tie.Need-add-put-u32-5
+add-put-u32-5 c = search needs
+
+put-u32-requires-6 : tie.Need-put-u32-requires-6
+put-u32-requires-6 c κs = search needs
+
+same-length : tie.Need-same-length
+same-length c = search needs
+
+returns : tie.Need-returns
+returns c =
+    let a = c .before .before .before .before .before .before .before .before .before .before .before .before .before .before .before .before .before .before .before .before .before .before .before .before .before .args in
+    cc (head-run (a .store .now) (a .at) (a .v) (omega arith))
+
+pub save-head-spec : {M : Type 1} → statement M
+save-head-spec =
+    tie.close
+    (tie.spec
+    put-u32-requires
+    add-put-u32
+    put-u32-requires-2
+    add-put-u32-2
+    put-u32-requires-3
+    add-put-u32-3
+    put-u32-requires-4
+    add-put-u32-4
+    put-u32-requires-5
+    add-put-u32-5
+    put-u32-requires-6
+    same-length
+    returns)

@@ -1,0 +1,44 @@
+use native.Mathlib.Omega.{arith}
+use Rattle.image.proofs.Runs.{object-run}
+use borrow.Author.Needs.{needs}
+use Rattle.image.proofs.object.save_object.Statement.{statement}
+use Rattle.image.proofs.object.save_object.Tie as tie
+
+object-start-requires : tie.Need-object-start-requires
+object-start-requires c κs = search needs
+
+save-head-requires : tie.Need-save-head-requires
+save-head-requires c κs = search needs
+
+add-save-times : tie.Need-add-save-times
+add-save-times c = search needs
+
+save-times-requires : tie.Need-save-times-requires
+save-times-requires c κs = search needs
+
+add-save-blocks : tie.Need-add-save-blocks
+add-save-blocks c = search needs
+
+save-blocks-requires : tie.Need-save-blocks-requires
+save-blocks-requires c κs = search needs
+
+same-length : tie.Need-same-length
+same-length c = search needs
+
+returns : tie.Need-returns
+returns c =
+    let a = c .before .before .before .before .before .before .before .before .before .before .before .before .before .before .before .before .args in
+    cc (object-run (a .store .now) (a .o .0) (a .v) (omega arith))
+
+pub save-object-spec : {M : Type 1} → statement M
+save-object-spec =
+    tie.close
+    (tie.spec
+    object-start-requires
+    save-head-requires
+    add-save-times
+    save-times-requires
+    add-save-blocks
+    save-blocks-requires
+    same-length
+    returns)

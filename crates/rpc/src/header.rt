@@ -1,0 +1,112 @@
+// Reads the header of a call.
+ghost use mathlib.Core.Path.{_≡_};
+ghost use Rattle.kinds.specs.Reading.{placeOf};
+ghost use Rattle.spec.specs.Header.{credential, callHeader, header};
+ghost use Rattle.rpc.specs.Meaning.{credentialOf, headerOf};
+use kinds::call::CallHeader;
+use kinds::call::Credential;
+use kinds::call::Cursor;
+use kinds::call::Header;
+use kinds::numbers::Limit;
+use kinds::numbers::Message;
+use kinds::reading::PartRead;
+use kinds::reading::WordRead;
+use xdr::read::choice;
+use xdr::read::opaque;
+use xdr::read::word;
+
+pub enum CredentialRead {
+    Got(Credential, Cursor),
+    Bad(usize),
+}
+
+impl CredentialRead {
+    // The place of a refusal; where there is none, where reading goes on.
+    pub fn place(self) -> usize
+        ensures { λ r. ⌜ r ≡ placeOf (credentialOf self) ⌝ }
+    {
+        match self {
+            CredentialRead::Got(_, c) => c.at,
+            CredentialRead::Bad(place) => place,
+        }
+    }
+}
+
+pub enum HeaderRead {
+    Got(Header, Cursor),
+    Bad(usize),
+}
+
+// A credential or a verifier: its flavor, and a body of at most 400 bytes.
+pub fn credential(s: &[u8], c: Cursor) -> CredentialRead
+    ensures { λ r. ⌜ credentialOf r ≡ credential (now (s .entry)) (c .at) ⌝ }
+{
+    let answer = word(s, c);
+    let WordRead::Got(flavor, c1) = answer else {
+        return CredentialRead::Bad(answer.place());
+    };
+    let answer = opaque(s, c1, Limit::CREDENTIAL);
+    let PartRead::Got(body, c2) = answer else {
+        return CredentialRead::Bad(answer.place());
+    };
+    CredentialRead::Got(Credential { flavor, body }, c2)
+}
+
+// The rest of a header, behind the RPC version 2.
+fn call_header(s: &[u8], c: Cursor, xid: u32) -> HeaderRead
+    ensures { λ r. ⌜ headerOf r ≡ callHeader xid (now (s .entry)) (c .at) ⌝ }
+{
+    let answer = word(s, c);
+    let WordRead::Got(program, c1) = answer else {
+        return HeaderRead::Bad(answer.place());
+    };
+    let answer = word(s, c1);
+    let WordRead::Got(version, c2) = answer else {
+        return HeaderRead::Bad(answer.place());
+    };
+    let answer = word(s, c2);
+    let WordRead::Got(procedure, c3) = answer else {
+        return HeaderRead::Bad(answer.place());
+    };
+    let answer = credential(s, c3);
+    let CredentialRead::Got(cred, c4) = answer else {
+        return HeaderRead::Bad(answer.place());
+    };
+    let answer = credential(s, c4);
+    let CredentialRead::Got(verf, c5) = answer else {
+        return HeaderRead::Bad(answer.place());
+    };
+    HeaderRead::Got(
+        Header::Call(CallHeader {
+            xid,
+            program,
+            version,
+            procedure,
+            credential: cred,
+            verifier: verf,
+        }),
+        c5,
+    )
+}
+
+// The header of a call: its xid, the message type CALL and the RPC version; then the rest, or nothing where the version is another than 2.
+pub fn header(s: &[u8], c: Cursor) -> HeaderRead
+    ensures { λ r. ⌜ headerOf r ≡ header (now (s .entry)) (c .at) ⌝ }
+{
+    let answer = word(s, c);
+    let WordRead::Got(xid, c1) = answer else {
+        return HeaderRead::Bad(answer.place());
+    };
+    let answer = choice(s, c1, Message::CALL);
+    let WordRead::Got(_, c2) = answer else {
+        return HeaderRead::Bad(answer.place());
+    };
+    let answer = word(s, c2);
+    let WordRead::Got(version, c3) = answer else {
+        return HeaderRead::Bad(answer.place());
+    };
+    if version == Message::RPC_VERSION {
+        return call_header(s, c3, xid);
+    }
+    HeaderRead::Got(Header::OtherVersion(xid), c3)
+}

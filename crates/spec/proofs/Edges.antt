@@ -1,0 +1,361 @@
+-- Examples at the edges: numbers, the order of checks and the readings of open points, by computation.
+use Prim.Native.Nat.{ℕ, _+_}
+use lib.ListN.{replicate}
+use mathlib.Core.List.{List, [], _∷_, _++_}
+use mathlib.Core.Path.{_≡_, refl}
+use Rattle.spec.specs.Bytes.{zeros, beAt, words, opaqueBytes}
+use Rattle.spec.specs.Image.{Store}
+use Rattle.spec.specs.Serve.{check, format}
+use Rattle.spec.proofs.Setting.{space, fresh, callTo, served, after, replied, answered, statusIn, handleTo, getattrCall, createCall, mkdirCall, removeCall, readdirCall, rootWords, nameA, rootAlone, withA, setattrCall, createBy, mkdirBy, rmdirCall, renameCall, nameB, answerTo, computing}
+
+-- the directory "a" with the directory "b" in it, and room for one object more
+abbrev pub twoDirectories : Store
+twoDirectories = after (mkdirCall nameA ∷ callTo 9 (handleTo 1 ++ opaqueBytes nameB ++ words (0 ∷ 0 ∷ 0 ∷ 0 ∷ 0 ∷ 0 ∷ [])) ∷ []) (fresh 4 3 0)
+
+-- what a record of the store holds after a call: four bytes at an index
+abbrev pub wordAfter : List ℕ → Store → ℕ → ℕ
+wordAfter call s at = beAt (served call s .store) at 4
+
+pub record Edges : Type 0 where
+  -- answers 2, 3, 4, 1, 5, in this order: "reply space under 4,224 bytes" first
+  pub space-first : answerTo (zeros 8193) [] (zeros 4223) 1000000000 ≡ 2
+  pub clock-second : answerTo (zeros 8193) [] (zeros 4224) 1000000000 ≡ 3
+  pub call-third : answerTo (zeros 8193) [] (zeros 4224) 999999999 ≡ 4
+  pub store-fourth : answerTo (zeros 7) [] (zeros 4224) 999999999 ≡ 1
+  pub header-fifth : answerTo (zeros 7) rootAlone (zeros 4224) 999999999 ≡ 5
+  -- "under 8 bytes, message type not 0, or, for RPC version 2, a header cut short, or a credential .. over 400 bytes"
+  pub type-not-call : answerTo (words (7 ∷ 1 ∷ 2 ∷ [])) rootAlone space 0 ≡ 5
+  pub no-version : answerTo (words (7 ∷ 0 ∷ [])) rootAlone space 0 ≡ 5
+  pub cut-header : answerTo (words (7 ∷ 0 ∷ 2 ∷ 100003 ∷ 3 ∷ 0 ∷ 0 ∷ 0 ∷ 0 ∷ [])) rootAlone space 0 ≡ 5
+  pub long-credential : answerTo (words (7 ∷ 0 ∷ 2 ∷ 100003 ∷ 3 ∷ 0 ∷ 0 ∷ 401 ∷ []) ++ zeros 412) rootAlone space 0 ≡ 5
+  pub credential-fits : answerTo (words (7 ∷ 0 ∷ 2 ∷ 100003 ∷ 3 ∷ 0 ∷ 0 ∷ 400 ∷ []) ++ zeros 408) rootAlone space 0 ≡ 0
+  -- "RPC version not 2 is denied with RPC_MISMATCH 2 2", "program not 100003, PROG_UNAVAIL; version not 3, PROG_MISMATCH 3 3; procedure over 21, PROC_UNAVAIL; .. GARBAGE_ARGS"
+  pub other-rpc : served (words (7 ∷ 0 ∷ 3 ∷ [])) rootAlone ≡ replied (words (7 ∷ 1 ∷ 1 ∷ 0 ∷ 2 ∷ 2 ∷ [])) rootAlone
+  pub other-program : served (words (7 ∷ 0 ∷ 2 ∷ 100005 ∷ 4 ∷ 22 ∷ 0 ∷ 0 ∷ 0 ∷ 0 ∷ [])) rootAlone ≡ replied (words (7 ∷ 1 ∷ 0 ∷ 0 ∷ 0 ∷ 1 ∷ [])) rootAlone
+  pub other-version : served (words (7 ∷ 0 ∷ 2 ∷ 100003 ∷ 2 ∷ 22 ∷ 0 ∷ 0 ∷ 0 ∷ 0 ∷ [])) rootAlone ≡ replied (words (7 ∷ 1 ∷ 0 ∷ 0 ∷ 0 ∷ 2 ∷ 3 ∷ 3 ∷ [])) rootAlone
+  pub other-procedure : served (callTo 22 []) rootAlone ≡ replied (words (7 ∷ 1 ∷ 0 ∷ 0 ∷ 0 ∷ 3 ∷ [])) rootAlone
+  pub left-over : served (callTo 0 (words (0 ∷ []))) rootAlone ≡ replied (words (7 ∷ 1 ∷ 0 ∷ 0 ∷ 0 ∷ 4 ∷ [])) rootAlone
+  pub long-handle : served (callTo 1 (words (65 ∷ []) ++ zeros 68)) rootAlone ≡ replied (words (7 ∷ 1 ∷ 0 ∷ 0 ∷ 0 ∷ 4 ∷ [])) rootAlone
+  -- "The other five answer NOTSUPP with their arguments unread." with the table's zero words; "Other length .. BADHANDLE"
+  pub not-served : served (callTo 15 (words (9 ∷ []))) rootAlone ≡ replied (answered (10004 ∷ 0 ∷ 0 ∷ 0 ∷ [])) rootAlone
+  pub bad-handle : served (callTo 14 (words (0 ∷ 0 ∷ 0 ∷ 0 ∷ []))) rootAlone ≡ replied (answered (10001 ∷ 0 ∷ 0 ∷ 0 ∷ 0 ∷ [])) rootAlone
+  pub object-past-end : statusIn (served (getattrCall 1) rootAlone) ≡ 10001
+  -- SETATTR: "guard differs, NOT_SYNC; then INVAL for mode over 4,095"; "size on a directory"
+  pub guard-first : statusIn (served (setattrCall 0 (1 ∷ 4096 ∷ 0 ∷ 0 ∷ 0 ∷ 0 ∷ 0 ∷ 1 ∷ 0 ∷ 0 ∷ [])) rootAlone) ≡ 10002
+  pub mode-over : statusIn (served (setattrCall 0 (1 ∷ 4096 ∷ 0 ∷ 0 ∷ 0 ∷ 0 ∷ 0 ∷ 0 ∷ [])) rootAlone) ≡ 22
+  pub mode-fits : statusIn (served (setattrCall 0 (1 ∷ 4095 ∷ 0 ∷ 0 ∷ 0 ∷ 0 ∷ 0 ∷ 0 ∷ [])) rootAlone) ≡ 0
+  pub directory-size : statusIn (served (setattrCall 0 (0 ∷ 0 ∷ 0 ∷ 1 ∷ 0 ∷ 0 ∷ 0 ∷ 0 ∷ 0 ∷ [])) rootAlone) ≡ 22
+  pub no-room : statusIn (served (setattrCall 1 (0 ∷ 0 ∷ 0 ∷ 1 ∷ 0 ∷ 513 ∷ 0 ∷ 0 ∷ 0 ∷ [])) (after (createCall nameA ∷ []) (fresh 2 1 1))) ≡ 28
+  -- CREATE: "EXCLUSIVE gives NOTSUPP before name checks."; dots EXIST; INVAL before an existing name; GUARDED on one EXIST
+  pub exclusive : statusIn (served (createBy [] (2 ∷ 0 ∷ 0 ∷ [])) rootAlone) ≡ 10004
+  pub empty-name : statusIn (served (createCall []) rootAlone) ≡ 13
+  pub long-name : statusIn (served (createCall (replicate 33 0x61)) rootAlone) ≡ 63
+  pub create-dot : statusIn (served (createBy (0x2E ∷ []) (0 ∷ 1 ∷ 4096 ∷ 0 ∷ 0 ∷ 0 ∷ 0 ∷ 0 ∷ [])) rootAlone) ≡ 17
+  pub invalid-first : statusIn (served (createBy nameA (1 ∷ 1 ∷ 4096 ∷ 0 ∷ 0 ∷ 0 ∷ 0 ∷ 0 ∷ [])) withA) ≡ 22
+  pub guarded : statusIn (served (createBy nameA (1 ∷ 0 ∷ 0 ∷ 0 ∷ 0 ∷ 0 ∷ 0 ∷ [])) withA) ≡ 17
+  pub mkdir-size : statusIn (served (mkdirBy nameA (0 ∷ 0 ∷ 0 ∷ 1 ∷ 0 ∷ 0 ∷ 0 ∷ 0 ∷ [])) withA) ≡ 22
+  -- REMOVE and RMDIR: dots, NOENT, the wrong type
+  pub remove-dot : statusIn (served (removeCall (0x2E ∷ [])) withA) ≡ 13
+  pub remove-none : statusIn (served (removeCall nameB) withA) ≡ 2
+  pub remove-directory : statusIn (served (removeCall nameA) twoDirectories) ≡ 13
+  pub rmdir-dot : statusIn (served (rmdirCall (0x2E ∷ [])) withA) ≡ 22
+  pub rmdir-file : statusIn (served (rmdirCall nameA) withA) ≡ 20
+  pub rmdir-full : statusIn (served (rmdirCall nameA) twoDirectories) ≡ 66
+  -- "Freeing an object raises its generation by one"; the handle is STALE ever after
+  pub generation-raised : wordAfter (removeCall nameA) withA (12 + 80 + 4) ≡ 1
+  pub stale-after : statusIn (served (getattrCall 1) (after (removeCall nameA ∷ createCall nameB ∷ []) withA)) ≡ 70
+  -- RENAME: EXIST before "a directory into itself or below, INVAL"
+  pub rename-exists : statusIn (served (renameCall 0 nameA 1 nameB) twoDirectories) ≡ 17
+  pub rename-below : statusIn (served (renameCall 0 nameA 2 nameA) twoDirectories) ≡ 22
+  pub rename-itself : statusIn (served (renameCall 0 nameA 1 nameA) twoDirectories) ≡ 22
+  pub rename-up : check (after (renameCall 1 nameB 0 nameB ∷ []) twoDirectories) ≡ 0
+  -- WRITE: INVAL before FBIG; READDIR: BAD_COOKIE before TOOSMALL; TOOSMALL below 104 even if nothing remains
+  pub count-first : statusIn (served (callTo 7 (handleTo 1 ++ words (0 ∷ 9000 ∷ 2 ∷ 2 ∷ []) ++ opaqueBytes nameA)) withA) ≡ 22
+  pub huge-offset : statusIn (served (callTo 7 (handleTo 1 ++ words (4294967295 ∷ 4294967295 ∷ 1 ∷ 2 ∷ []) ++ opaqueBytes nameA)) withA) ≡ 27
+  pub bad-cookie : statusIn (served (callTo 16 (handleTo 0 ++ words (0 ∷ 0 ∷ 0 ∷ 1 ∷ 0 ∷ []))) rootAlone) ≡ 10003
+  pub nothing-fits : statusIn (served (readdirCall 2 103) rootAlone) ≡ 10005
+  -- ACCESS: bits within 0x1F for directories, 0x2D for files
+  pub access-directory : served (callTo 4 (handleTo 0 ++ words (0xFFFFFFFF ∷ []))) rootAlone ≡ replied (answered (0 ∷ 1 ∷ rootWords ++ (0x1F ∷ []))) rootAlone
+  -- FSSTAT, FSINFO and PATHCONF of the root
+  pub fsstat : served (callTo 18 (handleTo 0)) (fresh 1 0 0) ≡ replied (answered (0 ∷ 1 ∷ rootWords ++ (0 ∷ 0 ∷ 0 ∷ 0 ∷ 0 ∷ 0 ∷ 0 ∷ 1 ∷ 0 ∷ 0 ∷ 0 ∷ 0 ∷ 0 ∷ []))) rootAlone
+  pub fsinfo : served (callTo 19 (handleTo 0)) rootAlone ≡ replied (answered (0 ∷ 1 ∷ rootWords ++ (4096 ∷ 4096 ∷ 1 ∷ 4096 ∷ 4096 ∷ 1 ∷ 4096 ∷ 0 ∷ 8192 ∷ 0 ∷ 1 ∷ 0x18 ∷ []))) rootAlone
+  pub pathconf : served (callTo 20 (handleTo 0)) rootAlone ≡ replied (answered (0 ∷ 1 ∷ rootWords ++ (1 ∷ 32 ∷ 1 ∷ 0 ∷ 0 ∷ 1 ∷ []))) rootAlone
+  -- format: 3, then 6
+  pub format-clock : format (zeros 99) 9 0 0 0 (record { seconds = 0; nanoseconds = 1000000000 }) .number ≡ 3
+  pub format-count : format (zeros 20) 9 0 0 0 (record { seconds = 0; nanoseconds = 0 }) .number ≡ 6
+  pub format-length : format (zeros 99) 9 1 0 0 (record { seconds = 0; nanoseconds = 0 }) .number ≡ 6
+
+space-first-computes : answerTo (zeros 8193) [] (zeros 4223) 1000000000 ≡ 2
+unfolding computing
+space-first-computes = refl
+
+clock-second-computes : answerTo (zeros 8193) [] (zeros 4224) 1000000000 ≡ 3
+unfolding computing
+clock-second-computes = refl
+
+call-third-computes : answerTo (zeros 8193) [] (zeros 4224) 999999999 ≡ 4
+unfolding computing
+call-third-computes = refl
+
+store-fourth-computes : answerTo (zeros 7) [] (zeros 4224) 999999999 ≡ 1
+unfolding computing
+store-fourth-computes = refl
+
+header-fifth-computes : answerTo (zeros 7) rootAlone (zeros 4224) 999999999 ≡ 5
+unfolding computing
+header-fifth-computes = refl
+
+type-not-call-computes : answerTo (words (7 ∷ 1 ∷ 2 ∷ [])) rootAlone space 0 ≡ 5
+unfolding computing
+type-not-call-computes = refl
+
+no-version-computes : answerTo (words (7 ∷ 0 ∷ [])) rootAlone space 0 ≡ 5
+unfolding computing
+no-version-computes = refl
+
+cut-header-computes : answerTo (words (7 ∷ 0 ∷ 2 ∷ 100003 ∷ 3 ∷ 0 ∷ 0 ∷ 0 ∷ 0 ∷ [])) rootAlone space 0 ≡ 5
+unfolding computing
+cut-header-computes = refl
+
+long-credential-computes : answerTo (words (7 ∷ 0 ∷ 2 ∷ 100003 ∷ 3 ∷ 0 ∷ 0 ∷ 401 ∷ []) ++ zeros 412) rootAlone space 0 ≡ 5
+unfolding computing
+long-credential-computes = refl
+
+credential-fits-computes : answerTo (words (7 ∷ 0 ∷ 2 ∷ 100003 ∷ 3 ∷ 0 ∷ 0 ∷ 400 ∷ []) ++ zeros 408) rootAlone space 0 ≡ 0
+unfolding computing
+credential-fits-computes = refl
+
+other-rpc-computes : served (words (7 ∷ 0 ∷ 3 ∷ [])) rootAlone ≡ replied (words (7 ∷ 1 ∷ 1 ∷ 0 ∷ 2 ∷ 2 ∷ [])) rootAlone
+unfolding computing
+other-rpc-computes = refl
+
+other-program-computes : served (words (7 ∷ 0 ∷ 2 ∷ 100005 ∷ 4 ∷ 22 ∷ 0 ∷ 0 ∷ 0 ∷ 0 ∷ [])) rootAlone ≡ replied (words (7 ∷ 1 ∷ 0 ∷ 0 ∷ 0 ∷ 1 ∷ [])) rootAlone
+unfolding computing
+other-program-computes = refl
+
+other-version-computes : served (words (7 ∷ 0 ∷ 2 ∷ 100003 ∷ 2 ∷ 22 ∷ 0 ∷ 0 ∷ 0 ∷ 0 ∷ [])) rootAlone ≡ replied (words (7 ∷ 1 ∷ 0 ∷ 0 ∷ 0 ∷ 2 ∷ 3 ∷ 3 ∷ [])) rootAlone
+unfolding computing
+other-version-computes = refl
+
+other-procedure-computes : served (callTo 22 []) rootAlone ≡ replied (words (7 ∷ 1 ∷ 0 ∷ 0 ∷ 0 ∷ 3 ∷ [])) rootAlone
+unfolding computing
+other-procedure-computes = refl
+
+left-over-computes : served (callTo 0 (words (0 ∷ []))) rootAlone ≡ replied (words (7 ∷ 1 ∷ 0 ∷ 0 ∷ 0 ∷ 4 ∷ [])) rootAlone
+unfolding computing
+left-over-computes = refl
+
+long-handle-computes : served (callTo 1 (words (65 ∷ []) ++ zeros 68)) rootAlone ≡ replied (words (7 ∷ 1 ∷ 0 ∷ 0 ∷ 0 ∷ 4 ∷ [])) rootAlone
+unfolding computing
+long-handle-computes = refl
+
+not-served-computes : served (callTo 15 (words (9 ∷ []))) rootAlone ≡ replied (answered (10004 ∷ 0 ∷ 0 ∷ 0 ∷ [])) rootAlone
+unfolding computing
+not-served-computes = refl
+
+bad-handle-computes : served (callTo 14 (words (0 ∷ 0 ∷ 0 ∷ 0 ∷ []))) rootAlone ≡ replied (answered (10001 ∷ 0 ∷ 0 ∷ 0 ∷ 0 ∷ [])) rootAlone
+unfolding computing
+bad-handle-computes = refl
+
+object-past-end-computes : statusIn (served (getattrCall 1) rootAlone) ≡ 10001
+unfolding computing
+object-past-end-computes = refl
+
+guard-first-computes : statusIn (served (setattrCall 0 (1 ∷ 4096 ∷ 0 ∷ 0 ∷ 0 ∷ 0 ∷ 0 ∷ 1 ∷ 0 ∷ 0 ∷ [])) rootAlone) ≡ 10002
+unfolding computing
+guard-first-computes = refl
+
+mode-over-computes : statusIn (served (setattrCall 0 (1 ∷ 4096 ∷ 0 ∷ 0 ∷ 0 ∷ 0 ∷ 0 ∷ 0 ∷ [])) rootAlone) ≡ 22
+unfolding computing
+mode-over-computes = refl
+
+mode-fits-computes : statusIn (served (setattrCall 0 (1 ∷ 4095 ∷ 0 ∷ 0 ∷ 0 ∷ 0 ∷ 0 ∷ 0 ∷ [])) rootAlone) ≡ 0
+unfolding computing
+mode-fits-computes = refl
+
+directory-size-computes : statusIn (served (setattrCall 0 (0 ∷ 0 ∷ 0 ∷ 1 ∷ 0 ∷ 0 ∷ 0 ∷ 0 ∷ 0 ∷ [])) rootAlone) ≡ 22
+unfolding computing
+directory-size-computes = refl
+
+no-room-computes : statusIn (served (setattrCall 1 (0 ∷ 0 ∷ 0 ∷ 1 ∷ 0 ∷ 513 ∷ 0 ∷ 0 ∷ 0 ∷ [])) (after (createCall nameA ∷ []) (fresh 2 1 1))) ≡ 28
+unfolding computing
+no-room-computes = refl
+
+exclusive-computes : statusIn (served (createBy [] (2 ∷ 0 ∷ 0 ∷ [])) rootAlone) ≡ 10004
+unfolding computing
+exclusive-computes = refl
+
+empty-name-computes : statusIn (served (createCall []) rootAlone) ≡ 13
+unfolding computing
+empty-name-computes = refl
+
+long-name-computes : statusIn (served (createCall (replicate 33 0x61)) rootAlone) ≡ 63
+unfolding computing
+long-name-computes = refl
+
+create-dot-computes : statusIn (served (createBy (0x2E ∷ []) (0 ∷ 1 ∷ 4096 ∷ 0 ∷ 0 ∷ 0 ∷ 0 ∷ 0 ∷ [])) rootAlone) ≡ 17
+unfolding computing
+create-dot-computes = refl
+
+invalid-first-computes : statusIn (served (createBy nameA (1 ∷ 1 ∷ 4096 ∷ 0 ∷ 0 ∷ 0 ∷ 0 ∷ 0 ∷ [])) withA) ≡ 22
+unfolding computing
+invalid-first-computes = refl
+
+guarded-computes : statusIn (served (createBy nameA (1 ∷ 0 ∷ 0 ∷ 0 ∷ 0 ∷ 0 ∷ 0 ∷ [])) withA) ≡ 17
+unfolding computing
+guarded-computes = refl
+
+mkdir-size-computes : statusIn (served (mkdirBy nameA (0 ∷ 0 ∷ 0 ∷ 1 ∷ 0 ∷ 0 ∷ 0 ∷ 0 ∷ [])) withA) ≡ 22
+unfolding computing
+mkdir-size-computes = refl
+
+remove-dot-computes : statusIn (served (removeCall (0x2E ∷ [])) withA) ≡ 13
+unfolding computing
+remove-dot-computes = refl
+
+remove-none-computes : statusIn (served (removeCall nameB) withA) ≡ 2
+unfolding computing
+remove-none-computes = refl
+
+remove-directory-computes : statusIn (served (removeCall nameA) twoDirectories) ≡ 13
+unfolding computing
+remove-directory-computes = refl
+
+rmdir-dot-computes : statusIn (served (rmdirCall (0x2E ∷ [])) withA) ≡ 22
+unfolding computing
+rmdir-dot-computes = refl
+
+rmdir-file-computes : statusIn (served (rmdirCall nameA) withA) ≡ 20
+unfolding computing
+rmdir-file-computes = refl
+
+rmdir-full-computes : statusIn (served (rmdirCall nameA) twoDirectories) ≡ 66
+unfolding computing
+rmdir-full-computes = refl
+
+generation-raised-computes : wordAfter (removeCall nameA) withA (12 + 80 + 4) ≡ 1
+unfolding computing
+generation-raised-computes = refl
+
+stale-after-computes : statusIn (served (getattrCall 1) (after (removeCall nameA ∷ createCall nameB ∷ []) withA)) ≡ 70
+unfolding computing
+stale-after-computes = refl
+
+rename-exists-computes : statusIn (served (renameCall 0 nameA 1 nameB) twoDirectories) ≡ 17
+unfolding computing
+rename-exists-computes = refl
+
+rename-below-computes : statusIn (served (renameCall 0 nameA 2 nameA) twoDirectories) ≡ 22
+unfolding computing
+rename-below-computes = refl
+
+rename-itself-computes : statusIn (served (renameCall 0 nameA 1 nameA) twoDirectories) ≡ 22
+unfolding computing
+rename-itself-computes = refl
+
+rename-up-computes : check (after (renameCall 1 nameB 0 nameB ∷ []) twoDirectories) ≡ 0
+unfolding computing
+rename-up-computes = refl
+
+count-first-computes : statusIn (served (callTo 7 (handleTo 1 ++ words (0 ∷ 9000 ∷ 2 ∷ 2 ∷ []) ++ opaqueBytes nameA)) withA) ≡ 22
+unfolding computing
+count-first-computes = refl
+
+huge-offset-computes : statusIn (served (callTo 7 (handleTo 1 ++ words (4294967295 ∷ 4294967295 ∷ 1 ∷ 2 ∷ []) ++ opaqueBytes nameA)) withA) ≡ 27
+unfolding computing
+huge-offset-computes = refl
+
+bad-cookie-computes : statusIn (served (callTo 16 (handleTo 0 ++ words (0 ∷ 0 ∷ 0 ∷ 1 ∷ 0 ∷ []))) rootAlone) ≡ 10003
+unfolding computing
+bad-cookie-computes = refl
+
+nothing-fits-computes : statusIn (served (readdirCall 2 103) rootAlone) ≡ 10005
+unfolding computing
+nothing-fits-computes = refl
+
+access-directory-computes : served (callTo 4 (handleTo 0 ++ words (0xFFFFFFFF ∷ []))) rootAlone ≡ replied (answered (0 ∷ 1 ∷ rootWords ++ (0x1F ∷ []))) rootAlone
+unfolding computing
+access-directory-computes = refl
+
+fsstat-computes : served (callTo 18 (handleTo 0)) (fresh 1 0 0) ≡ replied (answered (0 ∷ 1 ∷ rootWords ++ (0 ∷ 0 ∷ 0 ∷ 0 ∷ 0 ∷ 0 ∷ 0 ∷ 1 ∷ 0 ∷ 0 ∷ 0 ∷ 0 ∷ 0 ∷ []))) rootAlone
+unfolding computing
+fsstat-computes = refl
+
+fsinfo-computes : served (callTo 19 (handleTo 0)) rootAlone ≡ replied (answered (0 ∷ 1 ∷ rootWords ++ (4096 ∷ 4096 ∷ 1 ∷ 4096 ∷ 4096 ∷ 1 ∷ 4096 ∷ 0 ∷ 8192 ∷ 0 ∷ 1 ∷ 0x18 ∷ []))) rootAlone
+unfolding computing
+fsinfo-computes = refl
+
+pathconf-computes : served (callTo 20 (handleTo 0)) rootAlone ≡ replied (answered (0 ∷ 1 ∷ rootWords ++ (1 ∷ 32 ∷ 1 ∷ 0 ∷ 0 ∷ 1 ∷ []))) rootAlone
+unfolding computing
+pathconf-computes = refl
+
+format-clock-computes : format (zeros 99) 9 0 0 0 (record { seconds = 0; nanoseconds = 1000000000 }) .number ≡ 3
+unfolding computing
+format-clock-computes = refl
+
+format-count-computes : format (zeros 20) 9 0 0 0 (record { seconds = 0; nanoseconds = 0 }) .number ≡ 6
+unfolding computing
+format-count-computes = refl
+
+format-length-computes : format (zeros 99) 9 1 0 0 (record { seconds = 0; nanoseconds = 0 }) .number ≡ 6
+unfolding computing
+format-length-computes = refl
+
+pub edges : Edges
+edges =
+    record {
+      space-first = space-first-computes;
+      clock-second = clock-second-computes;
+      call-third = call-third-computes;
+      store-fourth = store-fourth-computes;
+      header-fifth = header-fifth-computes;
+      type-not-call = type-not-call-computes;
+      no-version = no-version-computes;
+      cut-header = cut-header-computes;
+      long-credential = long-credential-computes;
+      credential-fits = credential-fits-computes;
+      other-rpc = other-rpc-computes;
+      other-program = other-program-computes;
+      other-version = other-version-computes;
+      other-procedure = other-procedure-computes;
+      left-over = left-over-computes;
+      long-handle = long-handle-computes;
+      not-served = not-served-computes;
+      bad-handle = bad-handle-computes;
+      object-past-end = object-past-end-computes;
+      guard-first = guard-first-computes;
+      mode-over = mode-over-computes;
+      mode-fits = mode-fits-computes;
+      directory-size = directory-size-computes;
+      no-room = no-room-computes;
+      exclusive = exclusive-computes;
+      empty-name = empty-name-computes;
+      long-name = long-name-computes;
+      create-dot = create-dot-computes;
+      invalid-first = invalid-first-computes;
+      guarded = guarded-computes;
+      mkdir-size = mkdir-size-computes;
+      remove-dot = remove-dot-computes;
+      remove-none = remove-none-computes;
+      remove-directory = remove-directory-computes;
+      rmdir-dot = rmdir-dot-computes;
+      rmdir-file = rmdir-file-computes;
+      rmdir-full = rmdir-full-computes;
+      generation-raised = generation-raised-computes;
+      stale-after = stale-after-computes;
+      rename-exists = rename-exists-computes;
+      rename-below = rename-below-computes;
+      rename-itself = rename-itself-computes;
+      rename-up = rename-up-computes;
+      count-first = count-first-computes;
+      huge-offset = huge-offset-computes;
+      bad-cookie = bad-cookie-computes;
+      nothing-fits = nothing-fits-computes;
+      access-directory = access-directory-computes;
+      fsstat = fsstat-computes;
+      fsinfo = fsinfo-computes;
+      pathconf = pathconf-computes;
+      format-clock = format-clock-computes;
+      format-count = format-count-computes;
+      format-length = format-length-computes;
+    }

@@ -1,0 +1,316 @@
+//! Counting what the runs reach.
+
+use std::collections::BTreeMap;
+use std::fmt::Write;
+
+use super::driver::Outcome;
+use super::lane::status_of;
+use crate::numbers::{message, procedure, Status};
+
+pub const PROCEDURE_NAMES: [&str; 22] = [
+    "NULL",
+    "GETATTR",
+    "SETATTR",
+    "LOOKUP",
+    "ACCESS",
+    "READLINK",
+    "READ",
+    "WRITE",
+    "CREATE",
+    "MKDIR",
+    "SYMLINK",
+    "MKNOD",
+    "REMOVE",
+    "RMDIR",
+    "RENAME",
+    "LINK",
+    "READDIR",
+    "READDIRPLUS",
+    "FSSTAT",
+    "FSINFO",
+    "PATHCONF",
+    "COMMIT",
+];
+
+const STATUS_NAMES: [(Status, &str); 16] = [
+    (Status::OK, "OK"),
+    (Status::NOENT, "NOENT"),
+    (Status::ACCES, "ACCES"),
+    (Status::EXIST, "EXIST"),
+    (Status::NOTDIR, "NOTDIR"),
+    (Status::INVAL, "INVAL"),
+    (Status::FBIG, "FBIG"),
+    (Status::NOSPC, "NOSPC"),
+    (Status::NAMETOOLONG, "NAMETOOLONG"),
+    (Status::NOTEMPTY, "NOTEMPTY"),
+    (Status::STALE, "STALE"),
+    (Status::BADHANDLE, "BADHANDLE"),
+    (Status::NOT_SYNC, "NOT_SYNC"),
+    (Status::BAD_COOKIE, "BAD_COOKIE"),
+    (Status::NOTSUPP, "NOTSUPP"),
+    (Status::TOOSMALL, "TOOSMALL"),
+];
+
+pub fn status_name(status: u32) -> &'static str {
+    STATUS_NAMES
+        .iter()
+        .find(|(known, _)| known.0 == status)
+        .map_or("unknown", |(_, name)| name)
+}
+
+/// Every status that document 01 gives for each procedure.
+pub fn expected_pairs() -> Vec<(u32, Status)> {
+    const HANDLE: [Status; 3] = [Status::OK, Status::BADHANDLE, Status::STALE];
+    const NAME: [Status; 3] = [Status::NOTDIR, Status::ACCES, Status::NAMETOOLONG];
+    let mut pairs = Vec::new();
+    let mut add = |number: u32, lists: &[&[Status]]| {
+        for list in lists {
+            pairs.extend(list.iter().map(|&status| (number, status)));
+        }
+    };
+    add(procedure::GETATTR, &[&HANDLE]);
+    add(
+        procedure::SETATTR,
+        &[&HANDLE, &[Status::NOT_SYNC, Status::INVAL, Status::NOSPC]],
+    );
+    add(procedure::LOOKUP, &[&HANDLE, &NAME, &[Status::NOENT]]);
+    add(procedure::ACCESS, &[&HANDLE]);
+    add(procedure::READ, &[&HANDLE, &[Status::INVAL]]);
+    add(
+        procedure::WRITE,
+        &[&HANDLE, &[Status::INVAL, Status::FBIG, Status::NOSPC]],
+    );
+    add(
+        procedure::CREATE,
+        &[
+            &HANDLE,
+            &NAME,
+            &[Status::NOTSUPP, Status::EXIST, Status::INVAL, Status::NOSPC],
+        ],
+    );
+    add(
+        procedure::MKDIR,
+        &[
+            &HANDLE,
+            &NAME,
+            &[Status::EXIST, Status::INVAL, Status::NOSPC],
+        ],
+    );
+    add(procedure::REMOVE, &[&HANDLE, &NAME, &[Status::NOENT]]);
+    add(
+        procedure::RMDIR,
+        &[
+            &HANDLE,
+            &NAME,
+            &[Status::INVAL, Status::NOENT, Status::NOTEMPTY],
+        ],
+    );
+    add(
+        procedure::RENAME,
+        &[
+            &HANDLE,
+            &NAME,
+            &[Status::INVAL, Status::NOENT, Status::EXIST],
+        ],
+    );
+    add(
+        procedure::READDIR,
+        &[
+            &HANDLE,
+            &[Status::NOTDIR, Status::BAD_COOKIE, Status::TOOSMALL],
+        ],
+    );
+    add(procedure::FSSTAT, &[&HANDLE]);
+    add(procedure::FSINFO, &[&HANDLE]);
+    add(procedure::PATHCONF, &[&HANDLE]);
+    add(procedure::COMMIT, &[&HANDLE, &[Status::INVAL]]);
+    for number in [
+        procedure::READLINK,
+        procedure::SYMLINK,
+        procedure::MKNOD,
+        procedure::LINK,
+        procedure::READDIRPLUS,
+    ] {
+        add(number, &[&[Status::NOTSUPP]]);
+    }
+    pairs
+}
+
+/// The RPC outcomes, in the order of their tests.
+const OUTCOMES: [&str; 6] = [
+    "denied, RPC_MISMATCH",
+    "PROG_UNAVAIL",
+    "PROG_MISMATCH",
+    "PROC_UNAVAIL",
+    "GARBAGE_ARGS",
+    "SUCCESS",
+];
+
+/// Counters of what has been reached.
+#[derive(Default)]
+pub struct Coverage {
+    pub pairs: BTreeMap<(u32, u32), u64>,
+    pub null: u64,
+    pub garbage: BTreeMap<u32, u64>,
+    outcomes: BTreeMap<usize, u64>,
+    calls: [u64; 7],
+    formats: [u64; 7],
+    checks: [u64; 7],
+    notes: BTreeMap<&'static str, BTreeMap<String, u64>>,
+}
+
+impl Coverage {
+    pub fn format(&mut self, number: u32) {
+        self.formats[number as usize] += 1;
+    }
+
+    pub fn check(&mut self, number: u32) {
+        self.checks[number as usize] += 1;
+    }
+
+    pub fn note(&mut self, group: &'static str, label: &str) {
+        *self
+            .notes
+            .entry(group)
+            .or_default()
+            .entry(label.to_owned())
+            .or_default() += 1;
+    }
+
+    pub fn call(&mut self, call: &[u8], outcome: &Outcome) {
+        self.calls[outcome.answer.number as usize] += 1;
+        if outcome.answer.number != 0 {
+            return;
+        }
+        let word = |bytes: &[u8], at: usize| {
+            u32::from_be_bytes([
+                bytes[4 * at],
+                bytes[4 * at + 1],
+                bytes[4 * at + 2],
+                bytes[4 * at + 3],
+            ])
+        };
+        let place = if word(&outcome.reply, 2) != message::ACCEPTED {
+            0
+        } else {
+            match word(&outcome.reply, 5) {
+                message::PROG_UNAVAIL => 1,
+                message::PROG_MISMATCH => 2,
+                message::PROC_UNAVAIL => 3,
+                message::GARBAGE_ARGS => 4,
+                _ => 5,
+            }
+        };
+        *self.outcomes.entry(place).or_default() += 1;
+        let number = if place >= 4 { word(call, 5) } else { 0 };
+        if place == 4 {
+            *self.garbage.entry(number).or_default() += 1;
+        } else if place == 5 {
+            match status_of(&outcome.reply) {
+                Some(status) => *self.pairs.entry((number, status)).or_default() += 1,
+                None => self.null += 1,
+            }
+        }
+    }
+
+    /// What should have been reached and was not.
+    pub fn missing(&self) -> Vec<String> {
+        let mut missing = Vec::new();
+        for (number, status) in expected_pairs() {
+            if !self.pairs.contains_key(&(number, status.0)) {
+                missing.push(format!(
+                    "{} {}",
+                    PROCEDURE_NAMES[number as usize],
+                    status_name(status.0)
+                ));
+            }
+        }
+        for (number, name) in PROCEDURE_NAMES.iter().enumerate() {
+            let unread = [5, 10, 11, 15, 17].contains(&number);
+            if !unread && !self.garbage.contains_key(&(number as u32)) {
+                missing.push(format!("{name} GARBAGE_ARGS"));
+            }
+        }
+        for (place, name) in OUTCOMES.iter().enumerate() {
+            if !self.outcomes.contains_key(&place) {
+                missing.push((*name).to_owned());
+            }
+        }
+        if self.null == 0 {
+            missing.push("NULL".to_owned());
+        }
+        for number in 0..=5 {
+            if self.calls[number] == 0 {
+                missing.push(format!("call answer {number}"));
+            }
+        }
+        for number in [0, 3, 6] {
+            if self.formats[number] == 0 {
+                missing.push(format!("format answer {number}"));
+            }
+        }
+        for number in [0, 1] {
+            if self.checks[number] == 0 {
+                missing.push(format!("check answer {number}"));
+            }
+        }
+        missing
+    }
+
+    /// Statuses that document 01 does not give for their procedure.
+    pub fn unexpected(&self) -> Vec<String> {
+        let expected = expected_pairs();
+        self.pairs
+            .keys()
+            .filter(|(number, status)| !expected.contains(&(*number, Status(*status))))
+            .map(|&(number, status)| format!("{} {status}", PROCEDURE_NAMES[number as usize]))
+            .collect()
+    }
+
+    /// The tables as text.
+    pub fn tables(&self) -> String {
+        let mut text = String::new();
+        let mut line = |content: String| {
+            text.push_str(&content);
+            text.push('\n');
+        };
+        line("## By procedure and status\n".to_owned());
+        line("| procedure | status | calls |".to_owned());
+        line("|---|---|---:|".to_owned());
+        line(format!("| NULL | (none) | {} |", self.null));
+        for (&(number, status), count) in &self.pairs {
+            let procedure = PROCEDURE_NAMES[number as usize];
+            let status = status_name(status);
+            line(format!("| {procedure} | {status} | {count} |"));
+        }
+        line("\n## GARBAGE_ARGS by procedure\n".to_owned());
+        line("| procedure | calls |".to_owned());
+        line("|---|---:|".to_owned());
+        for (&number, count) in &self.garbage {
+            let procedure = PROCEDURE_NAMES[number as usize];
+            line(format!("| {procedure} | {count} |"));
+        }
+        line("\n## By RPC outcome\n".to_owned());
+        line("| outcome | calls |".to_owned());
+        line("|---|---:|".to_owned());
+        for (&place, count) in &self.outcomes {
+            line(format!("| {} | {count} |", OUTCOMES[place]));
+        }
+        line("\n## By answer number of each entry\n".to_owned());
+        line("| answer | calls | formats | checks |".to_owned());
+        line("|---:|---:|---:|---:|".to_owned());
+        for number in 0..7 {
+            line(format!(
+                "| {number} | {} | {} | {} |",
+                self.calls[number], self.formats[number], self.checks[number]
+            ));
+        }
+        for (group, labels) in &self.notes {
+            let _ = write!(text, "\n## {group}\n\n| what | times |\n|---|---:|\n");
+            for (label, count) in labels {
+                let _ = writeln!(text, "| {label} | {count} |");
+            }
+        }
+        text
+    }
+}

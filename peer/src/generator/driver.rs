@@ -1,0 +1,103 @@
+//! What a run does, and who carries it out.
+
+use crate::Answer;
+
+/// The arguments of a format besides the store.
+#[derive(Clone, Copy, PartialEq, Eq, Debug)]
+pub struct Format {
+    pub stamp: u32,
+    pub objects: u32,
+    pub names: u32,
+    pub blocks: u32,
+    pub seconds: u32,
+    pub nanoseconds: u32,
+}
+
+/// The arguments of a call besides the store.
+#[derive(Clone, Copy, PartialEq, Eq, Debug)]
+pub struct Call<'a> {
+    pub bytes: &'a [u8],
+    pub seconds: u32,
+    pub nanoseconds: u32,
+    pub verifier: u64,
+    /// The length of the reply space.
+    pub space: usize,
+}
+
+/// What a call answered, with the reply's bytes.
+#[derive(Clone, PartialEq, Eq, Debug)]
+pub struct Outcome {
+    pub answer: Answer,
+    pub reply: Vec<u8>,
+}
+
+/// The value of every store byte when a run starts.
+pub const FRESH: u8 = 0xA5;
+/// The value of every byte of the reply space before a call.
+pub const SPARE: u8 = 0x5A;
+/// The most bytes of one patch.
+pub const MAX_PATCH: usize = 8192;
+
+/// Carries out the steps of a run on a store buffer of its own.
+pub trait Driver {
+    /// A new run: the store buffer becomes `length` bytes of value 0xA5.
+    fn start(&mut self, number: u32, length: usize, title: &str);
+    fn format(&mut self, plan: Format) -> Answer;
+    /// Overwrites bytes inside the store buffer.
+    fn patch(&mut self, offset: usize, bytes: &[u8]);
+    fn check(&mut self) -> Answer;
+    fn call(&mut self, call: Call<'_>) -> Outcome;
+    fn store(&self) -> &[u8];
+    /// Counts one thing that a script is about to reach.
+    fn note(&mut self, _group: &'static str, _label: &str) {}
+}
+
+/// The peer's own store buffer.
+#[derive(Default)]
+pub struct Peer {
+    pub store: Vec<u8>,
+    space: Vec<u8>,
+}
+
+impl Peer {
+    pub fn start(&mut self, length: usize) {
+        self.store.clear();
+        self.store.resize(length, FRESH);
+    }
+
+    pub fn format(&mut self, plan: Format) -> Answer {
+        crate::format(
+            &mut self.store,
+            plan.stamp,
+            plan.objects,
+            plan.names,
+            plan.blocks,
+            plan.seconds,
+            plan.nanoseconds,
+        )
+    }
+
+    pub fn patch(&mut self, offset: usize, bytes: &[u8]) {
+        assert!(bytes.len() <= MAX_PATCH);
+        self.store[offset..offset + bytes.len()].copy_from_slice(bytes);
+    }
+
+    pub fn call(&mut self, call: Call<'_>) -> Outcome {
+        self.space.clear();
+        self.space.resize(call.space, SPARE);
+        let answer = crate::call(
+            call.bytes,
+            &mut self.store,
+            &mut self.space,
+            call.seconds,
+            call.nanoseconds,
+            call.verifier,
+        );
+        let length = answer.length as usize;
+        assert!(self.space[length..].iter().all(|&byte| byte == SPARE));
+        Outcome {
+            answer,
+            reply: self.space[..length].to_vec(),
+        }
+    }
+}

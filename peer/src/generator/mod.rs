@@ -1,0 +1,13 @@
+//! Seeded runs of calls for the vector file and for comparing two
+//! implementations. Nothing here is used by the entry points.
+
+pub mod coverage;
+pub mod driver;
+pub mod encode;
+pub mod lane;
+pub mod random;
+pub mod random_runs;
+pub mod recorder;
+pub mod scripts;
+pub mod vector_file;
+pub mod view;

@@ -1,0 +1,119 @@
+//! The runs of the vector file, recorded with the peer's answers.
+
+use super::coverage::Coverage;
+use super::driver::{Call, Driver, Format, Outcome, Peer};
+use super::random_runs::{self, Extent};
+use super::scripts::{self, Runs};
+use super::vector_file::{digest, Writer};
+use crate::Answer;
+
+const SEED: u64 = 1813;
+
+/// Random runs after the scripted ones: extent, how many, steps in each, the
+/// largest transfer.
+const RANDOM_RUNS: [(Extent, usize, usize, usize); 5] = [
+    (Extent::Small, 48, 60, 250),
+    (Extent::Middle, 24, 110, 250),
+    (Extent::Middle, 3, 50, 5000),
+    (Extent::Wide, 4, 120, 200),
+    (Extent::Largest, 2, 60, 600),
+];
+const RAW_STORE_RUNS: usize = 30;
+
+/// Runs the peer and writes down what it answers.
+#[derive(Default)]
+struct Recorder {
+    peer: Peer,
+    writer: Writer,
+    coverage: Coverage,
+    digested: u64,
+}
+
+impl Recorder {
+    fn digest(&mut self) -> u64 {
+        self.digested += self.peer.store.len() as u64;
+        digest(&self.peer.store)
+    }
+}
+
+impl Driver for Recorder {
+    fn start(&mut self, number: u32, length: usize, _title: &str) {
+        self.peer.start(length);
+        self.writer.start(number, length);
+    }
+
+    fn format(&mut self, plan: Format) -> Answer {
+        let answer = self.peer.format(plan);
+        assert_eq!(answer.length, 0);
+        let digest = self.digest();
+        self.writer.format(&plan, answer.number, digest);
+        self.coverage.format(answer.number);
+        answer
+    }
+
+    fn patch(&mut self, offset: usize, bytes: &[u8]) {
+        self.peer.patch(offset, bytes);
+        self.writer.patch(offset, bytes);
+    }
+
+    fn check(&mut self) -> Answer {
+        let answer = crate::check(&self.peer.store);
+        assert_eq!(answer.length, 0);
+        self.writer.check(answer.number);
+        self.coverage.check(answer.number);
+        answer
+    }
+
+    fn call(&mut self, call: Call<'_>) -> Outcome {
+        let outcome = self.peer.call(call);
+        let digest = self.digest();
+        self.writer.call(&call, &outcome, digest);
+        self.coverage.call(call.bytes, &outcome);
+        outcome
+    }
+
+    fn store(&self) -> &[u8] {
+        &self.peer.store
+    }
+
+    fn note(&mut self, group: &'static str, label: &str) {
+        self.coverage.note(group, label);
+    }
+}
+
+/// A finished vector file.
+pub struct Recording {
+    pub vectors: Vec<u8>,
+    /// What a replay without differences prints.
+    pub stdout: String,
+    pub coverage: Coverage,
+    /// Store bytes that a replay digests.
+    pub digested: u64,
+}
+
+/// Records every run of the vector file.
+pub fn record() -> Recording {
+    let mut recorder = Recorder::default();
+    let mut runs = Runs {
+        driver: &mut recorder,
+        next: 0,
+    };
+    scripts::all(&mut runs);
+    for (extent, count, steps, transfer) in RANDOM_RUNS {
+        for _ in 0..count {
+            let number = runs.take_number();
+            random_runs::run(runs.driver, number, SEED, extent, steps, transfer);
+        }
+    }
+    for _ in 0..RAW_STORE_RUNS {
+        let number = runs.take_number();
+        random_runs::raw_store_run(runs.driver, number, SEED);
+    }
+    let (vectors, stdout) = recorder.writer.finish();
+    Recording {
+        vectors,
+        stdout,
+        coverage: recorder.coverage,
+        digested: recorder.digested,
+    }
+}

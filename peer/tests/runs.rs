@@ -1,0 +1,116 @@
+//! Random runs on the peer alone: what holds for every call, whatever it is.
+
+mod common;
+use common::plain::plain_check;
+use peer::generator::driver::{Call, Driver, Format, Outcome, Peer};
+use peer::generator::lane::status_of;
+use peer::generator::random_runs::{self, Extent};
+use peer::generator::scripts::{self, Runs};
+use peer::Answer;
+
+/// Runs the peer and tests every outcome.
+#[derive(Default)]
+struct Tester {
+    peer: Peer,
+    calls: usize,
+    changed: usize,
+    damaged: usize,
+}
+
+impl Driver for Tester {
+    fn start(&mut self, _number: u32, length: usize, _title: &str) {
+        self.peer.start(length);
+    }
+
+    fn format(&mut self, plan: Format) -> Answer {
+        let before = self.peer.store.clone();
+        let answer = self.peer.format(plan);
+        assert_eq!(answer.length, 0);
+        if answer.number == 0 {
+            assert!(plain_check(&self.peer.store));
+        } else {
+            assert!([3, 6].contains(&answer.number));
+            assert!(before == self.peer.store);
+        }
+        answer
+    }
+
+    fn patch(&mut self, offset: usize, bytes: &[u8]) {
+        self.peer.patch(offset, bytes);
+    }
+
+    fn check(&mut self) -> Answer {
+        let answer = peer::check(&self.peer.store);
+        let number = u32::from(!plain_check(&self.peer.store));
+        assert_eq!(answer, Answer { number, length: 0 });
+        answer
+    }
+
+    fn call(&mut self, call: Call<'_>) -> Outcome {
+        let before = self.peer.store.clone();
+        let valid = plain_check(&before);
+        let outcome = self.peer.call(call);
+        self.calls += 1;
+        let wanted = if call.space < 4224 {
+            2
+        } else if call.nanoseconds >= 1_000_000_000 {
+            3
+        } else if call.bytes.len() > 8192 {
+            4
+        } else if !valid {
+            1
+        } else {
+            outcome.answer.number
+        };
+        assert_eq!(outcome.answer.number, wanted);
+        self.damaged += usize::from(wanted == 1);
+        let reply = &outcome.reply;
+        match wanted {
+            0 => {
+                assert!((24..=4224).contains(&reply.len()) && reply.len().is_multiple_of(4));
+                assert_eq!(reply[..4], call.bytes[..4]);
+                assert!(plain_check(&self.peer.store));
+            }
+            1..=5 => assert!(reply.is_empty()),
+            other => panic!("answer {other}"),
+        }
+        if status_of(reply) == Some(0) {
+            self.changed += usize::from(before != self.peer.store);
+        } else {
+            assert!(before == self.peer.store);
+        }
+        outcome
+    }
+
+    fn store(&self) -> &[u8] {
+        &self.peer.store
+    }
+}
+
+#[test]
+fn scripted_runs() {
+    let mut tester = Tester::default();
+    let mut runs = Runs {
+        driver: &mut tester,
+        next: 0,
+    };
+    scripts::all(&mut runs);
+    assert!(tester.calls > 3000 && tester.changed > 300 && tester.damaged > 200);
+}
+
+#[test]
+fn random_runs() {
+    let mut tester = Tester::default();
+    for number in 0..120 {
+        random_runs::run(&mut tester, number, 99, Extent::Small, 80, 600);
+        random_runs::raw_store_run(&mut tester, number, 98);
+    }
+    for number in 0..30 {
+        random_runs::run(&mut tester, number, 97, Extent::Middle, 120, 5000);
+    }
+    for number in 0..4 {
+        random_runs::run(&mut tester, number, 96, Extent::Wide, 200, 600);
+    }
+    random_runs::run(&mut tester, 0, 95, Extent::Largest, 40, 5000);
+    assert!(tester.calls > 10_000 && tester.changed > 1500 && tester.damaged > 200);
+}
