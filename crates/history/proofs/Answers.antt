@@ -25,13 +25,13 @@ use Rattle.spec.proofs.Count.{by-bool, count-bound}
 use Rattle.spec.proofs.Error.{statusOf}
 use Rattle.spec.proofs.Range.{be-below}
 use Rattle.spec.proofs.RecordRange.{objectAt-fits}
-use Rattle.history.specs.Book.{Ledger, handleBytes, statusIn, isOk}
+use Rattle.history.specs.Book.{Ledger, handleBytes, isStatus, isOk}
 use Rattle.history.specs.Run.{Request, replyTo}
 use Rattle.history.specs.Statement as Shown
-use Rattle.history.specs.Statement.{HasLine, Asks, objectIn, shownKind, shownFree, shownAvailable}
+use Rattle.history.specs.Statement.{HasLine, Asks, objectIn, shownKind, shownFree, shownFreeAgain, shownAvailable, shownAvailableAgain}
 use Rattle.history.proofs.View.{Live}
 use Rattle.history.proofs.Handles.{handle-length, handle-stamp, handle-object, handle-generation}
-use Rattle.history.proofs.Replies.{Begins, begins, word-of, long-of, ok-is, status-is}
+use Rattle.history.proofs.Replies.{Begins, begins, word-of, long-of, ok-is, answered-is}
 use Rattle.history.proofs.Seen.{view, kind-at, gen-at, live-in}
 use Rattle.history.proofs.Inv.{Inv, tree, good, live-seen}
 use Rattle.history.proofs.Making.{handle-seen}
@@ -127,14 +127,14 @@ module _ (σ p q r : ℕ) (s : Store) (L : Ledger) (I : Inv σ p q r s L) where
 
   -- ---- a removed handle
   pub getattr-stale : (x : Request) (h : Part) → Asks x (Call.Getattr h) → (o g : ℕ) → o < p → g < 4294967296 → g < view s .gen o
-      → cut (x .call) h ≡ handleBytes σ o g → statusIn (replyTo s x) ≡ 70
+      → cut (x .call) h ≡ handleBytes σ o g → isStatus 70 (replyTo s x) ≡ true
   unfolding act getattr statusOf
   getattr-stale x h k o g l m n e =
       let A = answer-to σ p q r s L I x (Call.Getattr h) k in
       let w : settle s dead (reach s (cut (x .call) h)) (λ o. unchanged s (gotAttributes (attributes s o))) .result ≡ dead 70 =
       ap (λ (c : Checked ℕ). settle s dead c (λ o. unchanged s (gotAttributes (attributes s o))) .result) (ap (reach s) e ∙ reach-stale o g l m n) in
-      ap statusIn (A .is ∙ ap (λ (v : Result). accepted (A .xid) 0 (resultBytes (A .procedure) v)) w)
-      ∙ status-is (A .xid) (A .procedure) (dead 70) (dead-says 70 .some) (lit< tt)
+      ap (isStatus 70) (A .is ∙ ap (λ (v : Result). accepted (A .xid) 0 (resultBytes (A .procedure) v)) w)
+      ∙ answered-is (A .xid) (A .procedure) (dead 70) (dead-says 70 .some) (lit< tt) 70
 
   -- ---- FSSTAT
   roomWords : ℕ → List ℕ
@@ -160,7 +160,8 @@ module _ (σ p q r : ℕ) (s : Store) (L : Ledger) (I : Inv σ p q r s L) where
   two-words n l = omega arith
 
   pub fsstat-room : (x : Request) (h : Part) (kind : ℕ) → Asks x (Call.Fsstat h) → HasLine (L .book) (cut (x .call) h) kind
-      → (isOk (replyTo s x) ≡ true) × (shownFree (replyTo s x) ≡ 512 * freeBlockCount s) × (shownAvailable (replyTo s x) ≡ availableCount s)
+      → (isOk (replyTo s x) ≡ true) × (shownFree (replyTo s x) ≡ 512 * freeBlockCount s) × (shownFreeAgain (replyTo s x) ≡ 512 * freeBlockCount s)
+      × (shownAvailable (replyTo s x) ≡ availableCount s) × (shownAvailableAgain (replyTo s x) ≡ availableCount s)
   unfolding roomWords postOp fattr3 freeBlockCount availableCount
   fsstat-room x h kind k l =
       let (o, e, v, f, i) = reach-lined (cut (x .call) h) kind l in
@@ -172,5 +173,7 @@ module _ (σ p q r : ℕ) (s : Store) (L : Ledger) (I : Inv σ p q r s L) where
       let x2 : availableCount s < 4294967296 = omega arith in (
         ok-is (replyTo s x) xid (roomWords o) [] b (omega arith) (lit< tt),
         long-of (replyTo s x) xid (roomWords o) [] b 25 (omega arith) (omega arith) (omega arith) ∙ two-words (512 * freeBlockCount s) x1,
+        long-of (replyTo s x) xid (roomWords o) [] b 27 (omega arith) (omega arith) (omega arith) ∙ two-words (512 * freeBlockCount s) x1,
         long-of (replyTo s x) xid (roomWords o) [] b 31 (omega arith) (omega arith) (omega arith) ∙ two-words (availableCount s) x2,
+        long-of (replyTo s x) xid (roomWords o) [] b 33 (omega arith) (omega arith) (omega arith) ∙ two-words (availableCount s) x2,
       )

@@ -114,9 +114,14 @@ asked call = headedArguments call (header call 0)
 abbrev pub statusIn : List ℕ → ℕ
 statusIn reply = beAt reply 24 4
 
--- "a call answered OK": an accepted reply with accept_stat SUCCESS, 0, and the status OK
+-- an accepted reply with accept_stat SUCCESS, 0, and that status
+unfoldable pub isStatus : ℕ → List ℕ → Bool
+isStatus status reply = leb 28 (length reply) && (eqb (beAt reply 20 4) 0 && eqb (statusIn reply) status)
+
+-- "a call answered OK"
 unfoldable pub isOk : List ℕ → Bool
-isOk reply = leb 28 (length reply) && (eqb (beAt reply 20 4) 0 && eqb (statusIn reply) OK)
+unfolding isStatus
+isOk reply = isStatus OK reply
 
 -- the handle that stands at an index of a reply as opaque data: its length, then its bytes
 abbrev pub handleAt : List ℕ → ℕ → List ℕ

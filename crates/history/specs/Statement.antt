@@ -30,7 +30,7 @@ use Rattle.spec.specs.Procedures.Attributes.{isGiven, sizeSet, badAttributes, d
 use Rattle.spec.specs.Procedures.Data.{mostBytes, reachRegular, grown}
 use Rattle.spec.specs.Procedures.Names.{checkNew}
 use Rattle.spec.specs.Serve.{format}
-use Rattle.history.specs.Book.{Standing, asRoot, under, Line, Book, Ledger, handleBytes, firstLedger, asked, statusIn, isOk, foundHandle, madeHandle}
+use Rattle.history.specs.Book.{Standing, asRoot, under, Line, Book, Ledger, handleBytes, firstLedger, asked, isStatus, isOk, foundHandle, madeHandle}
 use Rattle.history.specs.Run.{Request, Lent, AllLent, replyTo, State, step, run}
 
 -- ---- the words of the statement
@@ -88,7 +88,7 @@ pub data Carries (x : Request) (reply : List ℕ) : List ℕ → Type 0 where
   create : (p : NameIn) (manner : How) → asked (x .call) ≡ some (Call.Create p manner) → Carries x reply (madeHandle reply)
   mkdir : (p : NameIn) (a : Settable) → asked (x .call) ≡ some (Call.Mkdir p a) → Carries x reply (madeHandle reply)
 
--- what replies show: GETATTR's type and size; FSSTAT's free bytes and available objects
+-- what replies show: GETATTR's type and size; FSSTAT's free bytes and available objects, each twice
 abbrev pub shownKind : List ℕ → ℕ
 shownKind reply = beAt reply 28 4
 
@@ -98,8 +98,14 @@ shownSize reply = beAt reply 48 8
 abbrev pub shownFree : List ℕ → ℕ
 shownFree reply = beAt reply 124 8
 
+abbrev pub shownFreeAgain : List ℕ → ℕ
+shownFreeAgain reply = beAt reply 132 8
+
 abbrev pub shownAvailable : List ℕ → ℕ
 shownAvailable reply = beAt reply 148 8
+
+abbrev pub shownAvailableAgain : List ℕ → ℕ
+shownAvailableAgain reply = beAt reply 156 8
 
 -- the object of a handle
 abbrev pub objectIn : List ℕ → ℕ
@@ -148,7 +154,7 @@ objectsLeft stamp p L = p - (length (L .book) + spentRecords stamp p L)
 
 -- NOSPC exactly where the room is missing; OK where it is not
 pub record AnswersRoom (reply : List ℕ) (missing : Type 0) : Type 0 where
-  pub nospc : (statusIn reply ≡ NOSPC) ↔ missing
+  pub nospc : (isStatus NOSPC reply ≡ true) ↔ missing
   pub ok : (missing → ⊥) → isOk reply ≡ true
 
 -- a file's growth from one size to another asks for more blocks than are left
@@ -203,10 +209,11 @@ pub record Kept (σ p q r : ℕ) (w : State) : Type 0 where
   pub placesFit : placesIn (w .store) (w .ledger .book) ≤ r
   pub freeBytes : (x : Request) (h : Part) (kind : ℕ) → Asks x (Call.Fsstat h) → HasLine (w .ledger .book) (cut (x .call) h) kind
       → (isOk (replyTo (w .store) x) ≡ true) × (shownFree (replyTo (w .store) x) ≡ 512 * blocksLeft r (w .store) (w .ledger))
+      × (shownFreeAgain (replyTo (w .store) x) ≡ 512 * blocksLeft r (w .store) (w .ledger))
   -- "available objects P less the live ones and the records whose handle of generation 4,294,967,294 was removed"
   pub objectsFit : length (w .ledger .book) + spentRecords σ p (w .ledger) ≤ p
   pub available : (x : Request) (h : Part) (kind : ℕ) → Asks x (Call.Fsstat h) → HasLine (w .ledger .book) (cut (x .call) h) kind
-      → shownAvailable (replyTo (w .store) x) ≡ objectsLeft σ p (w .ledger)
+      → (shownAvailable (replyTo (w .store) x) ≡ objectsLeft σ p (w .ledger)) × (shownAvailableAgain (replyTo (w .store) x) ≡ objectsLeft σ p (w .ledger))
   -- "free names Q less the lines with a name"
   pub namesFit : namedLines (w .ledger .book) ≤ q
   pub freeNames : freeNameCount (w .store) ≡ namesLeft q (w .ledger)
@@ -216,7 +223,7 @@ pub record Kept (σ p q r : ℕ) (w : State) : Type 0 where
       → (isOk (replyTo (w .store) x) ≡ true) × (shownKind (replyTo (w .store) x) ≡ kind)
   -- once its line is gone GETATTR answers STALE after any further calls: "its object is live until no line has it, then removed"
   pub stale : (g : List ℕ) → IsRemoved (w .ledger) g → (xs : List Request) → AllLent xs
-      → (x : Request) (h : Part) → Asks x (Call.Getattr h) → cut (x .call) h ≡ g → statusIn (replyTo (run w xs .store) x) ≡ STALE
+      → (x : Request) (h : Part) → Asks x (Call.Getattr h) → cut (x .call) h ≡ g → isStatus STALE (replyTo (run w xs .store) x) ≡ true
   -- it never has another object's line again
   pub neverAgain : (g : List ℕ) → IsRemoved (w .ledger) g → (xs : List Request) → AllLent xs → (kind : ℕ) → HasLine (run w xs .ledger .book) g kind → ⊥
   -- and keeps its type while it has one
@@ -235,6 +242,9 @@ pub record Kept (σ p q r : ℕ) (w : State) : Type 0 where
       → 0 < n → offset + min n mostBytes ≤ 8192
       → AnswersRoom (replyTo (w .store) x)
       (BlocksMissing r (w .store) (w .ledger) (sizeOf (w .store) o) (grown (w .store) o offset (min n mostBytes)))
+  -- WRITE of 0 bytes asks for no room:
+  pub writeNothing : (x : Request) (h : Part) (offset : ℕ) (bytes : Part) (o : ℕ) → Asks x (Call.Write h offset 0 bytes)
+      → reachRegular (w .store) (cut (x .call) h) ≡ passed o → 0 ≡ length (cut (x .call) bytes) → isOk (replyTo (w .store) x) ≡ true
   -- CREATE of a new file, UNCHECKED or GUARDED:
   pub createRoom : (x : Request) (target : NameIn) (manner : How) (a : Settable) (d : ℕ) → Asks x (Call.Create target manner)
       → (manner ≡ How.Unchecked a) ⊎ (manner ≡ How.Guarded a)
