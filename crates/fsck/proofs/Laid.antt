@@ -14,7 +14,7 @@ use Rattle.spec.specs.Bytes.{overlay, zeros, bytesOf, words}
 use Rattle.spec.specs.Image.{Store, objectBytes, putObject}
 use Rattle.spec.specs.Check.{goodCounts, imageLength, goodTime, passes}
 use Rattle.spec.specs.Serve.{formatted, Formatted, format}
-use Rattle.spec.proofs.Bytes.{bytes-length}
+use Rattle.spec.proofs.Bytes.{bytes-length, overlay-more}
 use Rattle.spec.proofs.Count.{by-bool, true-false, and-both}
 use Rattle.spec.proofs.Records.{object-length}
 use Rattle.spec.proofs.Words.{words-one}
@@ -53,17 +53,15 @@ step : (s s′ xs ys : List ℕ) (k g n rest at : ℕ) → s ≡ xs ++ zeros k �
 step s s′ xs ys k g n rest at a b c e l =
     b ∙ ap (λ (z : List ℕ). overlay z at ys) (a ∙ ap (λ (j : ℕ). xs ++ zeros j) c) ∙ lay xs ys g n rest at e l
 
-next : (s s′ xs ys : List ℕ) (k n rest at : ℕ) → s ≡ xs ++ zeros k → s′ ≡ overlay s at ys → k ≡ n + rest → at ≡ length xs → length ys ≡ n
-    → s′ ≡ xs ++ ys ++ zeros rest
-next s s′ xs ys k n rest at a b c e l =
-    step s s′ xs ys k 0 n rest at a b (omega arith) (omega arith) l ∙ ap (λ (z : List ℕ). z ++ ys ++ zeros rest) (append-nil xs)
-
 zero-more : (n : ℕ) → 0 + n ≡ n
 zero-more n = omega arith
 
 whole : (s xs : List ℕ) → length xs ≡ length s → overlay s 0 xs ≡ xs
 unfolding overlay
 whole s xs e = ap (λ (q : ℕ). xs ++ drop q s) (zero-more (length xs) ∙ e) ∙ ap (λ (z : List ℕ). xs ++ z) (drop-length s) ∙ append-nil xs
+
+long-all : (xs : List ℕ) (k n : ℕ) → length xs ≡ 92 → 92 + k ≡ n → length (xs ++ zeros k) ≡ n
+long-all xs k n e f = length-append xs (zeros k) ∙ ap₂ (λ (i j : ℕ). i + j) e (length-replicate k 0) ∙ f
 
 words-three : (a b c : ℕ) → words (a ∷ b ∷ c ∷ []) ≡ bytesOf 4 a ++ bytesOf 4 b ++ bytesOf 4 c
 unfolding words
@@ -77,23 +75,23 @@ module _ (s s₅ s₆ s₇ : List ℕ) (stamp p q r z : ℕ) (clock : Time) (m :
   run-front : s₅ ≡ frontOf s stamp p clock → s₅ ≡ bytesOf 4 1 ++ bytesOf 4 stamp ++ bytesOf 4 p ++ objectBytes (rootObject clock) ++ zeros (z + 4 + (44 * q + 4 + 512 * r))
   unfolding putObject frontOf
   run-front e =
-      let n = length s in
       let v = objectBytes (rootObject clock) in
       let b₁ = bytesOf 4 1 in
       let b₂ = bytesOf 4 stamp in
       let b₃ = bytesOf 4 p in
       let k = z + 4 + (44 * q + 4 + 512 * r) in
-      let s₁ = overlay s 0 (zeros n) in
-      let s₂ = overlay s₁ 0 b₁ in
-      let s₃ = overlay s₂ 4 b₂ in
-      let s₄ = overlay s₃ 8 b₃ in
-      let f₁ : s₁ ≡ zeros n = whole s (zeros n) (length-replicate n 0) in
-      let f₂ = next s₁ s₂ [] b₁ n 4 (88 + k) 0 f₁ refl (omega arith) refl (bytes-length 4 1) in
-      let l₂ : length b₁ ≡ 4 = bytes-length 4 1 in
-      let f₃ = next s₂ s₃ b₁ b₂ (88 + k) 4 (84 + k) 4 f₂ refl (omega arith) (sym l₂) (bytes-length 4 stamp) in
-      let l₃ : length (b₁ ++ b₂) ≡ 8 = simp (length-append, bytes-length) in
-      let f₄ = next s₃ s₄ (b₁ ++ b₂) b₃ (84 + k) 4 (80 + k) 8 f₃ refl (omega arith) (sym l₃) (bytes-length 4 p) in
-      next s₄ s₅ (b₁ ++ b₂ ++ b₃) v (80 + k) 80 k 12 f₄ e refl (sym three-length) (object-length (rootObject clock))
+      let s₁ = overlay s 0 b₁ in
+      let s₂ = overlay s₁ 4 b₂ in
+      let s₃ = overlay s₂ 8 b₃ in
+      let s₄ = overlay s₃ 12 v in
+      let l₂ : length (b₁ ++ b₂) ≡ 8 = simp (length-append, bytes-length) in
+      let l₄ : length (b₁ ++ b₂ ++ b₃ ++ v) ≡ 92 = simp (length-append, bytes-length, object-length) in
+      let f₂ = overlay-more s 0 b₁ b₂ s₁ s₂ 4 (omega arith) (bytes-length 4 1) refl refl in
+      let f₃ = overlay-more s 0 (b₁ ++ b₂) b₃ s₂ s₃ 8 (omega arith) l₂ f₂ refl in
+      let f₄ = overlay-more s 0 (b₁ ++ b₂ ++ b₃) v s₃ s₄ 12 (omega arith) three-length f₃ refl in
+      let w : length s - 92 ≡ k = omega arith in
+      let f₅ = overlay-more s 0 (b₁ ++ b₂ ++ b₃ ++ v) (zeros k) s₄ s₅ 92 (omega arith) l₄ f₄ (e ∙ ap (λ (n : ℕ). overlay s₄ 92 (zeros n)) w) in
+      f₅ ∙ whole s (b₁ ++ b₂ ++ b₃ ++ v ++ zeros k) (long-all (b₁ ++ b₂ ++ b₃ ++ v) k (length s) l₄ (omega arith))
 
   run-counts : (at bt : ℕ) → s₅ ≡ frontOf s stamp p clock → at ≡ 12 + 80 * p → bt ≡ 16 + 80 * p + 44 * q → s₆ ≡ overlay s₅ at (bytesOf 4 q)
       → s₇ ≡ overlay s₆ bt (bytesOf 4 r)

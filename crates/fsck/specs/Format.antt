@@ -1,5 +1,5 @@
 -- Format's answer, and what it leaves.
-use Prim.Native.Nat.{ℕ}
+use Prim.Native.Nat.{ℕ, _-_}
 use mathlib.Core.Path.{_≡_}
 use mathlib.Core.Bool.{cond}
 use mathlib.Core.List.{List}
@@ -19,7 +19,7 @@ answerFor length p q r nanoseconds = cond (ltb nanoseconds 1000000000) (cond (go
 -- the volume, the number of objects and the root, and all else zero
 unfoldable pub frontOf : Store → ℕ → ℕ → Time → Store
 frontOf s stamp p clock =
-    putObject (overlay (overlay (overlay (overlay s 0 (zeros (length s))) 0 (bytesOf 4 1)) 4 (bytesOf 4 stamp)) 8 (bytesOf 4 p)) 0 (rootObject clock)
+    overlay (putObject (overlay (overlay (overlay s 0 (bytesOf 4 1)) 4 (bytesOf 4 stamp)) 8 (bytesOf 4 p)) 0 (rootObject clock)) 92 (zeros (length s - 92))
 
 -- a number and a buffer are what format gives
 pub record Leaves (f : Formatted) (number : ℕ) (store : List ℕ) : Type 0 where

@@ -38,15 +38,15 @@ fn answer_for(length: usize, p: usize, q: usize, r: usize, nanoseconds: u32) -> 
 
 // Writes the volume, the number of objects and the root, and makes all else zero.
 fn write_front(store: &mut [u8], stamp: u32, p: u32, clock: Time)
-    requires { ⌜ 92 ≤ length (now store) ⌝ }
+    requires { ⌜ 100 ≤ length (now store) ⌝ }
     ensures { λ _. ⌜ now (store .exit) ≡ frontOf (now (store .entry)) stamp p clock ⌝ }
 {
     let length = store.len();
-    wire::clear_bytes(store, 0, length);
     wire::put_u32(store, 0, 1);
     wire::put_u32(store, 4, stamp);
     wire::put_u32(store, 8, p);
     image::object::save_object(store, ObjectNumber(0), Object::root(clock));
+    wire::clear_bytes(store, 92, length - 92);
 }
 
 // Writes every byte of a store with these counts, which are in range, and of that length.
