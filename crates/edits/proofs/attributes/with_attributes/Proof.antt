@@ -1,0 +1,34 @@
+use borrow.Author.Needs.{needs}
+use Rattle.spec.specs.Edits.{withAttributes}
+use Rattle.edits.proofs.attributes.with_attributes.Statement.{statement}
+use Rattle.edits.proofs.attributes.with_attributes.Tie as tie
+
+number-set-requires : tie.Need-number-set-requires
+number-set-requires c κs = search needs
+
+number-set-requires-2 : tie.Need-number-set-requires-2
+number-set-requires-2 c κs = search needs
+
+number-set-requires-3 : tie.Need-number-set-requires-3
+number-set-requires-3 c κs = search needs
+
+time-set-requires : tie.Need-time-set-requires
+time-set-requires c κs = search needs
+
+time-set-requires-2 : tie.Need-time-set-requires-2
+time-set-requires-2 c κs = search needs
+
+returns : tie.Need-returns
+unfolding withAttributes
+returns c = cc
+
+pub with-attributes-spec : {M : Type 1} → statement M
+with-attributes-spec =
+    tie.close
+    (tie.spec
+    number-set-requires
+    number-set-requires-2
+    number-set-requires-3
+    time-set-requires
+    time-set-requires-2
+    returns)
