@@ -17,12 +17,16 @@ nothing-fits-requires : tie.Need-nothing-fits-requires
 nothing-fits-requires c κs = search needs
 
 returns-2 : tie.Need-returns-2
-returns-2 c = let a = c .before .before .before .before .before .args in
-    listing-small (a .given) (a .limit) (entries (a .store .now) (a .d .0)) (c .before .before .before .if1 .left) (c .before .before .run-of .result) (c .before .before .run-of .ensures) (sym (c .before .nothing-fits .ensures) ∙ c .if2 .taken)
+returns-2 c =
+    let a = c .before .before .before .before .before .args in
+    listing-small (a .given) (a .limit) (entries (a .store .now) (a .d .0)) (c .before .before .before .if1 .left) _ (c .before .before .run-of .ensures)
+    (sym (c .before .nothing-fits .ensures) ∙ c .if2 .taken)
 
 returns-3 : tie.Need-returns-3
-returns-3 c = let a = c .before .before .before .before .before .before .args in
-    listing-sent (a .given) (a .limit) (entries (a .store .now) (a .d .0)) (c .before .before .before .before .if1 .left) (c .before .before .before .run-of .result) (c .before .before .before .run-of .ensures) (sym (c .before .before .nothing-fits .ensures) ∙ c .before .if2 .left)
+returns-3 c =
+    let a = c .before .before .before .before .before .before .args in
+    listing-sent (a .given) (a .limit) (entries (a .store .now) (a .d .0)) (c .before .before .before .before .if1 .left) _ (c .before .before .before .run-of .ensures)
+    (sym (c .before .before .nothing-fits .ensures) ∙ c .before .if2 .left)
 
 pub check-listing-spec : {M : Type 1} → statement M
 check-listing-spec = tie.close (tie.spec returns run-of-requires nothing-fits-requires returns-2 returns-3)

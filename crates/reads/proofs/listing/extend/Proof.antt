@@ -17,14 +17,26 @@ entry-cost-requires c κs = search needs
 
 returns-3 : tie.Need-returns-3
 unfolding extended fitted
-returns-3 c = rw (lt-ltb _ _ (c .before .before .before .if1 .left), c .before .before .if2 .left, ← c .before .entry-cost .ensures, lt-leb _ _ (c .if3 .taken))
+returns-3 c =
+    rw (
+      lt-ltb _ _ (c .before .before .before .if1 .left),
+      c .before .before .if2 .left,
+      ← c .before .entry-cost .ensures,
+      lt-leb _ _ (c .if3 .taken),
+    )
 
 add-t10 : tie.Need-add-t10
 add-t10 c = search needs
 
 returns-4 : tie.Need-returns-4
 unfolding extended fitted
-returns-4 c = rw (lt-ltb _ _ (c .before .before .before .if1 .left), c .before .before .if2 .left, ← c .before .entry-cost .ensures, le-leb _ _ (c .if3 .left))
+returns-4 c =
+    rw (
+      lt-ltb _ _ (c .before .before .before .if1 .left),
+      c .before .before .if2 .left,
+      ← c .before .entry-cost .ensures,
+      le-leb _ _ (c .if3 .left),
+    )
 
 pub extend-spec : {M : Type 1} → statement M
 extend-spec = tie.close (tie.spec returns returns-2 entry-cost-requires returns-3 add-t10 returns-4)

@@ -15,15 +15,23 @@ add-extend : tie.Need-add-extend
 add-extend c = search needs
 
 extend-requires : tie.Need-extend-requires
-extend-requires c κs = let st = c .before .before .before .before in
+extend-requires c κs =
+    let st = c .before .before .before .before in
     let k = st .pre .0 .sound .short (st .args .n .0) (st .pre .1 .0) in
     (omega arith, st .pre .1 .1)
 
 returns : tie.Need-returns
 unfolding extendedAt
-returns c = let st = c .before .before .before .before .before in
+returns c =
+    let st = c .before .before .before .before .before in
     let k = st .pre .0 .sound .short (st .args .n .0) (st .pre .1 .0) in
-    rw (← c .before .before .before .is-in .ensures, c .before .before .if1 .taken, text-length (st .args .store .now) (st .args .n .0) (omega arith), ← c .before .name-length .ensures) (c .extend .ensures)
+    rw (
+      ← c .before .before .before .is-in .ensures,
+      c .before .before .if1 .taken,
+      text-length (st .args .store .now) (st .args .n .0) (omega arith),
+      ← c .before .name-length .ensures,
+    )
+    (c .extend .ensures)
 
 returns-2 : tie.Need-returns-2
 unfolding extendedAt

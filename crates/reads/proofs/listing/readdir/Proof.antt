@@ -1,5 +1,4 @@
 use borrow.Author.Needs.{needs}
-use Rattle.spec.specs.Procedures.{cut}
 use Rattle.spec.specs.Procedures.Listing.{checkReaddir, readdir}
 use Rattle.files.proofs.Reach.{directory-reached}
 use Rattle.reads.proofs.listing.readdir.Statement.{statement}
@@ -12,8 +11,9 @@ enum-known-answer : tie.Need-enum-known-answer
 enum-known-answer c = search needs
 
 readdir-in-requires : tie.Need-readdir-in-requires
-readdir-in-requires c κs = let st = c .before .before .before .before .before .before in
-    (st .pre .0, (st .pre .1, directory-reached (st .args .store .now) (cut (st .args .call .now) (st .args .h)) _ _ (c .before .answer .given .1) (c .before .before .before .reach-directory .ensures) .0 .below))
+readdir-in-requires c κs =
+    let st = c .before .before .before .before .before .before in
+    (st .pre .0, (st .pre .1, directory-reached _ _ _ _ (c .before .answer .given .1) (c .before .before .before .reach-directory .ensures) .0 .below))
 
 enum-known-answer-2 : tie.Need-enum-known-answer-2
 enum-known-answer-2 c = search needs
