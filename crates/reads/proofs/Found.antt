@@ -26,7 +26,8 @@ use Rattle.reads.specs.Parts.{lookedOf, checkIn}
 use Rattle.reads.specs.declared.lookup.Looked.{Looked}
 use Rattle.reads.specs.declared.lookup.Looked.the-variants as Looked
 
-pub found-below : (s : Store) (d : ℕ) (text : List ℕ) (r : FoundName) (n : NameNumber) → r ≡ FoundName.At n → foundName r ≡ findName s d text → n .0 < names s
+pub found-below : (s : Store) (d : ℕ) (text : List ℕ) (r : FoundName) (n : NameNumber) → r ≡ FoundName.At n → foundName r ≡ findName s d text
+    → n .0 < names s
 found-below s d text r n p e = found-record s d text (n .0) (sym e ∙ ap foundName p) .0
 
 module _ (s : Store) (g : GoodRecords s) where

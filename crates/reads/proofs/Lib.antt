@@ -1,2 +1,4 @@
 pub mod Found
 pub mod Few
+pub mod Runs
+pub mod Sent

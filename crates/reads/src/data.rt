@@ -20,7 +20,7 @@ use kinds::numbers::ObjectNumber;
 use kinds::object::Context;
 use results::Reply;
 
-fn least(a: u64, b: u64) -> u64
+pub fn least(a: u64, b: u64) -> u64
     ensures { λ r. ⌜ r ≡ min a b ⌝ }
 {
     if a < b { a } else { b }

@@ -3,3 +3,4 @@ pub mod object; // GETATTR and ACCESS
 pub mod volume; // FSSTAT, FSINFO and PATHCONF
 pub mod data; // READ and COMMIT
 pub mod lookup; // LOOKUP
+pub mod listing; // READDIR

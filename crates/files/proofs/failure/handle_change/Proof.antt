@@ -1,6 +1,5 @@
 use borrow.Author.Needs.{needs}
 use Rattle.spec.specs.Handles.{handleChange}
-use Rattle.spec.specs.Procedures.{cut}
 use Rattle.files.proofs.Reach.{object-reached}
 use Rattle.files.proofs.failure.handle_change.Statement.{statement}
 use Rattle.files.proofs.failure.handle_change.Tie as tie
@@ -19,8 +18,9 @@ unfolding handleChange
 returns c = rw (← c .before .before .reach .ensures, c .enum-told .given .1)
 
 unchanged-requires : tie.Need-unchanged-requires
-unchanged-requires c κs = let st = c .before .before .before .before .before .before in
-    (st .pre .0, object-reached (st .args .store .now) (cut (st .args .call .now) (st .args .h)) _ _ (c .before .answer .given .1) (c .before .before .before .reach .ensures) .below)
+unchanged-requires c κs =
+    let st = c .before .before .before .before .before .before in
+    (st .pre .0, object-reached _ _ _ _ (c .before .answer .given .1) (c .before .before .before .reach .ensures) .below)
 
 returns-2 : tie.Need-returns-2
 unfolding handleChange

@@ -9,7 +9,9 @@ is-directory-requires : tie.Need-is-directory-requires
 is-directory-requires c κs = search needs
 
 subdirectory-count-requires : tie.Need-subdirectory-count-requires
-subdirectory-count-requires c κs = let st = c .before .before .before in (good-shaped (st .args .store .now) (st .pre .0), good-names-sound (st .args .store .now) (st .pre .0))
+subdirectory-count-requires c κs =
+    let st = c .before .before .before in
+    (good-shaped (st .args .store .now) (st .pre .0), good-names-sound (st .args .store .now) (st .pre .0))
 
 cast-result : tie.Need-cast-result
 cast-result c = let a = c .before .before .before .before .args in omega (arith, subdirectories-few (a .store .now) (a .o .0))

@@ -30,8 +30,10 @@ good-byte-requires : tie.Need-good-byte-requires Inv-loop μ-loop
 good-byte-requires c κs = search needs
 
 returns : tie.Need-returns Inv-loop μ-loop
-returns c = let st = c .before .before .before .before .before .before in
-    sym (good-fails (st .args .call .now) (st .args .at) (c .before .before .before .before .loop .i) (st .args .n) (omega arith) (st .pre) (sym (c .before .good-byte .ensures) ∙ not-true _ (c .if1 .taken)))
+returns c =
+    let st = c .before .before .before .before .before .before in
+    sym (good-fails (st .args .call .now) (st .args .at) (c .before .before .before .before .loop .i) (st .args .n) (omega arith) (st .pre)
+    (sym (c .before .good-byte .ensures) ∙ not-true _ (c .if1 .taken)))
 
 add-i : tie.Need-add-i Inv-loop μ-loop
 add-i c = search needs
@@ -40,12 +42,14 @@ loop-less : tie.Need-loop-less Inv-loop μ-loop
 loop-less c = search needs
 
 loop-again : tie.Need-loop-again Inv-loop μ-loop
-loop-again c = let st = c .before .before .before .before .before .before in
+loop-again c =
+    let st = c .before .before .before .before .before .before in
     let l = c .before .before .before .before .loop in
     (omega arith, good-more (st .args .call .now) (st .args .at) (l .i) (omega arith) (l .inv .1) (sym (c .before .good-byte .ensures) ∙ not-false _ (c .if1 .left)))
 
 returns-2 : tie.Need-returns-2 Inv-loop μ-loop
-returns-2 c = let e : c .before .loop .i ≡ c .before .before .before .args .n = omega arith in
+returns-2 c =
+    let e : c .before .loop .i ≡ c .before .before .before .args .n = omega arith in
     sym (rw e at (c .before .loop .inv .1))
 
 pub good-bytes-spec : {M : Type 1} → statement M

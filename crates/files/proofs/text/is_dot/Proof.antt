@@ -11,7 +11,9 @@ shared-slice-read-result : tie.Need-shared-slice-read-result
 shared-slice-read-result c = search needs
 
 returns-2 : tie.Need-returns-2
-returns-2 c = let st = c .before .before in sym (dot-one (st .args .call .now) (st .args .name .start) (st .args .name .length) (c .before .if1 .left) (st .pre))
+returns-2 c =
+    let st = c .before .before in
+    sym (dot-one (st .args .call .now) (st .args .name .start) (st .args .name .length) (c .before .if1 .left) (st .pre))
 
 pub is-dot-spec : {M : Type 1} → statement M
 is-dot-spec = tie.close (tie.spec returns shared-slice-read-result returns-2)

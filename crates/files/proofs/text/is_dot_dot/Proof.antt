@@ -12,8 +12,12 @@ shared-slice-read-if2 : tie.Need-shared-slice-read-if2
 shared-slice-read-if2 c = search needs
 
 returns-2 : tie.Need-returns-2
-returns-2 c = let st = c .before .before .before in
-    rw (dot-dot-two (st .args .call .now) (st .args .name .start) (st .args .name .length) (c .before .before .if1 .left) (st .pre), ne-eqb _ _ (c .if2 .taken))
+returns-2 c =
+    let st = c .before .before .before in
+    rw (
+      dot-dot-two (st .args .call .now) (st .args .name .start) (st .args .name .length) (c .before .before .if1 .left) (st .pre),
+      ne-eqb _ _ (c .if2 .taken),
+    )
 
 add-result : tie.Need-add-result
 add-result c = search needs
@@ -22,8 +26,12 @@ shared-slice-read-result : tie.Need-shared-slice-read-result
 shared-slice-read-result c = search needs
 
 returns-3 : tie.Need-returns-3
-returns-3 c = let st = c .before .before .before .before in
-    rw (dot-dot-two (st .args .call .now) (st .args .name .start) (st .args .name .length) (c .before .before .before .if1 .left) (st .pre), eq-eqb _ _ (c .before .if2 .left))
+returns-3 c =
+    let st = c .before .before .before .before in
+    rw (
+      dot-dot-two (st .args .call .now) (st .args .name .start) (st .args .name .length) (c .before .before .before .if1 .left) (st .pre),
+      eq-eqb _ _ (c .before .if2 .left),
+    )
 
 pub is-dot-dot-spec : {M : Type 1} → statement M
 is-dot-dot-spec =

@@ -24,10 +24,22 @@ enum-known-found-2 : tie.Need-enum-known-found-2
 enum-known-found-2 c = search needs
 
 returns-2 : tie.Need-returns-2
-returns-2 c = rw (← c .before .before .before .before .before .before .check-name .ensures, c .before .before .before .before .enum-told .given .1, ← c .before .before .before .look-in .ensures, c .before .found .given .1)
+returns-2 c =
+    rw (
+      ← c .before .before .before .before .before .before .check-name .ensures,
+      c .before .before .before .before .enum-told .given .1,
+      ← c .before .before .before .look-in .ensures,
+      c .before .found .given .1,
+    )
 
 returns-3 : tie.Need-returns-3
-returns-3 c = rw (← c .before .before .before .before .before .before .check-name .ensures, c .before .before .before .before .enum-told .given .1, ← c .before .before .before .look-in .ensures, c .before .found2 .given .1)
+returns-3 c =
+    rw (
+      ← c .before .before .before .before .before .before .check-name .ensures,
+      c .before .before .before .before .enum-told .given .1,
+      ← c .before .before .before .look-in .ensures,
+      c .before .found2 .given .1,
+    )
 
 pub check-in-spec : {M : Type 1} → statement M
 check-in-spec =

@@ -12,7 +12,8 @@ enum-known-looked : tie.Need-enum-known-looked
 enum-known-looked c = search needs
 
 found-in-requires : tie.Need-found-in-requires
-found-in-requires c κs = let st = c .before .before .before .before .before .before .before in
+found-in-requires c κs =
+    let st = c .before .before .before .before .before .before .before in
     let a = st .args in
     let b = looked-below (a .store .now) (st .pre .0) (cut (a .call .now) (a .p .directory)) (cut (a .call .now) (a .p .name)) _ _ _ (c .before .looked .given .1) (c .before .before .before .check-lookup .ensures) in
     (st .pre .0, (b .0, b .1))

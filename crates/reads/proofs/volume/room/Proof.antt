@@ -35,7 +35,14 @@ cast-t13 : tie.Need-cast-t13
 cast-t13 c = omega (arith, available-few (c .before .before .before .before .before .args .store .now))
 
 returns : tie.Need-returns
-returns c = rw (c .attributes .ensures, ← c .before .available-count .ensures, ← c .before .before .object-count .ensures, ← c .before .before .before .block-count .ensures, ← c .before .before .before .before .before .pre .1 .1)
+returns c =
+    rw (
+      c .attributes .ensures,
+      ← c .before .available-count .ensures,
+      ← c .before .before .object-count .ensures,
+      ← c .before .before .before .block-count .ensures,
+      ← c .before .before .before .before .before .pre .1 .1,
+    )
 
 pub room-spec : {M : Type 1} → statement M
 room-spec =

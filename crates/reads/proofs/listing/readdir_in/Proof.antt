@@ -1,0 +1,61 @@
+use mathlib.Core.Path.{sym, ap, _∙_}
+use borrow.Author.Needs.{needs}
+use borrow.Author.Tests.{eq-eqb, ne-eqb}
+use Rattle.spec.specs.Procedures.{cut}
+use Rattle.spec.specs.Procedures.Listing.{entries, entriesAbove, checkListing}
+use Rattle.reads.specs.Run.{listingOf}
+use Rattle.reads.proofs.Sent.{listed-sent, listed-refused}
+use Rattle.reads.proofs.listing.readdir_in.Statement.{statement}
+use Rattle.reads.proofs.listing.readdir_in.Tie as tie
+
+fail-showing-requires : tie.Need-fail-showing-requires
+fail-showing-requires c κs = search needs
+
+returns : tie.Need-returns
+returns c = rw (ne-eqb _ _ (c .before .if1 .taken)) (c .fail-showing .ensures)
+
+least-requires : tie.Need-least-requires
+least-requires c κs = search needs
+
+check-listing-requires : tie.Need-check-listing-requires
+check-listing-requires c κs = search needs
+
+enum-known-listing : tie.Need-enum-known-listing
+enum-known-listing c = search needs
+
+attributes-requires : tie.Need-attributes-requires
+attributes-requires c κs = search needs
+
+enum-known-listing-2 : tie.Need-enum-known-listing-2
+enum-known-listing-2 c = search needs
+
+fail-showing-requires-2 : tie.Need-fail-showing-requires-2
+fail-showing-requires-2 c κs = search needs
+
+returns-2 : tie.Need-returns-2
+returns-2 c =
+    let a = c .before .before .before .before .before .before .before .before .before .args in
+    let h = cut (a .call .now) (a .h) in
+    let es = entriesAbove (a .cookie) (entries (a .store .now) (a .d .0)) in
+    let e = sym (ap (listingOf es) (c .before .before .listing .given .1)) ∙ c .before .before .before .before .check-listing .ensures in
+    rw (
+      c .attributes .ensures,
+      eq-eqb _ _ (c .before .before .before .before .before .before .if1 .left),
+      ← c .before .before .before .before .before .least .ensures,
+    )
+    (listed-sent (a .store .now) h (a .d .0) (a .cookie) (checkListing 104 24 (c .before .before .before .before .before .least .result) es) _ _ e)
+
+returns-3 : tie.Need-returns-3
+returns-3 c =
+    let a = c .before .before .before .before .before .before .before .before .before .args in
+    let h = cut (a .call .now) (a .h) in
+    let es = entriesAbove (a .cookie) (entries (a .store .now) (a .d .0)) in
+    let e = sym (ap (listingOf es) (c .before .before .listing2 .given .1)) ∙ c .before .before .before .before .check-listing .ensures in
+    rw (
+      eq-eqb _ _ (c .before .before .before .before .before .before .if1 .left),
+      ← c .before .before .before .before .before .least .ensures,
+    )
+    (c .fail-showing2 .ensures ∙ listed-refused (a .store .now) h (a .d .0) (a .cookie) (checkListing 104 24 (c .before .before .before .before .before .least .result) es) _ e)
+
+pub readdir-in-spec : {M : Type 1} → statement M
+readdir-in-spec = tie.close (tie.spec fail-showing-requires returns least-requires check-listing-requires enum-known-listing attributes-requires enum-known-listing-2 fail-showing-requires-2 returns-2 returns-3)

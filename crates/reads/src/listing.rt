@@ -1,0 +1,175 @@
+// READDIR.
+ghost use mathlib.Core.Path.{_≡_};
+ghost use mathlib.Core.Bool.{_&&_};
+ghost use Prim.Native.Nat.{_+_, _≤_, _<_};
+ghost use lib.Dec.{eqb};
+ghost use lib.ListN.{length};
+ghost use Rattle.spec.specs.Image.{objects, names};
+ghost use Rattle.spec.specs.Procedures.{cut};
+ghost use Rattle.spec.specs.Procedures.Listing.{entries, entriesAbove, readdir};
+ghost use Rattle.spec.proofs.GoodRecords.{GoodRecords};
+ghost use Rattle.results.specs.Meaning.{resultOf};
+ghost use Rattle.reads.specs.Run.{cost, startRun, extended, extendedAt, runOf, listingOf, sentRun, readdirIn};
+use crate::data::least;
+use files::failure::fail_showing;
+use files::handle::Reached;
+use files::handle::reach_directory;
+use files::shown::attributes;
+use find::name::is_in;
+use image::counts::name_count;
+use image::name::name_length;
+use kinds::call::Part;
+use kinds::numbers::Limit;
+use kinds::numbers::NameNumber;
+use kinds::numbers::ObjectNumber;
+use kinds::numbers::Status;
+use results::Reply;
+
+// A run of entries: the room that is left, how many there are, and whether the next one did not fit.
+pub struct Run {
+    pub room: usize,
+    pub count: usize,
+    pub full: bool,
+}
+
+// How many entries are sent, and whether nothing remains.
+pub enum Listing {
+    Sent(usize, bool),
+    Refused(Status),
+}
+
+// What an entry costs, by the length of its name.
+fn entry_cost(long: usize) -> usize
+    requires { ⌜ long ≤ 32 ⌝ }
+    ensures { λ r. ⌜ r ≡ cost long ⌝ }
+{
+    24 + (long + (4 - long % 4) % 4)
+}
+
+// Adds an entry above the given cookie to a run, by the length of its name; the first that does not fit ends the run.
+fn extend(run: Run, given: u64, cookie: u64, long: usize) -> Run
+    requires { ⌜ long ≤ 32 ⌝ }
+    requires { ⌜ run .count ≤ 200 ⌝ }
+    ensures { λ r. ⌜ r ≡ extended given run cookie long ⌝ }
+{
+    let room = run.room;
+    let count = run.count;
+    if cookie <= given {
+        return run;
+    }
+    if run.full {
+        return run;
+    }
+    let price = entry_cost(long);
+    if room < price {
+        return Run {
+            room,
+            count,
+            full: true,
+        };
+    }
+    Run {
+        room: room - price,
+        count: count + 1,
+        full: false,
+    }
+}
+
+// Adds the entry of a name record, where it is in the directory.
+fn extend_at(run: Run, store: &[u8], d: ObjectNumber, given: u64, n: NameNumber) -> Run
+    requires { ⌜ GoodRecords (now store) ⌝ }
+    requires { ⌜ n .0 < names (now store) ⌝ }
+    requires { ⌜ run .count ≤ 200 ⌝ }
+    ensures { λ r. ⌜ r ≡ extendedAt (now (store .entry)) (d .0) given run (n .0) ⌝ }
+{
+    let i = n.0;
+    if is_in(store, n, d) {
+        let long = name_length(store, n);
+        return extend(run, given, i as u64 + 3, long);
+    }
+    run
+}
+
+// The run of a directory's entries above a cookie, in a room.
+fn run_of(store: &[u8], d: ObjectNumber, given: u64, room: usize) -> Run
+    requires { ⌜ GoodRecords (now store) ⌝ }
+    ensures { λ r. ⌜ r ≡ runOf given (startRun room) (entries (now (store .entry)) (d .0)) ⌝ }
+{
+    let start = Run {
+        room,
+        count: 0,
+        full: false,
+    };
+    let dot = extend(start, given, 1, 1);
+    let mut run = extend(dot, given, 2, 2);
+    let total = name_count(store);
+    let mut i = 0;
+    while i < total {
+        run = extend_at(run, store, d, given, NameNumber(i));
+        i += 1;
+    }
+    run
+}
+
+// Whether something remains, and its first does not fit.
+fn nothing_fits(run: Run) -> bool
+    ensures { λ r. ⌜ r ≡ run .full && eqb (run .count) 0 ⌝ }
+{
+    if run.full {
+        return run.count == 0;
+    }
+    false
+}
+
+// The run that is sent, or TOOSMALL.
+fn check_listing(store: &[u8], d: ObjectNumber, given: u64, limit: usize) -> Listing
+    requires { ⌜ GoodRecords (now store) ⌝ }
+    ensures { λ r. ⌜ listingOf (entriesAbove given (entries (now (store .entry)) (d .0))) r ≡ sentRun limit (entriesAbove given (entries (now (store .entry)) (d .0))) ⌝ }
+{
+    if limit < 104 {
+        return Listing::Refused(Status::TOOSMALL);
+    }
+    let run = run_of(store, d, given, limit - 104);
+    if nothing_fits(run) {
+        return Listing::Refused(Status::TOOSMALL);
+    }
+    Listing::Sent(run.count, !run.full)
+}
+
+// The listing of a directory that was reached.
+fn readdir_in(
+    store: &[u8],
+    call: &[u8],
+    h: Part,
+    d: ObjectNumber,
+    cookie: u64,
+    verifier: u64,
+    count: u32,
+) -> Reply
+    requires { ⌜ GoodRecords (now store) ⌝ }
+    requires { ⌜ h .start + h .length ≤ length (now call) ⌝ }
+    requires { ⌜ d .0 < objects (now store) ⌝ }
+    ensures { λ r. ⌜ resultOf (now (store .entry)) r ≡ readdirIn (now (store .entry)) (cut (now (call .entry)) h) (d .0) cookie verifier count .result ⌝ }
+{
+    if verifier != 0 {
+        return fail_showing(store, call, h, Status::BAD_COOKIE);
+    }
+    let limit = least(count as u64, Limit::TRANSFER as u64);
+    let listing = check_listing(store, d, cookie, limit as usize);
+    match listing {
+        Listing::Sent(n, all) => Reply::Listed(attributes(store, d), all, d, cookie, n),
+        Listing::Refused(status) => fail_showing(store, call, h, status),
+    }
+}
+
+pub fn readdir(store: &[u8], call: &[u8], h: Part, cookie: u64, verifier: u64, count: u32) -> Reply
+    requires { ⌜ GoodRecords (now store) ⌝ }
+    requires { ⌜ h .start + h .length ≤ length (now call) ⌝ }
+    ensures { λ r. ⌜ resultOf (now (store .entry)) r ≡ readdir (now (store .entry)) (cut (now (call .entry)) h) cookie verifier count .result ⌝ }
+{
+    let answer = reach_directory(store, call, h);
+    match answer {
+        Reached::At(d) => readdir_in(store, call, h, d, cookie, verifier, count),
+        Reached::Refused(status) => fail_showing(store, call, h, status),
+    }
+}
