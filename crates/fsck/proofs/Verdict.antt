@@ -5,10 +5,11 @@ use mathlib.Core.List.{List}
 use Prim.Native.Nat.{ℕ, _-_, _≤_, _<_}
 use native.Mathlib.Omega.{arith}
 use lib.Dec.{eqb}
+use lib.ListN.{getD}
 use borrow.Author.Tests.{eq-eqb, ne-eqb}
 use Rattle.spec.specs.Count.{sum, every}
 use Rattle.spec.specs.Image.{Store, objects, names, blocks, objectAt}
-use Rattle.spec.specs.Room.{isDirectory, uses}
+use Rattle.spec.specs.Room.{isDirectory, uses, isFreeBlock}
 use Rattle.spec.specs.Check.{goodShape, goodRoot, isNamedOnce, leadsToRoot, passes}
 use Rattle.spec.proofs.Count.{by-bool, true-false}
 use Rattle.fsck_objects.specs.Told.{Shaped}
@@ -86,3 +87,8 @@ checked-good s k used parents t e g a b =
       leads = b .leads;
     }) in
     record { is = ap (λ (c : Counts). Good c) e ∙ sym (ap (λ (x : Bool). foundIf x s) y); map = λ q. used-map s used (a .map); parent-map = λ q. b .map }
+
+-- ---- what callers read off the maps
+pub free-by-map : (s : Store) (used : List ℕ) → UsedMap s used → (r : ℕ) → r < blocks s → isFreeBlock s r ≡ eqb (getD used r 0) 0
+unfolding isFreeBlock
+free-by-map s used m r h = ap (λ (n : ℕ). eqb n 0) (sym (m .are r h))

@@ -23,7 +23,7 @@ pub fn parent_of(parents: &[u8; 64], o: usize) -> usize
     mark - 1
 }
 
-// How many steps it is from object o to the root; more than p where p steps do not lead there.
+// How many steps it is from object o to the root; more than p where p steps do not lead there. The store is there for the contract alone.
 fn steps(store: &[u8], p: usize, parents: &[u8; 64], depths: &[u8; 64], o: usize) -> usize
     requires { ⌜ Parents (now store) p (now parents) ⌝ }
     requires { ⌜ Known (now store) p (now depths) ⌝ }
@@ -43,7 +43,7 @@ fn steps(store: &[u8], p: usize, parents: &[u8; 64], depths: &[u8; 64], o: usize
     k
 }
 
-// Writes down the steps of object o, and of each object above it up to one whose steps are known.
+// Writes down the steps of object o, and of each object above it up to one whose steps are known. The store is there for the contract alone.
 fn note_steps(
     store: &[u8],
     p: usize,
