@@ -3,32 +3,10 @@ use Prim.Native.Nat.{ℕ, _+_}
 use lib.ListN.{replicate}
 use mathlib.Core.List.{List, [], _∷_, _++_}
 use mathlib.Core.Path.{_≡_, refl}
-use Rattle.spec.specs.Arguments.{how}
 use Rattle.spec.specs.Bytes.{zeros, beAt, words, opaqueBytes}
-use Rattle.spec.specs.Handles.{attributes}
 use Rattle.spec.specs.Image.{Store}
-use Rattle.spec.specs.Serve.{serve, check, format}
-use Rattle.spec.proofs.Setting.{space, fresh, callTo, served, after, replied, answered, statusIn, handleTo, getattrCall, createCall, mkdirCall, removeCall, readdirCall, rootWords, nameA, rootAlone, withA, computing}
-
--- SETATTR of object o by 24 bytes or more of sattr3 words and a guard
-abbrev pub setattrCall : ℕ → List ℕ → List ℕ
-setattrCall o rest = callTo 2 (handleTo o ++ words rest)
-
--- CREATE of a name in the root by createhow3 words, MKDIR by sattr3 words, RMDIR, and RENAME from one directory to another
-abbrev pub createBy : List ℕ → List ℕ → List ℕ
-createBy name how = callTo 8 (handleTo 0 ++ opaqueBytes name ++ words how)
-
-abbrev pub mkdirBy : List ℕ → List ℕ → List ℕ
-mkdirBy name attributes = callTo 9 (handleTo 0 ++ opaqueBytes name ++ words attributes)
-
-abbrev pub rmdirCall : List ℕ → List ℕ
-rmdirCall name = callTo 13 (handleTo 0 ++ opaqueBytes name)
-
-abbrev pub renameCall : ℕ → List ℕ → ℕ → List ℕ → List ℕ
-renameCall d name e title = callTo 14 (handleTo d ++ opaqueBytes name ++ handleTo e ++ opaqueBytes title)
-
-abbrev pub nameB : List ℕ
-nameB = 0x62 ∷ []
+use Rattle.spec.specs.Serve.{check, format}
+use Rattle.spec.proofs.Setting.{space, fresh, callTo, served, after, replied, answered, statusIn, handleTo, getattrCall, createCall, mkdirCall, removeCall, readdirCall, rootWords, nameA, rootAlone, withA, setattrCall, createBy, mkdirBy, rmdirCall, renameCall, nameB, answerTo, computing}
 
 -- the directory "a" with the directory "b" in it, and room for one object more
 abbrev pub twoDirectories : Store
@@ -37,10 +15,6 @@ twoDirectories = after (mkdirCall nameA ∷ callTo 9 (handleTo 1 ++ opaqueBytes 
 -- what a record of the store holds after a call: four bytes at an index
 abbrev pub wordAfter : List ℕ → Store → ℕ → ℕ
 wordAfter call s at = beAt (served call s .store) at 4
-
--- the answer's number alone
-abbrev pub answerTo : List ℕ → Store → List ℕ → ℕ → ℕ
-answerTo call s room nanoseconds = serve call s room (record { clock = record { seconds = 5; nanoseconds = nanoseconds }; verifier = 8 }) .number
 
 pub record Edges : Type 0 where
   -- answers 2, 3, 4, 1, 5, in this order: "reply space under 4,224 bytes" first

@@ -8,6 +8,7 @@ pub mod Count
 pub mod CreateObject
 pub mod Error
 pub mod FileData
+pub mod FileBytes
 pub mod Formatted
 pub mod FreeCount
 pub mod FreeRoom
@@ -16,6 +17,7 @@ pub mod GoodRecords
 pub mod Handles
 pub mod Kept
 pub mod MoveName
+pub mod Listing
 pub mod Names
 pub mod Passed
 pub mod PlainObject
@@ -42,3 +44,5 @@ pub mod Setting
 pub mod Edges
 pub mod Zeros
 pub mod Arguments
+pub mod Answers
+pub mod Damaged

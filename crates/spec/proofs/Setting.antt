@@ -93,7 +93,7 @@ readCall o = callTo 6 (handleTo o ++ words (0 ∷ 0 ∷ 100 ∷ []))
 abbrev pub readdirCall : ℕ → ℕ → List ℕ
 readdirCall cookie count = callTo 16 (handleTo 0 ++ words (0 ∷ cookie ∷ 0 ∷ 0 ∷ count ∷ []))
 
--- the attributes of the root that was just formatted, with so many subdirectories
+-- the attributes of the root that was just formatted
 abbrev pub rootWords : List ℕ
 rootWords = 2 ∷ 493 ∷ 2 ∷ 0 ∷ 0 ∷ 0 ∷ 512 ∷ 0 ∷ 0 ∷ 0 ∷ 0 ∷ 0 ∷ 9 ∷ 0 ∷ 1 ∷ 5 ∷ 6 ∷ 5 ∷ 6 ∷ 5 ∷ 6 ∷ []
 
@@ -122,6 +122,41 @@ abbrev pub fileRead : ℕ → List ℕ → List ℕ
 fileRead fileid bytes =
     answered (0 ∷ 1 ∷ 1 ∷ 0 ∷ 1 ∷ 0 ∷ 0 ∷ 0 ∷ length bytes ∷ 0 ∷ 512 ∷ 0 ∷ 0 ∷ 0 ∷ 9 ∷ 0 ∷ fileid ∷ 5 ∷ 6 ∷ 5 ∷ 6 ∷ 5 ∷ 6 ∷ length bytes ∷ 1 ∷ length bytes ∷ [])
     ++ bytes ++ zeros (4 - length bytes)
+
+-- SETATTR of object o by 24 bytes or more of sattr3 words and a guard
+abbrev pub setattrCall : ℕ → List ℕ → List ℕ
+setattrCall o rest = callTo 2 (handleTo o ++ words rest)
+
+-- CREATE of a name in the root by createhow3 words, MKDIR by sattr3 words, RMDIR, and RENAME from one directory to another
+abbrev pub createBy : List ℕ → List ℕ → List ℕ
+createBy name how = callTo 8 (handleTo 0 ++ opaqueBytes name ++ words how)
+
+abbrev pub mkdirBy : List ℕ → List ℕ → List ℕ
+mkdirBy name attributes = callTo 9 (handleTo 0 ++ opaqueBytes name ++ words attributes)
+
+abbrev pub rmdirCall : List ℕ → List ℕ
+rmdirCall name = callTo 13 (handleTo 0 ++ opaqueBytes name)
+
+abbrev pub renameCall : ℕ → List ℕ → ℕ → List ℕ → List ℕ
+renameCall d name e title = callTo 14 (handleTo d ++ opaqueBytes name ++ handleTo e ++ opaqueBytes title)
+
+abbrev pub nameB : List ℕ
+nameB = 0x62 ∷ []
+
+-- the answer's number alone
+abbrev pub answerTo : List ℕ → Store → List ℕ → ℕ → ℕ
+answerTo call s room nanoseconds = serve call s room (record { clock = record { seconds = 5; nanoseconds = nanoseconds }; verifier = 8 }) .number
+
+abbrev pub nameC : List ℕ
+nameC = 0x63 ∷ []
+
+-- MKDIR of a name in directory d, with nothing set
+abbrev pub mkdirIn : ℕ → List ℕ → List ℕ
+mkdirIn d name = callTo 9 (handleTo d ++ opaqueBytes name ++ words (0 ∷ 0 ∷ 0 ∷ 0 ∷ 0 ∷ 0 ∷ []))
+
+-- another clock: 7 s 8 ns
+abbrev pub later : Context
+later = record { clock = record { seconds = 7; nanoseconds = 8 }; verifier = 8 }
 
 -- what computing an entry unfolds: naming `computing` on an `unfolding` line unfolds all of these
 unfoldable pub computing : ℕ

@@ -1,8 +1,8 @@
 -- The argument types of RFC 1813, as readers in the order of their XDR.
 use Prim.Native.Nat.{ℕ}
-use mathlib.Core.Bool.{Bool, true, false, cond}
+use mathlib.Core.Bool.{cond}
 use lib.Dec.{eqb}
-use Rattle.kinds.specs.Reading.{Read, got, bad}
+use Rattle.kinds.specs.Reading.{Read}
 use Rattle.kinds.specs.declared.object.Time.{Time}
 use Rattle.kinds.specs.declared.call.Part.{Part}
 use Rattle.kinds.specs.declared.call.SetNumber.{SetNumber}

@@ -3,7 +3,6 @@ use Prim.Native.Nat.{ℕ}
 use mathlib.Core.Bool.{cond}
 use lib.Dec.{eqb}
 use Rattle.kinds.specs.declared.call.Credential.{Credential}
-use Rattle.kinds.specs.declared.call.CallHeader.{CallHeader}
 use Rattle.kinds.specs.declared.call.Header.{Header}
 use Rattle.kinds.specs.declared.call.Header.the-variants as Header
 use Rattle.spec.specs.Xdr.{Reader, _>>=_, _>>_, done, word, choice, opaque}

@@ -1,7 +1,6 @@
 -- The bytes of each reply, as RFC 5531 and RFC 1813 write their structures.
-use Prim.Native.Nat.{ℕ, _-_, _/_, _%_}
+use Prim.Native.Nat.{ℕ, _/_, _%_}
 use mathlib.Core.List.{List, [], _∷_, _++_}
-use mathlib.Core.Bool.{Bool}
 use mathlib.Core.Option.{Option, some, none}
 use lib.ListN.{length, getD, replicate}
 use Rattle.kinds.specs.Numbers.{OK, zeroWords}

@@ -1,9 +1,9 @@
 -- What the records of a store say together: which objects are live, which names, objects and blocks are free, and who names whom.
-use Prim.Native.Nat.{ℕ, _+_, _*_, _/_, _%_}
-use mathlib.Core.List.{List, []}
+use Prim.Native.Nat.{ℕ, _+_, _/_, _%_}
+use mathlib.Core.List.{List}
 use mathlib.Core.Bool.{Bool, _&&_, not}
 use mathlib.Core.Option.{Option, some, none}
-use lib.Dec.{eqb, ltb, leb}
+use lib.Dec.{eqb, ltb}
 use lib.ListN.{length, getD, take}
 use Rattle.kinds.specs.Numbers.{FREE, REGULAR, DIRECTORY}
 use Rattle.spec.specs.Bytes.{sameBytes}

@@ -1,5 +1,5 @@
 -- The three entries: for any bytes, what each answers and what it leaves in the lent buffers.
-use Prim.Native.Nat.{ℕ, _+_, _*_, _-_}
+use Prim.Native.Nat.{ℕ, _*_, _-_}
 use mathlib.Core.List.{List, [], _∷_, _++_}
 use mathlib.Core.Bool.{not, cond}
 use lib.Dec.{eqb, ltb}

@@ -1,0 +1,126 @@
+// Attributes as replies show them.
+ghost use mathlib.Core.Path.{_≡_};
+ghost use mathlib.Core.Bool.{true};
+ghost use Prim.Native.Nat.{_<_, _≤_};
+ghost use Rattle.spec.specs.Image.{objects};
+ghost use Rattle.spec.specs.Room.{need, sizeOf};
+ghost use Rattle.spec.specs.Handles.{shownSize, usedBytes, linkCount, attributes, before, change};
+ghost use Rattle.spec.proofs.GoodRecords.{GoodRecords};
+ghost use Rattle.files.specs.Meaning.{changeFrom};
+use find::name::subdirectory_count;
+use image::counts::stamp_of;
+use image::object::is_directory;
+use image::object::load_object;
+use image::object::size_of;
+use kinds::numbers::ObjectNumber;
+use kinds::object::Attributes;
+use kinds::object::Before;
+use kinds::object::Change;
+
+// How many blocks a size needs.
+pub fn need(size: usize) -> usize
+    requires { ⌜ size ≤ 8192 ⌝ }
+    ensures { λ r. ⌜ r ≡ need size ⌝ }
+{
+    (size + 511) / 512
+}
+
+// The size that is shown: a directory's is 512.
+pub fn shown_size(store: &[u8], o: ObjectNumber) -> u32
+    requires { ⌜ GoodRecords (now store) ⌝ }
+    requires { ⌜ o .0 < objects (now store) ⌝ }
+    ensures { λ r. ⌜ r ≡ shownSize (now (store .entry)) (o .0) ⌝ }
+{
+    if is_directory(store, o) {
+        return 512;
+    }
+    size_of(store, o)
+}
+
+// The bytes of an object's blocks.
+pub fn used_bytes(store: &[u8], o: ObjectNumber) -> u32
+    requires { ⌜ GoodRecords (now store) ⌝ }
+    requires { ⌜ o .0 < objects (now store) ⌝ }
+    ensures { λ r. ⌜ r ≡ usedBytes (now (store .entry)) (o .0) ⌝ }
+{
+    (512 * need(size_of(store, o) as usize)) as u32
+}
+
+// The links to an object: 1 to a file, 2 and its subdirectories to a directory.
+pub fn link_count(store: &[u8], o: ObjectNumber) -> u32
+    requires { ⌜ GoodRecords (now store) ⌝ }
+    requires { ⌜ o .0 < objects (now store) ⌝ }
+    ensures { λ r. ⌜ r ≡ linkCount (now (store .entry)) (o .0) ⌝ }
+{
+    if is_directory(store, o) {
+        return 2 + subdirectory_count(store, o) as u32;
+    }
+    1
+}
+
+// The attributes of an object.
+pub fn attributes(store: &[u8], o: ObjectNumber) -> Attributes
+    requires { ⌜ GoodRecords (now store) ⌝ }
+    requires { ⌜ o .0 < objects (now store) ⌝ }
+    ensures { λ r. ⌜ r ≡ attributes (now (store .entry)) (o .0) ⌝ }
+{
+    let v = load_object(store, o);
+    let number = o.0;
+    let atime = v.atime;
+    let mtime = v.mtime;
+    let ctime = v.ctime;
+    Attributes {
+        kind: v.kind,
+        mode: v.mode,
+        nlink: link_count(store, o),
+        uid: v.uid,
+        gid: v.gid,
+        size: shown_size(store, o),
+        used: used_bytes(store, o),
+        fsid: stamp_of(store),
+        fileid: (number + 1) as u32,
+        atime,
+        mtime,
+        ctime,
+    }
+}
+
+// The attributes that are shown of an object before a call.
+pub fn before(store: &[u8], o: ObjectNumber) -> Before
+    requires { ⌜ GoodRecords (now store) ⌝ }
+    requires { ⌜ o .0 < objects (now store) ⌝ }
+    ensures { λ r. ⌜ r ≡ before (now (store .entry)) (o .0) ⌝ }
+{
+    let v = load_object(store, o);
+    let mtime = v.mtime;
+    let ctime = v.ctime;
+    Before {
+        size: shown_size(store, o),
+        mtime,
+        ctime,
+    }
+}
+
+// An object that a call has not changed: the same before and after.
+pub fn unchanged(store: &[u8], o: ObjectNumber) -> Change
+    requires { ⌜ GoodRecords (now store) ⌝ }
+    requires { ⌜ o .0 < objects (now store) ⌝ }
+    ensures { λ r. ⌜ r ≡ change (now (store .entry)) (now (store .entry)) (o .0) ⌝ }
+{
+    Change {
+        before: before(store, o),
+        after: attributes(store, o),
+    }
+}
+
+// The attributes of an object before a call, and after it, in the store that the call left.
+pub fn change_from(earlier: Before, store: &[u8], o: ObjectNumber) -> Change
+    requires { ⌜ GoodRecords (now store) ⌝ }
+    requires { ⌜ o .0 < objects (now store) ⌝ }
+    ensures { λ r. ⌜ r ≡ changeFrom earlier (now (store .entry)) (o .0) ⌝ }
+{
+    Change {
+        before: earlier,
+        after: attributes(store, o),
+    }
+}

@@ -1,0 +1,4 @@
+pub mod Found
+pub mod Tree
+pub mod Checked
+pub mod Format

@@ -1,0 +1,69 @@
+// The whole check.
+ghost use mathlib.Core.Path.{_≡_};
+ghost use Rattle.spec.specs.Image.{objects, names};
+ghost use Rattle.fsck_objects.specs.Told.{Shaped, Told};
+ghost use Rattle.fsck_objects.specs.Objects.{Blank};
+ghost use Rattle.fsck.specs.Checked.{RestPasses, Checked};
+use crate::shape::Found;
+use crate::shape::shape;
+use crate::tree::tree_passes;
+use fsck_names::names::names_pass;
+use fsck_objects::object::kind_of;
+use fsck_objects::objects::objects_pass;
+use kinds::numbers::Kind;
+
+// Makes the map of used blocks zero.
+fn clear_used(used: &mut [u8; 1024])
+    ensures { λ _. ⌜ Blank 1024 (now (used .exit)) ⌝ }
+{
+    *used = [0u8; 1024];
+}
+
+// Makes the map of parents zero.
+fn clear_parents(parents: &mut [u8; 64])
+    ensures { λ _. ⌜ Blank 64 (now (parents .exit)) ⌝ }
+{
+    *parents = [0u8; 64];
+}
+
+// Whether the name records pass, and the tree that they make; makes the map of parents.
+fn names_and_tree(store: &[u8], p: usize, count: usize, parents: &mut [u8; 64]) -> bool
+    requires { ⌜ Shaped (now store) ⌝ }
+    requires { ⌜ p ≡ objects (now store) ⌝ }
+    requires { ⌜ count ≡ names (now store) ⌝ }
+    ensures { λ r. ⌜ Told r (now (store .entry)) (RestPasses (now (store .entry)) (now (parents .exit))) ⌝ }
+{
+    clear_parents(parents);
+    let mut head = [0u8; 256];
+    let mut next = [0u8; 128];
+    if !names_pass(store, p, count, parents, &mut head, &mut next) {
+        return false;
+    }
+    let mut depths = [0u8; 64];
+    tree_passes(store, p, parents, &mut depths)
+}
+
+// Checks a store of any bytes. Of one that passes, gives its counts, and leaves in `used` a byte for each block, 1 where it is used and
+// else 0, and in `parents` for each object the number of its parent and 1, or 0 where nothing names it.
+pub fn check_store(store: &[u8], used: &mut [u8; 1024], parents: &mut [u8; 64]) -> Found
+    ensures { λ r. ⌜ Checked (now (store .entry)) r (now (used .exit)) (now (parents .exit)) ⌝ }
+{
+    let found = shape(store);
+    let Found::Good(counts) = found else {
+        return Found::Bad;
+    };
+    let p = counts.objects;
+    let q = counts.names;
+    let r = counts.blocks;
+    if kind_of(store, 0) != Kind::DIRECTORY {
+        return Found::Bad;
+    }
+    clear_used(used);
+    if !objects_pass(store, p, r, used) {
+        return Found::Bad;
+    }
+    if !names_and_tree(store, p, q, parents) {
+        return Found::Bad;
+    }
+    Found::Good(counts)
+}

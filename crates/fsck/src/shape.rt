@@ -1,0 +1,69 @@
+// The counts of a store, and its length.
+ghost use mathlib.Core.Path.{_≡_};
+ghost use Rattle.fsck.specs.Found.{shapeOf, First};
+use kinds::numbers::Limit;
+
+// How many objects, name records and blocks a store has.
+pub struct Counts {
+    pub objects: usize,
+    pub names: usize,
+    pub blocks: usize,
+}
+
+// What was found of a store: that it fails, or its counts.
+pub enum Found {
+    Bad,
+    Good(Counts),
+}
+
+// The counts of a store of a good shape.
+pub fn shape(store: &[u8]) -> Found
+    ensures { λ r. ⌜ r ≡ shapeOf (now (store .entry)) ⌝ }
+{
+    let length = store.len();
+    if length < 20 {
+        return Found::Bad;
+    }
+    if wire::get_u32(store, 0) != 1 {
+        return Found::Bad;
+    }
+    let objects = wire::get_u32(store, 8) as usize;
+    if objects < 1 {
+        return Found::Bad;
+    }
+    if objects > Limit::OBJECTS {
+        return Found::Bad;
+    }
+    if length < 20 + Limit::OBJECT_BYTES * objects {
+        return Found::Bad;
+    }
+    rest_of_shape(store, objects)
+}
+
+// The same, with the number of objects, which is in range, and behind which the count of names lies.
+fn rest_of_shape(store: &[u8], objects: usize) -> Found
+    requires { ⌜ First (now store) objects ⌝ }
+    ensures { λ r. ⌜ r ≡ shapeOf (now (store .entry)) ⌝ }
+{
+    let length = store.len();
+    let names = wire::get_u32(store, 12 + Limit::OBJECT_BYTES * objects) as usize;
+    if names > Limit::NAMES {
+        return Found::Bad;
+    }
+    let start = 20 + Limit::OBJECT_BYTES * objects + Limit::NAME_BYTES * names;
+    if length < start {
+        return Found::Bad;
+    }
+    let blocks = wire::get_u32(store, start - 4) as usize;
+    if blocks > Limit::BLOCKS {
+        return Found::Bad;
+    }
+    if length != start + Limit::BLOCK_BYTES * blocks {
+        return Found::Bad;
+    }
+    Found::Good(Counts {
+        objects,
+        names,
+        blocks,
+    })
+}

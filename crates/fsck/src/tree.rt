@@ -1,0 +1,114 @@
+// That parents lead to the root. `depths` has for each object whose steps to the root are known that number and 1, else 0.
+ghost use mathlib.Core.Path.{_≡_};
+ghost use Prim.Native.Nat.{_-_, _≤_, _<_};
+ghost use lib.ListN.{getD};
+ghost use Rattle.spec.specs.Image.{objects, names};
+ghost use Rattle.fsck_objects.specs.Told.{Shaped, Told};
+ghost use Rattle.fsck_objects.specs.Objects.{Blank};
+ghost use Rattle.fsck_names.specs.Named.{NamedBy};
+ghost use Rattle.fsck.specs.Tree.{Parents, Known, Steps, Depth, Leads, TreePasses};
+use fsck_names::distinct::index;
+use fsck_objects::object::kind_of;
+use kinds::numbers::Kind;
+
+// The parent of an object by the map.
+pub fn parent_of(parents: &[u8; 64], o: usize) -> usize
+    requires { ⌜ o < 64 ⌝ }
+    ensures { λ r. ⌜ r ≡ getD (now (parents .entry)) o 0 - 1 ⌝ }
+{
+    let mark = index(parents[o]);
+    if mark == 0 {
+        return 0;
+    }
+    mark - 1
+}
+
+// How many steps it is from object o to the root; more than p where p steps do not lead there.
+fn steps(store: &[u8], p: usize, parents: &[u8; 64], depths: &[u8; 64], o: usize) -> usize
+    requires { ⌜ Parents (now store) p (now parents) ⌝ }
+    requires { ⌜ Known (now store) p (now depths) ⌝ }
+    requires { ⌜ o < p ⌝ }
+    ensures { λ r. ⌜ Steps (now (store .entry)) p o r ⌝ }
+{
+    let mut at = o;
+    let mut k = 0;
+    while k <= p {
+        let depth = index(depths[at]);
+        if depth != 0 {
+            return k + depth - 1;
+        }
+        at = parent_of(parents, at);
+        k += 1;
+    }
+    k
+}
+
+// Writes down the steps of object o, and of each object above it up to one whose steps are known.
+fn note_steps(
+    store: &[u8],
+    p: usize,
+    parents: &[u8; 64],
+    depths: &mut [u8; 64],
+    o: usize,
+    count: usize,
+)
+    requires { ⌜ Parents (now store) p (now parents) ⌝ }
+    requires { ⌜ Known (now store) p (now depths) ⌝ }
+    requires { ⌜ o < p ⌝ }
+    requires { ⌜ count ≤ p ⌝ }
+    requires { ⌜ Depth (now store) o count ⌝ }
+    ensures { λ _. ⌜ Known (now (store .entry)) p (now (depths .exit)) ⌝ }
+{
+    let mut at = o;
+    let mut d = count;
+    while depths[at] == 0 {
+        depths[at] = (d + 1) as u8;
+        at = parent_of(parents, at);
+        d -= 1;
+    }
+}
+
+// Whether object o, if it is live, is named, but for the root, and its parents lead to the root.
+fn leads(store: &[u8], p: usize, parents: &[u8; 64], depths: &mut [u8; 64], o: usize) -> bool
+    requires { ⌜ Shaped (now store) ⌝ }
+    requires { ⌜ p ≡ objects (now store) ⌝ }
+    requires { ⌜ NamedBy (now store) (names (now store)) (now parents) ⌝ }
+    requires { ⌜ Known (now store) p (now depths) ⌝ }
+    requires { ⌜ o < p ⌝ }
+    ensures { λ r. ⌜ Told r (now (store .entry)) (Leads (now (store .entry)) p o (now (depths .exit))) ⌝ }
+{
+    if o == 0 {
+        return true;
+    }
+    if kind_of(store, o) == Kind::FREE {
+        return true;
+    }
+    if parents[o] == 0 {
+        return false;
+    }
+    let count = steps(store, p, parents, depths, o);
+    if count > p {
+        return false;
+    }
+    note_steps(store, p, parents, depths, o, count);
+    true
+}
+
+// Whether every object is named as it must be, and its parents lead to the root. `depths` is zero before.
+pub fn tree_passes(store: &[u8], p: usize, parents: &[u8; 64], depths: &mut [u8; 64]) -> bool
+    requires { ⌜ Shaped (now store) ⌝ }
+    requires { ⌜ p ≡ objects (now store) ⌝ }
+    requires { ⌜ NamedBy (now store) (names (now store)) (now parents) ⌝ }
+    requires { ⌜ Blank 64 (now depths) ⌝ }
+    ensures { λ r. ⌜ Told r (now (store .entry)) (TreePasses (now (store .entry)) p p (now (depths .exit))) ⌝ }
+{
+    depths[0] = 1;
+    let mut o = 0;
+    while o < p {
+        if !leads(store, p, parents, depths, o) {
+            return false;
+        }
+        o += 1;
+    }
+    true
+}

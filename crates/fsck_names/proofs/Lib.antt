@@ -1,0 +1,6 @@
+pub mod Dots
+pub mod Joins
+pub mod Same
+pub mod Chained
+pub mod Parents
+pub mod Whole

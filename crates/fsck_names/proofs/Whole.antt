@@ -1,0 +1,87 @@
+-- The pass over the name records, one further, and what it shows at the end. Assumes nothing.
+use mathlib.Core.Path.{_≡_, refl, sym, ap, _∙_}
+use mathlib.Core.Logic.{_≢_, by-cases, ⊎-elim}
+use mathlib.Core.Bool.{Bool, true, false, _&&_, _||_, not}
+use mathlib.Core.List.{List}
+use Prim.Native.Nat.{ℕ, zero, suc, _+_, _≤_, _<_}
+use native.Mathlib.Nat.{not-suc-le-zero}
+use native.Mathlib.Decide.{ℕ-discrete}
+use native.Mathlib.Omega.{arith}
+use lib.Dec.{eqb}
+use borrow.Author.Tests.{eq-eqb}
+use Rattle.spec.specs.Count.{bit, sum, count, every}
+use Rattle.spec.specs.Image.{Store, names, nameAt}
+use Rattle.spec.specs.Room.{isUsedName, isNamed}
+use Rattle.spec.specs.Check.{goodNameRecord, isDistinct}
+use Rattle.spec.proofs.Bytes.{lt-or-le}
+use Rattle.spec.proofs.Count.{by-bool, true-false, every-at, every-all, every-more, sum-zero}
+use Rattle.fsck_objects.specs.Told.{Shaped}
+use Rattle.fsck_objects.specs.Objects.{Blank}
+use Rattle.fsck_names.specs.Distinct.{isSame, Chains}
+use Rattle.fsck_names.specs.Named.{NamedBy}
+use Rattle.fsck_names.specs.Names.{NamesPass}
+use Rattle.fsck_names.proofs.Joins.{UsedWell, used-well, record-used}
+use Rattle.fsck_names.proofs.Same.{alike, same-self, same-back}
+use Rattle.fsck_names.proofs.Chained.{chains-none, chains-free}
+use Rattle.fsck_names.proofs.Parents.{parents-none, parents-free}
+
+pub names-none : (s : Store) (parents head next : List ℕ) → Blank 64 parents → Blank 256 head → Blank 128 next → NamesPass s 0 parents head next
+unfolding every
+names-none s parents head next a b d =
+    record { good = refl; new = λ k m l. absurd (not-suc-le-zero l); chains = chains-none s head next b d; named = parents-none s parents a }
+
+-- a free record
+pub names-free : (s : Store) (n : ℕ) (parents head next : List ℕ) → NamesPass s n parents head next → goodNameRecord s n ≡ true → isUsedName s n ≡ false
+    → NamesPass s (n + 1) parents head next
+names-free s n parents head next a g u =
+    record {
+      good = every-more (goodNameRecord s) n (a .good) g;
+      new = λ k m l q v. by-cases (ℕ-discrete k n) (λ (e : k ≡ n). true-false (sym (rw e at v) ∙ u)) (λ (d : k ≢ n). a .new k m (omega arith) q v);
+      chains = chains-free s n head next (a .chains) u;
+      named = parents-free s n parents u (a .named);
+    }
+
+-- a used record whose name is new
+pub names-used : (s : Store) (n : ℕ) (parents head next parents′ head′ next′ : List ℕ) → NamesPass s n parents head next → goodNameRecord s n ≡ true
+    → ((m : ℕ) → m < n → isSame s n m ≡ false) → Chains s (n + 1) head′ next′ → NamedBy s (n + 1) parents′
+    → NamesPass s (n + 1) parents′ head′ next′
+names-used s n parents head next parents′ head′ next′ a g f b d =
+    record {
+      good = every-more (goodNameRecord s) n (a .good) g;
+      new = λ k m l q v. by-cases (ℕ-discrete k n) (λ (e : k ≡ n). rw e (f m (omega arith))) (λ (x : k ≢ n). a .new k m (omega arith) q v);
+      chains = b;
+      named = d;
+    }
+
+-- ---- every name is distinct
+count-one : (p : ℕ → Bool) (q n : ℕ) → n < q → p n ≡ true → ((m : ℕ) → m < q → m ≢ n → p m ≡ false) → count q p ≡ 1
+unfolding sum
+count-one p zero n l e f = absurd (not-suc-le-zero l)
+count-one p (suc q) n l e f =
+    by-cases (ℕ-discrete n q)
+    (λ (x : n ≡ q). let a = sum-zero q (λ i. bit (p i)) (λ i h. ap bit (f i (omega arith) (λ y. absurd (omega arith)))) in
+    let b = ap bit (rw x at e) in omega arith)
+    (λ (x : n ≢ q). let a = count-one p q n (omega arith) e (λ m h d. f m (omega arith) d) in
+    let b = ap bit (f q (omega arith) (λ y. x (sym y))) in omega arith)
+
+pub distinct-all : (s : Store) (t : Shaped s) (parents head next : List ℕ) → NamesPass s (names s) parents head next → every (names s) (isDistinct s) ≡ true
+unfolding isDistinct
+distinct-all s t parents head next a =
+    every-all (isDistinct s) (names s) (λ n l. by-bool (isUsedName s n) (λ u. rw (u, one n l u)) (λ u. rw u))
+  where
+    well : (n : ℕ) → n < names s → isUsedName s n ≡ true → UsedWell s n
+    well n l u = used-well s n t l (record-used s n u (every-at (goodNameRecord s) (names s) n (a .good) l))
+
+    no-other : (n m : ℕ) → n < names s → m < names s → isUsedName s n ≡ true → m ≢ n → isSame s n m ≡ false
+    no-other n m l h u d =
+        ⊎-elim (λ (q : m < n). a .new n m l q u)
+        (λ (q : n ≤ m). by-bool (isSame s n m)
+        (λ e. let b = same-back s t n m l (well n l u) u e in
+        let v = by-bool (isUsedName s m) (λ x. x) (λ x. true-false (sym (alike s n m e .used) ∙ x)) in
+        true-false (sym b ∙ a .new m n h (omega arith) v))
+        (λ e. e))
+        (lt-or-le m n)
+
+    one : (n : ℕ) → n < names s → isUsedName s n ≡ true → eqb (count (names s) (isNamed s (nameAt s n .directory) (nameAt s n .text))) 1 ≡ true
+    one n l u =
+        eq-eqb _ _ (count-one (isNamed s (nameAt s n .directory) (nameAt s n .text)) (names s) n l (same-self s t n l (well n l u) u) (λ m h d. no-other n m l h u d))

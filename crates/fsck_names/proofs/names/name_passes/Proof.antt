@@ -1,0 +1,97 @@
+use mathlib.Core.Path.{sym, _∙_}
+use native.Mathlib.Omega.{arith}
+use borrow.Author.Tests.{not-true, not-false}
+use Rattle.fsck_objects.proofs.Passes.{told-true, told-false, fails-name}
+use Rattle.fsck_names.specs.Distinct.{New}
+use Rattle.fsck_names.proofs.Joins.{used-yes, used-no, record-used}
+use Rattle.fsck_names.proofs.Chained.{chains-used}
+use Rattle.fsck_names.proofs.Whole.{names-free, names-used}
+use borrow.Author.Needs.{needs}
+use Rattle.fsck_names.proofs.names.name_passes.Statement.{statement}
+use Rattle.fsck_names.proofs.names.name_passes.Tie as tie
+
+length-of-requires : tie.Need-length-of-requires
+length-of-requires c κs = search needs
+
+record-passes-requires : tie.Need-record-passes-requires
+record-passes-requires c κs = search needs
+
+returns : tie.Need-returns
+returns c =
+    let st = c .before .before .before .before in
+    told-false (fails-name (st .args .store .now) (st .args .n) (st .pre .1 .1 .0) (sym (c .before .record-passes .ensures) ∙ not-true _ (c .if1 .taken)))
+
+returns-2 : tie.Need-returns-2
+returns-2 c =
+    let st = c .before .before .before .before .before in
+    let a = st .args in
+    let s = a .store .now in
+    let g = sym (c .before .before .record-passes .ensures) ∙ not-false _ (c .before .if1 .left) in
+    told-true (names-free s (a .n) (a .parents .now) (a .head .now) (a .next .now) (st .pre .1 .1 .1) g (used-no s (a .n) (sym (c .before .before .before .length-of .ensures) ∙ c .if2 .taken)))
+
+mark-child-requires : tie.Need-mark-child-requires
+mark-child-requires c κs =
+    let st = c .before .before .before .before .before .before in
+    let a = st .args in
+    let s = a .store .now in
+    let g = sym (c .before .before .before .record-passes .ensures) ∙ not-false _ (c .before .before .if1 .left) in
+    let u = used-yes s (a .n) (λ e. c .before .if2 .left (c .before .before .before .before .length-of .ensures ∙ e)) in
+    (st .pre .0, (st .pre .1 .0, (st .pre .1 .1 .0, (u, (record-used s (a .n) u g, st .pre .1 .1 .1 .named)))))
+
+returns-3 : tie.Need-returns-3
+returns-3 c = told-false (c .before .mark-child .ensures .no (not-true _ (c .if3 .taken)))
+
+hash-of-requires : tie.Need-hash-of-requires
+hash-of-requires c κs = search needs
+
+is-new-requires : tie.Need-is-new-requires
+is-new-requires c κs =
+    let st = c .before .before .before .before .before .before .before .before .before .before .before in
+    let a = st .args in
+    let s = a .store .now in
+    let g = sym (c .before .before .before .before .before .before .before .before .record-passes .ensures) ∙ not-false _ (c .before .before .before .before .before .before .before .if1 .left) in
+    let u = used-yes s (a .n) (λ e. c .before .before .before .before .before .before .if2 .left (c .before .before .before .before .before .before .before .before .before .length-of .ensures ∙ e)) in
+    let w : New s (a .n) (c .before .before .hash-of .result) = record {
+      below = st .pre .1 .1 .0;
+      used = u;
+      good = g;
+      before = st .pre .1 .1 .1 .good;
+      hashed = c .before .before .hash-of .ensures .0;
+      small = c .before .before .hash-of .ensures .1;
+    } in
+    (st .pre .0, (st .pre .1 .0, (w, st .pre .1 .1 .1 .chains)))
+
+returns-4 : tie.Need-returns-4
+returns-4 c = told-false (c .before .is-new .ensures .no (not-true _ (c .if4 .taken)))
+
+put-first-requires : tie.Need-put-first-requires
+put-first-requires c κs = search needs
+
+returns-5 : tie.Need-returns-5
+returns-5 c =
+    let st = c .before .before .before .before .before .before .before .before .before .before .before .before .before .before .before .before in
+    let a = st .args in
+    let s = a .store .now in
+    let g = sym (c .before .before .before .before .before .before .before .before .before .before .before .before .before .record-passes .ensures) ∙ not-false _ (c .before .before .before .before .before .before .before .before .before .before .before .before .if1 .left) in
+    let u = used-yes s (a .n) (λ e. c .before .before .before .before .before .before .before .before .before .before .before .if2 .left (c .before .before .before .before .before .before .before .before .before .before .before .before .before .before .length-of .ensures ∙ e)) in
+    let h = c .before .before .before .before .before .before .before .hash-of in
+    let m = c .before .before .before .before .before .before .before .before .before .mark-child .ensures .yes (not-false _ (c .before .before .before .before .before .before .before .before .if3 .left)) in
+    let f = c .before .before .before .before .is-new .ensures .yes (not-false _ (c .before .before .before .if4 .left)) in
+    let k = chains-used s (a .n) (a .head .now) (a .next .now) (st .pre .1 .1 .1 .chains) (h .result) (h .ensures .0) (h .ensures .1) (omega (arith, st .pre .0 .few-names, st .pre .1 .1 .0)) u in
+    told-true (names-used s (a .n) (a .parents .now) (a .head .now) (a .next .now) _ _ _ (st .pre .1 .1 .1) g f (rw (c .put-first .ensures .0, c .put-first .ensures .1) k) m)
+
+pub name-passes-spec : {M : Type 1} → statement M
+name-passes-spec =
+    tie.close
+    (tie.spec
+    length-of-requires
+    record-passes-requires
+    returns
+    returns-2
+    mark-child-requires
+    returns-3
+    hash-of-requires
+    is-new-requires
+    returns-4
+    put-first-requires
+    returns-5)

@@ -1,0 +1,20 @@
+use Rattle.spec.specs.Image.{nameAt, nameFrom, nameLength}
+use borrow.Author.Needs.{needs}
+use Rattle.fsck_names.proofs.record.directory_of.Statement.{statement}
+use Rattle.fsck_names.proofs.record.directory_of.Tie as tie
+
+name-start-requires : tie.Need-name-start-requires
+name-start-requires c κs = search needs
+
+get-u32-requires : tie.Need-get-u32-requires
+get-u32-requires c κs = search needs
+
+cast-result : tie.Need-cast-result
+cast-result c = search needs
+
+returns : tie.Need-returns
+unfolding nameAt nameFrom nameLength
+returns c = cc
+
+pub directory-of-spec : {M : Type 1} → statement M
+directory-of-spec = tie.close (tie.spec name-start-requires get-u32-requires cast-result returns)

@@ -1,0 +1,4 @@
+pub mod Record
+pub mod Distinct
+pub mod Named
+pub mod Names

@@ -1,0 +1,6 @@
+// The store check's pass over the name records.
+pub mod text; // the bytes of a name
+pub mod record; // one name record by itself
+pub mod distinct; // that no two names in a directory are the same
+pub mod named; // that no object is named twice, and the root never
+pub mod names; // all name records

@@ -1,0 +1,73 @@
+// All name records.
+ghost use mathlib.Core.Path.{_≡_};
+ghost use Prim.Native.Nat.{_+_, _<_};
+ghost use Rattle.spec.specs.Image.{objects, names};
+ghost use Rattle.fsck_objects.specs.Told.{Shaped, Told};
+ghost use Rattle.fsck_objects.specs.Objects.{Blank};
+ghost use Rattle.fsck_names.specs.Names.{NamesPass};
+use crate::distinct::hash_of;
+use crate::distinct::is_new;
+use crate::distinct::put_first;
+use crate::named::mark_child;
+use crate::record::length_of;
+use crate::record::record_passes;
+
+// Whether name record n passes, and those before it.
+fn name_passes(
+    store: &[u8],
+    p: usize,
+    n: usize,
+    parents: &mut [u8; 64],
+    head: &mut [u8; 256],
+    next: &mut [u8; 128],
+) -> bool
+    requires { ⌜ Shaped (now store) ⌝ }
+    requires { ⌜ p ≡ objects (now store) ⌝ }
+    requires { ⌜ n < names (now store) ⌝ }
+    requires { ⌜ NamesPass (now store) n (now parents) (now head) (now next) ⌝ }
+    ensures { λ r. ⌜ Told r (now (store .entry)) (NamesPass (now (store .entry)) (n + 1) (now (parents .exit)) (now (head .exit)) (now (next .exit))) ⌝ }
+{
+    let len = length_of(store, p, n);
+    if !record_passes(store, p, n, len) {
+        return false;
+    }
+    if len == 0 {
+        return true;
+    }
+    if !mark_child(store, p, n, parents) {
+        return false;
+    }
+    let h = hash_of(store, p, n);
+    if !is_new(store, p, n, h, head, next) {
+        return false;
+    }
+    put_first(head, next, h, n);
+    true
+}
+
+// Whether every name record passes; makes the map of parents, which is zero before, as the other two maps are.
+pub fn names_pass(
+    store: &[u8],
+    p: usize,
+    count: usize,
+    parents: &mut [u8; 64],
+    head: &mut [u8; 256],
+    next: &mut [u8; 128],
+) -> bool
+    requires { ⌜ Shaped (now store) ⌝ }
+    requires { ⌜ p ≡ objects (now store) ⌝ }
+    requires { ⌜ count ≡ names (now store) ⌝ }
+    requires { ⌜ Blank 64 (now parents) ⌝ }
+    requires { ⌜ Blank 256 (now head) ⌝ }
+    requires { ⌜ Blank 128 (now next) ⌝ }
+    ensures { λ r. ⌜ Told r (now (store .entry)) (NamesPass (now (store .entry)) count (now (parents .exit)) (now (head .exit)) (now (next .exit))) ⌝ }
+{
+    let mut n = 0;
+    while n < count {
+        if !name_passes(store, p, n, parents, head, next) {
+            return false;
+        }
+        n += 1;
+    }
+    true
+}

@@ -1,0 +1,110 @@
+// One name record by itself.
+ghost use mathlib.Core.Path.{_≡_};
+ghost use Prim.Native.Nat.{_+_, _*_, _≤_, _<_};
+ghost use lib.ListN.{length};
+ghost use Rattle.spec.specs.Image.{objects, names, objectStart, nameStart, nameAt, nameLength};
+ghost use Rattle.spec.specs.Room.{isDirectory, isLive};
+ghost use Rattle.spec.specs.Check.{goodUsed, goodNameRecord};
+ghost use Rattle.fsck_objects.specs.Told.{Shaped};
+ghost use Rattle.fsck_names.specs.Record.{isDirectoryIn, isLiveIn};
+use crate::text::good_name;
+use fsck_objects::object::kind_of;
+use fsck_objects::zero::is_zero;
+use kinds::numbers::Kind;
+use kinds::numbers::Limit;
+
+// Where name record n starts, in a store of p objects.
+pub fn name_start(p: usize, n: usize) -> usize
+    requires { ⌜ p ≤ 64 ⌝ }
+    requires { ⌜ n ≤ 128 ⌝ }
+    ensures { λ r. ⌜ r ≡ 16 + 80 * p + 44 * n ⌝ }
+{
+    16 + Limit::OBJECT_BYTES * p + Limit::NAME_BYTES * n
+}
+
+// Whether o is the number of a directory.
+fn is_directory(store: &[u8], p: usize, o: usize) -> bool
+    requires { ⌜ Shaped (now store) ⌝ }
+    requires { ⌜ p ≡ objects (now store) ⌝ }
+    ensures { λ r. ⌜ r ≡ isDirectoryIn (now (store .entry)) o ⌝ }
+{
+    o < p && kind_of(store, o) == Kind::DIRECTORY
+}
+
+// Whether o is the number of a live object.
+fn is_live(store: &[u8], p: usize, o: usize) -> bool
+    requires { ⌜ Shaped (now store) ⌝ }
+    requires { ⌜ p ≡ objects (now store) ⌝ }
+    ensures { λ r. ⌜ r ≡ isLiveIn (now (store .entry)) o ⌝ }
+{
+    o < p && kind_of(store, o) != Kind::FREE
+}
+
+// Whether name record n, of a length other than 0, passes by itself.
+fn good_used(store: &[u8], p: usize, n: usize, len: usize) -> bool
+    requires { ⌜ Shaped (now store) ⌝ }
+    requires { ⌜ p ≡ objects (now store) ⌝ }
+    requires { ⌜ n < names (now store) ⌝ }
+    requires { ⌜ len ≡ nameLength (now store) n ⌝ }
+    requires { ⌜ 1 ≤ len ⌝ }
+    ensures { λ r. ⌜ r ≡ goodUsed (now (store .entry)) n ⌝ }
+{
+    let at = name_start(p, n);
+    if len > Limit::NAME {
+        return false;
+    }
+    if !good_name(store, at + 12, len) {
+        return false;
+    }
+    if !is_zero(store, at + 12 + len, Limit::NAME - len) {
+        return false;
+    }
+    if !is_directory(store, p, wire::get_u32(store, at) as usize) {
+        return false;
+    }
+    is_live(store, p, wire::get_u32(store, at + 4) as usize)
+}
+
+// The length that name record n states; 0 where it is free.
+pub fn length_of(store: &[u8], p: usize, n: usize) -> usize
+    requires { ⌜ Shaped (now store) ⌝ }
+    requires { ⌜ p ≡ objects (now store) ⌝ }
+    requires { ⌜ n < names (now store) ⌝ }
+    ensures { λ r. ⌜ r ≡ nameLength (now (store .entry)) n ⌝ }
+{
+    wire::get_u32(store, name_start(p, n) + 8) as usize
+}
+
+// The directory of name record n.
+pub fn directory_of(store: &[u8], p: usize, n: usize) -> usize
+    requires { ⌜ Shaped (now store) ⌝ }
+    requires { ⌜ p ≡ objects (now store) ⌝ }
+    requires { ⌜ n < names (now store) ⌝ }
+    ensures { λ r. ⌜ r ≡ nameAt (now (store .entry)) n .directory ⌝ }
+{
+    wire::get_u32(store, name_start(p, n)) as usize
+}
+
+// The object that name record n names.
+pub fn child_of(store: &[u8], p: usize, n: usize) -> usize
+    requires { ⌜ Shaped (now store) ⌝ }
+    requires { ⌜ p ≡ objects (now store) ⌝ }
+    requires { ⌜ n < names (now store) ⌝ }
+    ensures { λ r. ⌜ r ≡ nameAt (now (store .entry)) n .child ⌝ }
+{
+    wire::get_u32(store, name_start(p, n) + 4) as usize
+}
+
+// Whether name record n, which states the length `len`, passes by itself.
+pub fn record_passes(store: &[u8], p: usize, n: usize, len: usize) -> bool
+    requires { ⌜ Shaped (now store) ⌝ }
+    requires { ⌜ p ≡ objects (now store) ⌝ }
+    requires { ⌜ n < names (now store) ⌝ }
+    requires { ⌜ len ≡ nameLength (now store) n ⌝ }
+    ensures { λ r. ⌜ r ≡ goodNameRecord (now (store .entry)) n ⌝ }
+{
+    if len == 0 {
+        return is_zero(store, name_start(p, n), Limit::NAME_BYTES);
+    }
+    good_used(store, p, n, len)
+}

@@ -1,0 +1,4 @@
+pub mod Zeros
+pub mod Passes
+pub mod Marks
+pub mod Whole

@@ -1,0 +1,107 @@
+-- The laws of bytes that are zero. Assumes nothing.
+use mathlib.Core.Path.{_≡_, refl, sym, ap, _∙_}
+use mathlib.Core.Bool.{Bool, true, false, _&&_, and-false}
+use mathlib.Core.List.{List, [], _∷_, _++_}
+use Prim.Native.Nat.{ℕ, zero, suc, _+_, _-_, _*_, _/_, _%_, _≤_, _<_}
+use native.Mathlib.Nat.{not-suc-le-zero}
+use native.Mathlib.Omega.{arith}
+use lib.Dec.{eqb}
+use lib.ListN.{length, getD, replicate}
+use borrow.Author.Tests.{eqb-true, eq-eqb}
+use Rattle.spec.specs.Bytes.{part, digits, beOf, beAt, allBytes}
+use Rattle.spec.specs.Check.{isZero}
+use Rattle.spec.proofs.Bytes.{part-add, part-snoc, part-length, getD-part}
+use Rattle.spec.proofs.Count.{by-bool, true-false, and-both}
+
+pub and-true : (t : Bool) → t && true ≡ t
+and-true true = refl
+and-true false = refl
+
+and-assoc : (t u v : Bool) → t && (u && v) ≡ t && u && v
+and-assoc true u v = refl
+and-assoc false u v = refl
+
+-- ---- every byte passes a test
+pub all-append : (p : ℕ → Bool) (xs ys : List ℕ) → allBytes p (xs ++ ys) ≡ allBytes p xs && allBytes p ys
+unfolding allBytes
+all-append p [] ys = refl
+all-append p (x ∷ xs) ys = rw (all-append p xs ys) (and-assoc (p x) (allBytes p xs) (allBytes p ys))
+
+pub all-at : (p : ℕ → Bool) (xs : List ℕ) (i : ℕ) → allBytes p xs ≡ true → i < length xs → p (getD xs i 0) ≡ true
+unfolding allBytes
+all-at p [] i e h = absurd (not-suc-le-zero h)
+all-at p (x ∷ xs) zero e h = and-both (p x) (allBytes p xs) e .0
+all-at p (x ∷ xs) (suc i) e h = all-at p xs i (and-both (p x) (allBytes p xs) e .1) (omega arith)
+
+-- a part that passes gets one byte more that passes
+pub all-more : (p : ℕ → Bool) (b : List ℕ) (at i : ℕ) → at + i < length b → allBytes p (part b at i) ≡ true → p (getD b (at + i) 0) ≡ true
+    → allBytes p (part b at (i + 1)) ≡ true
+unfolding allBytes
+all-more p b at i h e t = rw (part-snoc b at i h, all-append, e, t)
+
+-- a byte of a part does not pass
+pub all-fails : (p : ℕ → Bool) (b : List ℕ) (at n i : ℕ) → at + n ≤ length b → i < n → p (getD b (at + i) 0) ≡ false → allBytes p (part b at n) ≡ false
+all-fails p b at n i l h e =
+    by-bool (allBytes p (part b at n))
+    (λ t. true-false (sym (all-at p (part b at n) i t (rw (part-length b at n l) h)) ∙ ap p (getD-part b at n i h) ∙ e))
+    (λ t. t)
+
+pub all-none : (p : ℕ → Bool) (b : List ℕ) (at : ℕ) → allBytes p (part b at 0) ≡ true
+unfolding allBytes part
+all-none p b at = refl
+
+-- ---- zero
+pub zero-add : (b : List ℕ) (at m n : ℕ) → isZero (part b at (m + n)) ≡ isZero (part b at m) && isZero (part b (at + m) n)
+unfolding isZero
+zero-add b at m n = rw (part-add b at m n) (all-append (λ x. eqb x 0) (part b at m) (part b (at + m) n))
+
+-- what lies within zero bytes is zero
+pub zero-within : (b : List ℕ) (at n i m : ℕ) → i + m ≤ n → isZero (part b at n) ≡ true → isZero (part b (at + i) m) ≡ true
+zero-within b at n i m h e =
+    let q : n ≡ i + (m + (n - i - m)) = omega arith in
+    let f : isZero (part b at (i + (m + (n - i - m)))) ≡ true = rw q at e in
+    let g = and-both (isZero (part b at i)) (isZero (part b (at + i) (m + (n - i - m)))) (sym (zero-add b at i (m + (n - i - m))) ∙ f) .1 in
+    and-both (isZero (part b (at + i) m)) (isZero (part b (at + i + m) (n - i - m))) (sym (zero-add b (at + i) m (n - i - m)) ∙ g) .0
+
+-- ---- a number is 0 where its bytes are zero
+digits-zero : (xs : List ℕ) (acc : ℕ) → digits acc xs ≡ 0 → (acc ≡ 0) × (isZero xs ≡ true)
+unfolding digits isZero allBytes
+digits-zero [] acc e = (e, refl)
+digits-zero (x ∷ xs) acc e =
+    let r = digits-zero xs (acc * 256 + x) e in
+    let q = r .0 in
+    let z : x ≡ 0 = omega arith in
+    (omega arith, rw (eq-eqb x 0 z) (r .1))
+
+zero-digits : (xs : List ℕ) → isZero xs ≡ true → digits 0 xs ≡ 0
+unfolding digits isZero allBytes
+zero-digits [] e = refl
+zero-digits (x ∷ xs) e =
+    let p = and-both (eqb x 0) (allBytes (λ y. eqb y 0) xs) e in
+    rw (eqb-true x 0 (p .0)) (zero-digits xs (p .1))
+
+pub be-zero : (b : List ℕ) (at w : ℕ) → beAt b at w ≡ 0 → isZero (part b at w) ≡ true
+unfolding beAt beOf
+be-zero b at w e = digits-zero (part b at w) 0 e .1
+
+pub zero-be : (b : List ℕ) (at w : ℕ) → isZero (part b at w) ≡ true → beAt b at w ≡ 0
+unfolding beAt beOf
+zero-be b at w e = zero-digits (part b at w) e
+
+-- the loop over groups of eight bytes
+pub zero-more : (b : List ℕ) (at i : ℕ) → isZero (part b at (8 * i)) ≡ true → beAt b (at + 8 * i) 8 ≡ 0 → isZero (part b at (8 * (i + 1))) ≡ true
+zero-more b at i e t =
+    let q : 8 * (i + 1) ≡ 8 * i + 8 = omega arith in
+    rw (q, zero-add b at (8 * i) 8, e) (be-zero b (at + 8 * i) 8 t)
+
+pub zero-fails : (b : List ℕ) (at n i : ℕ) → i < n → (beAt b (at + 8 * i) 8 ≡ 0 → ⊥) → isZero (part b at (8 * n)) ≡ false
+zero-fails b at n i h f =
+    by-bool (isZero (part b at (8 * n)))
+    (λ t. absurd (f (zero-be b (at + 8 * i) 8 (zero-within b at (8 * n) (8 * i) 8 (omega arith) t))))
+    (λ t. t)
+
+-- a run of bytes up to a multiple of eight, and then groups of eight
+pub zero-split : (b : List ℕ) (at n : ℕ) → isZero (part b at n) ≡ isZero (part b at (n % 8)) && isZero (part b (at + n % 8) (8 * (n / 8)))
+zero-split b at n =
+    let q : n ≡ n % 8 + 8 * (n / 8) = omega arith in
+    ap (λ (k : ℕ). isZero (part b at k)) q ∙ zero-add b at (n % 8) (8 * (n / 8))

@@ -1,0 +1,143 @@
+-- What `serve` does with a request: where a procedure is asked, its act; otherwise the store and the book stay. Assumes nothing.
+use mathlib.Core.Path.{_≡_, refl, sym, ap, _∙_}
+use mathlib.Core.Logic.{_⊎_, inl, inr}
+use mathlib.Core.Bool.{true, false}
+use mathlib.Core.Option.{Option, some, none}
+use mathlib.Core.List.{List}
+use Prim.Native.Nat.{ℕ, _≤_, _<_}
+use native.Mathlib.Omega.{arith}
+use lib.Dec.{ltb}
+use lib.ListN.{length, take}
+use lib.Seq.{take-at}
+use borrow.Author.Tests.{le-ltb, lt-ltb, ltb-false, ltb-true}
+use Rattle.kinds.specs.Reading.{Read, got, bad}
+use Rattle.kinds.specs.declared.object.Context.{Context}
+use Rattle.kinds.specs.declared.call.Header.{Header}
+use Rattle.kinds.specs.declared.call.Header.the-variants as Header
+use Rattle.kinds.specs.declared.call.Arguments.{Arguments}
+use Rattle.spec.specs.Arguments.{arguments}
+use Rattle.spec.specs.Bytes.{overlay}
+use Rattle.spec.specs.Check.{passes, goodTime}
+use Rattle.spec.specs.Image.{Store}
+use Rattle.spec.specs.Procedures.{act}
+use Rattle.spec.specs.Replies.{resultBytes}
+use Rattle.spec.specs.Checked.{Checked, refused, passed}
+use Rattle.spec.specs.Header.{header}
+use Rattle.spec.specs.Rpc.{accepted, nfs, judge}
+use Rattle.spec.specs.Serve.{Outcome, refuse, Sent, send, perform, answer, complete, outcome as settled, serve}
+use Rattle.spec.proofs.Count.{by-bool, true-false}
+use Rattle.history.specs.Book.{Ledger, readArguments, judgedArguments, headedArguments, asked, isOk, noted, note}
+use Rattle.history.specs.Run.{Request, outcome, replyTo}
+use Rattle.history.specs.Statement.{Asks}
+
+-- an act's reply, for a call with this number and procedure
+abbrev pub actReply : Store → Context → List ℕ → Arguments → ℕ → ℕ → List ℕ
+actReply s c call a xid p = accepted xid 0 (resultBytes p (act s c call a .result))
+
+-- a procedure was asked: its reply and its store
+pub record Acted (s : Store) (x : Request) (a : Arguments) : Type 0 where
+  pub xid : ℕ
+  pub procedure : ℕ
+  pub reply : replyTo s x ≡ actReply s (x .context) (x .call) a xid procedure
+  pub store : outcome s x .store ≡ act s (x .context) (x .call) a .store
+
+some-none : {A B : Type 0} {a : A} → none ≡ some a → B
+some-none e = let z : _≡_ {A = ℕ} 0 1 = cc in absurd (omega arith)
+
+sent-reply : (space : List ℕ) (t : Sent) → take (send space t .length) (send space t .space) ≡ t .reply
+unfolding overlay
+sent-reply space t = take-at (t .reply) _ (length (t .reply)) refl
+
+module _ (s : Store) (x : Request) where
+  sent : Arguments → ℕ → ℕ → Sent
+  sent a xid p = record { reply = actReply s (x .context) (x .call) a xid p; store = act s (x .context) (x .call) a .store }
+
+  answered : (a : Arguments) (r : Read Header) → headedArguments (x .call) r ≡ some a
+      → (xid : ℕ) × (p : ℕ) × (settled (x .space) s (complete s (x .context) (x .call) r) ≡ send (x .space) (sent a xid p))
+  unfolding sent
+  answered a (bad p) e = some-none e
+  answered a (got (Header.OtherVersion xid) at) e = some-none e
+  answered a (got (Header.Call h) at) e = judged (judge nfs h) e
+    where
+      read : (r : Read Arguments) → readArguments r ≡ some a
+          → (xid : ℕ) × (p : ℕ) × (send (x .space) (perform s (x .context) (x .call) h r) ≡ send (x .space) (sent a xid p))
+      read (bad p) e = some-none e
+      read (got b next) e = let q : b ≡ a = cc in (h .xid, h .procedure, ap (λ (b : Arguments). send (x .space) (sent b (h .xid) (h .procedure))) q)
+
+      judged : (j : Checked (Unit {0})) → judgedArguments (x .call) h at j ≡ some a
+          → (xid : ℕ) × (p : ℕ) × (send (x .space) (answer s (x .context) (x .call) h at j) ≡ send (x .space) (sent a xid p))
+      judged (refused stat) e = some-none e
+      judged (passed _) e = read (arguments (h .procedure) (x .call) at) e
+
+  unanswered : (r : Read Header) → headedArguments (x .call) r ≡ none → settled (x .space) s (complete s (x .context) (x .call) r) .store ≡ s
+  unanswered (bad p) e = refl
+  unanswered (got (Header.OtherVersion xid) at) e = refl
+  unanswered (got (Header.Call h) at) e = judged (judge nfs h) e
+    where
+      read : (r : Read Arguments) → readArguments r ≡ none → perform s (x .context) (x .call) h r .store ≡ s
+      read (bad p) e = refl
+      read (got b next) e = some-none (sym e)
+
+      judged : (j : Checked (Unit {0})) → judgedArguments (x .call) h at j ≡ none → answer s (x .context) (x .call) h at j .store ≡ s
+      judged (refused stat) e = refl
+      judged (passed _) e = read (arguments (h .procedure) (x .call) at) e
+
+  -- the tests in the table's order
+  heard : 4224 ≤ length (x .space) → x .context .clock .nanoseconds < 1000000000 → length (x .call) ≤ 8192 → passes s ≡ true
+      → outcome s x ≡ settled (x .space) s (complete s (x .context) (x .call) (header (x .call) 0))
+  unfolding serve goodTime
+  heard a b c d =
+      rw (le-ltb (length (x .space)) 4224 a, lt-ltb (x .context .clock .nanoseconds) 1000000000 b, le-ltb 8192 (length (x .call)) c, d)
+
+  pub acted : (a : Arguments) → Asks x a → passes s ≡ true → Acted s x a
+  unfolding replyTo asked sent
+  acted a q v =
+      let h = heard (q .space) (q .clock) (q .short) v in
+      let (xid, p, e) = answered a (header (x .call) 0) (q .reads) in
+      record {
+        xid = xid;
+        procedure = p;
+        reply = ap (λ (o : Outcome). take (o .length) (o .space)) (h ∙ e) ∙ sent-reply (x .space) (sent a xid p);
+        store = ap (λ (o : Outcome). o .store) (h ∙ e);
+      }
+
+  -- nothing is asked, or the request is refused: the store stays, and so does every book
+  pub record Idle : Type 0 where
+    pub store : outcome s x .store ≡ s
+    pub ledger : (L : Ledger) → note (x .call) (replyTo s x) L ≡ L
+    pub unasked : isOk (replyTo s x) ≡ true → asked (x .call) ≡ none
+
+  refused-idle : (n : ℕ) → outcome s x ≡ refuse n (x .space) s → Idle
+  unfolding replyTo note isOk
+  refused-idle n e =
+      record {
+        store = ap (λ (o : Outcome). o .store) e;
+        ledger = λ L. ap (λ (o : Outcome). note (x .call) (take (o .length) (o .space)) L) e;
+        unasked = λ t. true-false (sym t ∙ ap (λ (o : Outcome). isOk (take (o .length) (o .space))) e);
+      }
+
+  unasked-idle : asked (x .call) ≡ none → outcome s x ≡ settled (x .space) s (complete s (x .context) (x .call) (header (x .call) 0)) → Idle
+  unfolding note asked noted
+  unasked-idle n e =
+      record {
+        store = ap (λ (o : Outcome). o .store) e ∙ unanswered (header (x .call) 0) n;
+        ledger = λ L. by-bool (isOk (replyTo s x)) (λ t. rw (t, n)) (λ t. rw t);
+        unasked = λ t. n;
+      }
+
+  -- what becomes of a request
+  pub served : passes s ≡ true → Idle ⊎ ((a : Arguments) × Asks x a)
+  unfolding serve goodTime
+  served v =
+      by-bool (ltb (length (x .space)) 4224)
+      (λ a. inl (refused-idle 2 (rw a)))
+      (λ a. by-bool (ltb (x .context .clock .nanoseconds) 1000000000)
+      (λ b. by-bool (ltb 8192 (length (x .call)))
+      (λ c. inl (refused-idle 4 (rw (a, b, c))))
+      (λ c. go (asked (x .call)) refl a b c))
+      (λ b. inl (refused-idle 3 (rw (a, b)))))
+    where
+      go : (o : Option Arguments) → asked (x .call) ≡ o → ltb (length (x .space)) 4224 ≡ false → ltb (x .context .clock .nanoseconds) 1000000000 ≡ true
+          → ltb 8192 (length (x .call)) ≡ false → Idle ⊎ ((a : Arguments) × Asks x a)
+      go none n a b c = inl (unasked-idle n (rw (a, b, c, v)))
+      go (some r) n a b c = inr (r, record { space = ltb-false _ _ a; clock = ltb-true _ _ b; short = ltb-false _ _ c; reads = n })

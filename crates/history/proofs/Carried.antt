@@ -1,0 +1,165 @@
+-- Every handle in an OK reply is a live object's after the call. Assumes nothing.
+use mathlib.Core.Path.{_≡_, refl, sym, ap, _∙_, subst}
+use mathlib.Core.Logic.{_⊎_}
+use mathlib.Core.Bool.{Bool, true, false, cond}
+use mathlib.Core.Option.{Option, some, none}
+use mathlib.Core.List.{List}
+use Prim.Native.Nat.{ℕ}
+use native.Mathlib.Omega.{arith}
+use Rattle.kinds.specs.declared.call.NameIn.{NameIn}
+use Rattle.kinds.specs.declared.call.Arguments.{Arguments}
+use Rattle.kinds.specs.declared.call.Arguments.the-variants as Call
+use Rattle.spec.specs.Checked.{Checked, refused, passed, present}
+use Rattle.spec.specs.Handles.{handleOf, reachDirectory, checkName, attributes}
+use Rattle.spec.specs.Image.{Store, stamp, names, objectAt, nameAt}
+use Rattle.spec.specs.Names.{isDot, isDotDot}
+use Rattle.spec.specs.Procedures.{cut, act}
+use Rattle.spec.specs.Procedures.Names.{childOf, lookIn, checkLookup}
+use Rattle.spec.specs.Procedures.Names as Spec
+use Rattle.spec.specs.Results.{unchanged, failShowing, settle, found}
+use Rattle.spec.specs.Room.{findName, parent}
+use Rattle.spec.proofs.Count.{true-false, lowest-passes}
+use Rattle.history.proofs.Sum.{holds, holds-true}
+use Rattle.spec.proofs.Error.{lookup-store}
+use Rattle.spec.proofs.Passed.{bind-passed, directory-passed}
+use Rattle.spec.proofs.Valid.{passes-valid}
+use Rattle.history.specs.Book.{Ledger, asked, foundHandle, madeHandle, isOk}
+use Rattle.history.specs.Run.{Request, Lent, outcome, replyTo}
+use Rattle.history.specs.Statement.{Asks, Carries, lookup, create, mkdir}
+use Rattle.history.proofs.View.{Live, names?}
+use Rattle.history.proofs.Tree.{Tree}
+use Rattle.history.proofs.Walk.{directoryAt, naming}
+use Rattle.history.proofs.Issue.{Current}
+use Rattle.history.proofs.Seen.{view, kind-at, child-at, live-in, parent-same}
+use Rattle.history.proofs.Inv.{Inv, tree}
+use Rattle.history.proofs.Checks.{found-name, Sure, sure-bind, sure-passed, sure-directory, sure-name}
+use Rattle.history.proofs.Replies.{found-is}
+use Rattle.history.proofs.Asked.{acted, Idle, served}
+use Rattle.history.proofs.Ranges.{asked-fits}
+use Rattle.history.proofs.Noted.{Answer, showing-says, not-ok}
+use Rattle.history.proofs.Making.{handle-seen}
+use Rattle.history.proofs.Create.{create-made, mkdir-made}
+use Rattle.history.proofs.Next.{answer-to, clocked}
+
+module _ (σ p q r : ℕ) (s : Store) (L : Ledger) (I : Inv σ p q r s L) where
+  -- a live directory's parent is live
+  parent-live : (d : ℕ) → Live (view s) d → Live (view s) (parent s d)
+  parent-live d l =
+      let T = tree σ p q r s L I in
+      let e = parent-same s (I .valid .good-names) d in
+      subst (Live (view s)) e (go T (naming (names s) (view s) d) refl)
+    where
+      go : Tree p q (view s) → (x : Option ℕ) → naming (names s) (view s) d ≡ x → Live (view s) (directoryAt (view s) x)
+      go T none z = omega (arith, T .flat .root)
+      go T (some n) z = omega (arith, T .flat .dirs n (holds-true (names? (view s) n d) (lowest-passes (λ n. holds (names? (view s) n d)) (names s) n z .passes) .0))
+
+  sure-look : (d : ℕ) (text : List ℕ) → Sure (lookIn s d text)
+  unfolding lookIn
+  sure-look d text = dot (isDot text)
+    where
+      child : (x : Option ℕ) → Sure (childOf s (present 2 x))
+      child none = λ status e. let z : 2 ≡ status = cc in (omega arith, omega arith)
+      child (some n) = sure-passed (nameAt s n .child)
+
+      dots : (t : Bool) → Sure (cond t (passed (parent s d)) (childOf s (present 2 (findName s d text))))
+      dots true = sure-passed (parent s d)
+      dots false = child (findName s d text)
+
+      dot : (t : Bool) → Sure (cond t (passed d) (cond (isDotDot text) (passed (parent s d)) (childOf s (present 2 (findName s d text)))))
+      dot true = sure-passed d
+      dot false = dots (isDotDot text)
+
+  look-live : (d : ℕ) (text : List ℕ) (o : ℕ) → Live (view s) d → lookIn s d text ≡ passed o → Live (view s) o
+  unfolding lookIn
+  look-live d text o l e = dot (isDot text) e
+    where
+      child : (x : Option ℕ) → findName s d text ≡ x → childOf s (present 2 x) ≡ passed o → Live (view s) o
+      child none z e = let y : _≡_ {A = ℕ} 0 1 = cc in absurd (omega arith)
+      child (some n) z e =
+          let (k, at) = found-name s (I .valid .good-names) d text n z in
+          let live = tree σ p q r s L I .flat .ends n (at .0) in
+          let is : nameAt s n .child ≡ o = cc in
+          subst (Live (view s)) (child-at s n k ∙ is) live
+
+      dots : (t : Bool) → cond t (passed (parent s d)) (childOf s (present 2 (findName s d text))) ≡ passed o → Live (view s) o
+      dots true e = let is : parent s d ≡ o = cc in subst (Live (view s)) is (parent-live d l)
+      dots false e = child (findName s d text) refl e
+
+      dot : (t : Bool) → cond t (passed d) (cond (isDotDot text) (passed (parent s d)) (childOf s (present 2 (findName s d text)))) ≡ passed o → Live (view s) o
+      dot true e = let is : d ≡ o = cc in subst (Live (view s)) is l
+      dot false e = dots (isDotDot text) e
+
+  sure-lookup : (h text : List ℕ) → Sure (checkLookup s h text)
+  unfolding checkLookup
+  sure-lookup h text =
+      sure-bind (reachDirectory s h) _ (sure-directory s h) (λ d.
+      sure-bind (checkName text) _ (sure-name text) (λ _.
+      sure-bind (lookIn s d text) _ (sure-look d text) (λ o. sure-passed (d, o))))
+
+  look-facts : (h text : List ℕ) (x : ℕ × ℕ) → checkLookup s h text ≡ passed x → Live (view s) (x .1)
+  unfolding checkLookup
+  look-facts h text x e =
+      bind-passed (reachDirectory s h) _ x e (λ d e₁ f₁.
+      bind-passed (checkName text) _ x f₁ (λ u e₂ f₂.
+      bind-passed (lookIn s d text) _ x f₂ (λ o e₃ f₃.
+      let is : (d, o) ≡ x = cc in
+      let (w, k) = directory-passed s h d e₁ in
+      let l : Live (view s) d = omega (arith, kind-at s d (w .below)) in
+      subst (Live (view s)) (ap (λ (y : ℕ × ℕ). y .1) is) (look-live d text o l e₃))))
+
+  lookup-shown : (call reply : List ℕ) (place : NameIn) → Answer call reply (Call.Lookup place) (Spec.lookup s (cut call (place .directory)) (cut call (place .name)) .result)
+      → isOk reply ≡ true → Current σ (view s) (foundHandle reply)
+  unfolding Spec.lookup handleOf
+  lookup-shown call reply place A t = go (checkLookup s h text) refl A
+    where
+      h : List ℕ
+      h = cut call (place .directory)
+
+      text : List ℕ
+      text = cut call (place .name)
+
+      go : (x : Checked (ℕ × ℕ)) → checkLookup s h text ≡ x
+          → Answer call reply (Call.Lookup place) (settle s (failShowing s h) x (λ f. unchanged s (found (handleOf s (f .1)) (attributes s (f .1)) (attributes s (f .0)))) .result)
+          → Current σ (view s) (foundHandle reply)
+      go (refused n) e A =
+          let b = sure-lookup h text n e in
+          true-false (sym t ∙ not-ok call reply (Call.Lookup place) _ A n (showing-says s h n) (b .0) (b .1))
+      go (passed x) e A =
+          let o = x .1 in
+          let l = look-facts h text x e in (
+            o,
+            l,
+            ap foundHandle (A .is) ∙ found-is (A .xid) (A .procedure) (stamp s) o (objectAt s o .generation) (attributes s o) (attributes s (x .0))
+                ∙ handle-seen σ p q r s L I o (live-in s o l),
+          )
+
+  -- an OK reply to a call that asks: no check before it refused
+  pub asks-of : (x : Request) (a : Arguments) → isOk (replyTo s x) ≡ true → asked (x .call) ≡ some a → Asks x a
+  asks-of x a t e = go (served s x (passes-valid s (I .valid)))
+    where
+      go : Idle s x ⊎ ((b : Arguments) × Asks x b) → Asks x a
+      go (_⊎_.inl w) = let z : none ≡ some a = sym (w .unasked t) ∙ e in let y : _≡_ {A = ℕ} 0 1 = cc in absurd (omega arith)
+      go (_⊎_.inr (b, k)) = let z : some b ≡ some a = sym (k .reads) ∙ e in let y : b ≡ a = cc in subst (Asks x) y k
+
+  -- "every handle in an OK reply has a line": it is a live object's, in the store after the call
+  module _ (x : Request) (l : Lent x) (t : isOk (replyTo s x) ≡ true) where
+    carried-by : (a : Arguments) (h : List ℕ) → asked (x .call) ≡ some a → (Asks x a → Current σ (view (act s (x .context) (x .call) a .store)) h)
+        → Current σ (view (outcome s x .store)) h
+    carried-by a h e f =
+        let k = asks-of x a t e in
+        subst (λ (u : Store). Current σ (view u) h) (sym (acted s x a k (passes-valid s (I .valid)) .store)) (f k)
+
+    pub carried : (h : List ℕ) → Carries x (replyTo s x) h → Current σ (view (outcome s x .store)) h
+    unfolding act
+    carried h (lookup place e) =
+        carried-by (Call.Lookup place) (foundHandle (replyTo s x)) e (λ k.
+        subst (λ (u : Store). Current σ (view u) (foundHandle (replyTo s x))) (sym (lookup-store s (cut (x .call) (place .directory)) (cut (x .call) (place .name))))
+        (lookup-shown (x .call) (replyTo s x) place (answer-to σ p q r s L I x (Call.Lookup place) k) t))
+    carried h (create place manner e) =
+        carried-by (Call.Create place manner) (madeHandle (replyTo s x)) e (λ k.
+        create-made σ p q r s L I (x .context) (clocked σ p q r s L I x (Call.Create place manner) l k) (x .call) (replyTo s x) (l .bytes) place manner
+        (asked-fits (x .call) (l .bytes) (Call.Create place manner) e) (answer-to σ p q r s L I x (Call.Create place manner) k) .shown t)
+    carried h (mkdir place a e) =
+        carried-by (Call.Mkdir place a) (madeHandle (replyTo s x)) e (λ k.
+        mkdir-made σ p q r s L I (x .context) (clocked σ p q r s L I x (Call.Mkdir place a) l k) (x .call) (replyTo s x) (l .bytes) place a
+        (asked-fits (x .call) (l .bytes) (Call.Mkdir place a) e) (answer-to σ p q r s L I x (Call.Mkdir place a) k) .shown t)

@@ -1,0 +1,276 @@
+-- What the invariant says of the counts: lines, places, free names and available objects. Assumes nothing.
+use mathlib.Core.Path.{_≡_, refl, sym, ap, ap₂, _∙_}
+use mathlib.Core.Logic.{_↔_, _⊎_, inl, inr, by-cases, ⊎-elim}
+use mathlib.Core.Bool.{Bool, true, false, _&&_, not}
+use mathlib.Core.List.{List, [], _∷_, map, List·Memᴰ, List·Memᴰ·head, List·Memᴰ·tail, List·Memᴰ·cases-cons, List·Memᴰ·not-nil}
+use Prim.Native.Nat.{ℕ, _+_, _*_, _-_, _≤_, _<_}
+use native.Mathlib.Decide.{ℕ-discrete, decLt}
+use native.Mathlib.Nat.{mul-one}
+use native.Mathlib.Omega.{arith}
+use lib.Dec.{eqb, ltb}
+use lib.ListN.{length, getD}
+use lib.Seq.{getD-take}
+use borrow.Author.Tests.{eq-eqb, ne-eqb, lt-ltb, le-ltb}
+use Rattle.kinds.specs.declared.object.Object.{Object}
+use Rattle.spec.specs.Bytes.{sameBytes}
+use Rattle.spec.specs.Count.{bit, sum, count, times}
+use Rattle.spec.specs.Image.{Store, objects, names, blocks, objectAt}
+use Rattle.spec.specs.Room.{isLive, isAvailable, isUsedName, sizeOf, need, held, freeBlockCount, availableCount, freeNameCount}
+use Rattle.spec.proofs.Bytes.{same-yes}
+use Rattle.spec.proofs.Count.{sum-ext, sum-add, by-bool, true-false, and-both}
+use Rattle.spec.proofs.FreeRoom.{free-room}
+use Rattle.spec.proofs.Tests.{and-true, or-one}
+use Rattle.spec.proofs.Valid.{GoodObject, live-true, true-live, false-live}
+use Rattle.history.specs.Book.{Line, Book, Ledger, handleBytes}
+use Rattle.history.specs.Statement.{In, HasLine, liveObjects, objectIn, placesIn, hasName, namedLines, isAmong, isLined, lastHandle, spentRecords}
+use Rattle.history.proofs.Sum.{or-left, or-right, ind, ind-yes, ind-no, holds-same, sum-const}
+use Rattle.history.proofs.Lists.{same-true, All, all-times}
+use Rattle.history.proofs.View.{Live, Used}
+use Rattle.history.proofs.Tree.{Tree, live?, living}
+use Rattle.history.proofs.Handles.{same-object, same-generation, handle-object}
+use Rattle.history.proofs.Agree.{lineOf, rootLine, used?}
+use Rattle.history.proofs.Issue.{issued, issued-small}
+use Rattle.history.proofs.Room.{one-place}
+use Rattle.history.proofs.Seen.{view, heldBy, kind-at, gen-at, held-at, used-of, of-used}
+use Rattle.history.proofs.Bridge.{held-long, room-of}
+use Rattle.history.proofs.Inv.{Inv, tree, good}
+use Rattle.history.proofs.Lines.{total, total-append, total-map, total-ext, total-times, current-lined, lined-current, book-sum, factor-no, factor-yes}
+
+-- ---- lists
+all-in : {A : Type 0} {P : A → Type 0} (xs : List A) → ((x : A) → List·Memᴰ x xs → P x) → All P xs
+all-in [] h = tt
+all-in (x ∷ xs) h = (h x (List·Memᴰ·head refl), all-in xs (λ y m. h y (List·Memᴰ·tail m)))
+
+total-one : {A : Type 0} (xs : List A) → total (λ _. 1) xs ≡ length xs
+unfolding total
+total-one [] = refl
+total-one (x ∷ xs) = omega (arith, total-one xs)
+
+is-false : (t : Bool) → (t ≡ true → ⊥) → t ≡ false
+is-false t f = by-bool t (λ e. absurd (f e)) (λ e. e)
+
+-- ---- the tests of the book
+pub among-in : (h : List ℕ) (gs : List (List ℕ)) → isAmong h gs ≡ true → List·Memᴰ h gs
+unfolding isAmong
+among-in h [] e = true-false (sym e)
+among-in h (g ∷ gs) e = ⊎-elim
+    (λ (x : sameBytes g h ≡ true). List·Memᴰ·head (sym (same-true g h x)))
+    (λ (x : isAmong h gs ≡ true). List·Memᴰ·tail (among-in h gs x))
+    (or-one (sameBytes g h) (isAmong h gs) e)
+
+pub in-among : (h : List ℕ) (gs : List (List ℕ)) → List·Memᴰ h gs → isAmong h gs ≡ true
+unfolding isAmong
+in-among h [] m = absurd (List·Memᴰ·not-nil m)
+in-among h (g ∷ gs) m = ⊎-elim
+    (λ (e : h ≡ g). or-left (sameBytes g h) (isAmong h gs) (same-yes g h (sym e)))
+    (λ (x : List·Memᴰ h gs). or-right (sameBytes g h) (isAmong h gs) (in-among h gs x))
+    (List·Memᴰ·cases-cons m)
+
+pub lined-has : (h : List ℕ) (b : Book) → isLined h b ≡ true → (l : Line) × List·Memᴰ l b × (l .handle ≡ h)
+unfolding isLined
+lined-has h [] e = true-false (sym e)
+lined-has h (l ∷ ls) e = ⊎-elim
+    (λ (x : sameBytes (l .handle) h ≡ true). (l, List·Memᴰ·head refl, same-true (l .handle) h x))
+    (λ (x : isLined h ls ≡ true). let (k, m, y) = lined-has h ls x in (k, List·Memᴰ·tail m, y))
+    (or-one (sameBytes (l .handle) h) (isLined h ls) e)
+
+pub has-lined : (h : List ℕ) (b : Book) (l : Line) → List·Memᴰ l b → l .handle ≡ h → isLined h b ≡ true
+unfolding isLined
+has-lined h [] l m e = absurd (List·Memᴰ·not-nil m)
+has-lined h (k ∷ ks) l m e = ⊎-elim
+    (λ (x : l ≡ k). or-left (sameBytes (k .handle) h) (isLined h ks) (same-yes (k .handle) h (ap (λ (y : Line). y .handle) (sym x) ∙ e)))
+    (λ (x : List·Memᴰ l ks). or-right (sameBytes (k .handle) h) (isLined h ks) (has-lined h ks l x e))
+    (List·Memᴰ·cases-cons m)
+
+named-total : (b : Book) → namedLines b ≡ total (λ l. bit (hasName (l .standing))) b
+unfolding namedLines total
+named-total [] = refl
+named-total (l ∷ ls) = omega (arith, named-total ls)
+
+places-total : (s : Store) (b : Book) → placesIn s b ≡ total (λ l. bit (eqb (l .kind) 1) * need (sizeOf s (objectIn (l .handle)))) b
+unfolding placesIn total
+places-total s [] = refl
+places-total s (l ∷ ls) = omega (arith, places-total s ls)
+
+module _ (σ p q r : ℕ) (s : Store) (L : Ledger) (I : Inv σ p q r s L) where
+  T : Tree p q (view s)
+  T = tree σ p q r s L I
+
+  live-bit : (i : ℕ) → i < objects s → ind (live? (view s) i) ≡ bit (isLive s i)
+  live-bit i l = ap bit (holds-same (live? (view s) i) (isLive s i) (λ v. true-live s i (omega (arith, kind-at s i l))) (λ e. omega (arith, kind-at s i l, live-true s i e)))
+
+  -- ---- a line for each live object
+  pub living-count : living p (view s) ≡ liveObjects s
+  unfolding liveObjects
+  living-count = ap (λ (n : ℕ). sum n (λ i. ind (live? (view s) i))) (sym (I .objs)) ∙ sum-ext (objects s) (λ i. ind (live? (view s) i)) (λ i. bit (isLive s i)) live-bit
+
+  pub line-living : length (L .book) ≡ living p (view s)
+  line-living =
+      sym (total-one (L .book)) ∙ book-sum σ p q r s L I (λ _. 1)
+      ∙ sum-ext p (λ i. ind (live? (view s) i) * 1) (λ i. ind (live? (view s) i)) (λ i _. mul-one (ind (live? (view s) i)))
+
+  pub line-count : length (L .book) ≡ liveObjects s
+  line-count = line-living ∙ living-count
+
+  -- ---- a line for each used name, and the root's
+  pub name-line-count : namedLines (L .book) ≡ count (names s) (isUsedName s)
+  unfolding total T
+  name-line-count =
+      let v = view s in
+      let A = I .agrees in
+      let N : Line → ℕ = λ l. bit (hasName (l .standing)) in
+      let below : All (λ n. n < q) (A .order) = all-times (A .order) (λ n h. T .flat .rows n (used-order n h)) in
+      named-total (L .book) ∙ ap (total N) (A .lines) ∙ total-append N (map (lineOf σ v) (A .order)) (rootLine σ v ∷ [])
+      ∙ omega (
+        arith,
+        total-map N (lineOf σ v) (A .order),
+        total-times q (λ _. 1) (A .order) below,
+        sum-ext q (λ n. times n (A .order) * 1) (λ n. bit (isUsedName s n)) (λ n l. mul-one (times n (A .order)) ∙ A .each n ∙ used-bit n (omega (arith, I .nams))),
+        ap (λ (k : ℕ). count k (isUsedName s)) (I .nams),
+      )
+    where
+      used-order : (n : ℕ) → 0 < times n (I .agrees .order) → Used (view s) n
+      used-order n h = by-cases (used? (view s) n) (λ u. u) (λ u. absurd (omega (arith, I .agrees .each n, ind-no (used? (view s) n) u)))
+
+      used-bit : (n : ℕ) → n < names s → ind (used? (view s) n) ≡ bit (isUsedName s n)
+      used-bit n l = ap bit (holds-same (used? (view s) n) (isUsedName s n) (used-of s (I .valid .good-names) n l) (of-used s (I .valid .good-names) n l))
+
+  -- "free names Q less the lines with a name"
+  pub free-names : freeNameCount s + namedLines (L .book) ≡ q
+  unfolding freeNameCount
+  free-names = omega (
+    arith,
+    name-line-count,
+    sum-add (names s) (λ n. bit (not (isUsedName s n))) (λ n. bit (isUsedName s n)),
+    sum-ext (names s) (λ n. bit (not (isUsedName s n)) + bit (isUsedName s n)) (λ n. 1) (λ n _. one-of (isUsedName s n)),
+    sum-const (names s),
+    I .nams,
+  )
+    where
+      one-of : (t : Bool) → bit (not t) + bit t ≡ 1
+      one-of true = refl
+      one-of false = refl
+
+  -- ---- a live file's places are what its size needs, and no other object needs any
+  file-blocks : (i : ℕ) → i < objects s → ind (live? (view s) i) * (bit (eqb (view s .kind i) 1) * need (sizeOf s i)) ≡ need (sizeOf s i)
+  unfolding sizeOf
+  file-blocks i l = go (I .valid .good-objects i l)
+    where
+      by-size : ((objectAt s i .kind ≡ 1) × (objectAt s i .size ≤ 8192)) ⊎ ((objectAt s i .kind ≡ 2) × (objectAt s i .size ≡ 0))
+          → ind (live? (view s) i) * (bit (eqb (view s .kind i) 1) * need (objectAt s i .size)) ≡ need (objectAt s i .size)
+      by-size (_⊎_.inl a) =
+          factor-yes (ind (live? (view s) i)) _ (ind-yes (live? (view s) i) (omega (arith, kind-at s i l, a .0)))
+          ∙ factor-yes (bit (eqb (view s .kind i) 1)) (need (objectAt s i .size)) (ap bit (eq-eqb (view s .kind i) 1 (kind-at s i l ∙ a .0)))
+      by-size (_⊎_.inr a) =
+          factor-yes (ind (live? (view s) i)) _ (ind-yes (live? (view s) i) (omega (arith, kind-at s i l, a .0)))
+          ∙ factor-no (bit (eqb (view s .kind i) 1)) (need (objectAt s i .size)) (ap bit (ne-eqb (view s .kind i) 1 (λ e. omega (arith, kind-at s i l, a .0))))
+          ∙ ap need (sym (a .1))
+
+      go : GoodObject (blocks s) (objectAt s i) → ind (live? (view s) i) * (bit (eqb (view s .kind i) 1) * need (objectAt s i .size)) ≡ need (objectAt s i .size)
+      go (_⊎_.inl f) =
+          factor-no (ind (live? (view s) i)) _ (ind-no (live? (view s) i) (λ v. omega (arith, kind-at s i l, ap (λ (x : Object). x .kind) f)))
+          ∙ ap need (sym (ap (λ (v : Object). v .size) f))
+      go (_⊎_.inr x) = by-size (x .size)
+
+  -- ---- "Free blocks are R less the places"
+  pub free-blocks : freeBlockCount s + placesIn s (L .book) ≡ r
+  unfolding T
+  free-blocks =
+      let G : ℕ → ℕ = λ i. bit (eqb (view s .kind i) 1) * need (sizeOf s i) in
+      let a = places-total s (L .book) in
+      let b = total-ext (λ l. bit (eqb (l .kind) 1) * need (sizeOf s (objectIn (l .handle)))) (λ l. G (objectIn (l .handle))) (L .book)
+      (all-in (L .book) (λ l m. let (o, v, e, f) = lined-current σ p q r s L I (l .handle) (l .kind) (l, m, refl, refl) in
+      let w : objectIn (l .handle) ≡ o = ap objectIn e ∙ handle-object σ o (view s .gen o) (omega (arith, T .flat .past o v, T .flat .few)) in
+      ap (λ (k : ℕ). bit (eqb k 1) * need (sizeOf s (objectIn (l .handle)))) (sym f ∙ ap (view s .kind) (sym w)))) in
+      let c = book-sum σ p q r s L I G in
+      let d = sum-ext p (λ i. ind (live? (view s) i) * G i) (λ i. need (sizeOf s i)) (λ i l. file-blocks i (omega (arith, I .objs))) in
+      let e = free-room s (good σ p q r s L I) in
+      let g = ap (λ (n : ℕ). sum n (λ i. need (sizeOf s i))) (I .objs) in
+      omega (arith, I .blks)
+
+  held-block : (i k : ℕ) → k < need (sizeOf s i) → getD (held s i) k 0 ≡ getD (objectAt s i .blocks) k 0
+  unfolding held
+  held-block i k m = getD-take (need (sizeOf s i)) (objectAt s i .blocks) k 0 m
+
+  -- no block serves two places
+  pub one-block : (i j k l : ℕ) → i < objects s → j < objects s → k < need (sizeOf s i) → l < need (sizeOf s j)
+      → getD (objectAt s i .blocks) k 0 ≡ getD (objectAt s j .blocks) l 0 → (i ≡ j) × (k ≡ l)
+  one-block i j k l a b m n e =
+      let x = held-at s i a in
+      let y = held-at s j b in
+      one-place (objects s) (blocks s) (heldBy s) (room-of s (I .valid)) i j k l
+      (omega (arith, ap length x, held-long s (I .valid) i a)) (omega (arith, ap length y, held-long s (I .valid) j b))
+      (ap (λ (z : List ℕ). getD z k 0) x ∙ held-block i k m ∙ e ∙ sym (held-block j l n) ∙ ap (λ (z : List ℕ). getD z l 0) (sym y))
+
+  -- ---- handles
+  pub line-given : (h : List ℕ) (kind : ℕ) → HasLine (L .book) h kind → In h (L .given)
+  line-given h kind x =
+      let (o, v, e, f) = lined-current σ p q r s L I h kind x in
+      I .issues .each h .1 (o, view s .gen o, e, omega (arith, ind-yes (live? (view s) o) v))
+
+  -- a handle that was given out is that of a live object, or of an earlier generation than its object's, or of one that is free
+  pub given-or : (o g : ℕ) → g < issued (view s) o → (Live (view s) o × (g ≡ view s .gen o)) ⊎ (g < view s .gen o)
+  given-or o g l = by-cases (live? (view s) o)
+      (λ v. by-cases (ℕ-discrete g (view s .gen o)) (λ e. inl (v, e)) (λ n. inr (omega (arith, ind-yes (live? (view s) o) v))))
+      (λ v. inr (omega (arith, ind-no (live? (view s) o) v)))
+
+  -- ---- spent records
+  last-gen : (i : ℕ) → i < p → (isAmong (lastHandle σ i) (L .given) && not (isLined (lastHandle σ i) (L .book)) ≡ true) ↔ ((view s .kind i ≡ 0) × (view s .gen i ≡ 4294967295))
+  unfolding T
+  last-gen i l = (
+    (λ e. let (a, b) = and-both (isAmong (lastHandle σ i) (L .given)) (not (isLined (lastHandle σ i) (L .book))) e in
+        let (o, g, y, k) = I .issues .each (lastHandle σ i) .0 (among-in (lastHandle σ i) (L .given) a) in
+        let z = issued-small p σ (view s) (L .given) (I .issues) o g k in
+        let is : i ≡ o = same-object σ i 4294967294 o g (omega (arith, T .flat .few)) (z .1) y in
+        let ig : 4294967294 ≡ g = same-generation σ i 4294967294 o g (omega arith) (z .2) y in
+        let more : 4294967294 < issued (view s) i = omega (arith, ap (issued (view s)) is) in
+        by-cases (live? (view s) i)
+        (λ v. let n : view s .gen i ≡ 4294967294 = omega (arith, I .issues .few i, ind-yes (live? (view s) i) v) in
+        let (x, m, c, d) = current-lined σ p q r s L I i v in
+        true-false (sym b ∙ ap not (has-lined (lastHandle σ i) (L .book) x m (c ∙ ap (handleBytes σ i) n))))
+        (λ v. (omega arith, omega (arith, I .issues .few i, ind-no (live? (view s) i) v)))),
+    (λ x. and-true (isAmong (lastHandle σ i) (L .given)) (not (isLined (lastHandle σ i) (L .book)))
+        (in-among (lastHandle σ i) (L .given) (I .issues .each (lastHandle σ i) .1 (i, 4294967294, refl, omega (arith, x .1))))
+        (by-bool (isLined (lastHandle σ i) (L .book))
+        (λ t. let (k, m, e) = lined-has (lastHandle σ i) (L .book) t in
+        let (o, v, f, g) = lined-current σ p q r s L I (lastHandle σ i) (k .kind) (k, m, e, refl) in
+        let is : i ≡ o = same-object σ i 4294967294 o (view s .gen o) (omega (arith, T .flat .few)) (omega (arith, T .flat .past o v, T .flat .few)) f in
+        absurd (omega (arith, x .0, ap (view s .kind) is)))
+        (λ t. ap not t))),
+  )
+
+  -- a record is available, live or spent
+  one-of : (i : ℕ) → i < p → bit (isAvailable s i) + (ind (live? (view s) i) + bit (isAmong (lastHandle σ i) (L .given) && not (isLined (lastHandle σ i) (L .book)))) ≡ 1
+  unfolding isAvailable
+  one-of i l =
+      let k : i < objects s = omega (arith, I .objs) in
+      let X = isAmong (lastHandle σ i) (L .given) && not (isLined (lastHandle σ i) (L .book)) in
+      let g = objectAt s i .generation in
+      let e = gen-at s i k in
+      by-cases (live? (view s) i)
+      (λ v. let a : isAvailable s i ≡ false = ap (λ (b : Bool). not b && ltb g 4294967295) (true-live s i (omega (arith, kind-at s i k))) in
+      let b : X ≡ false = is-false X (λ t. omega (arith, last-gen i l .0 t)) in
+      omega (arith, ap bit a, ap bit b, ind-yes (live? (view s) i) v))
+      (λ v. let dead : isLive s i ≡ false = false-live s i (omega (arith, kind-at s i k)) in
+      by-cases (decLt (view s .gen i) 4294967295)
+      (λ m. let a : isAvailable s i ≡ true = ap₂ (λ (b c : Bool). not b && c) dead (lt-ltb g 4294967295 (omega arith)) in
+      let b : X ≡ false = is-false X (λ t. omega (arith, last-gen i l .0 t)) in
+      omega (arith, ap bit a, ap bit b, ind-no (live? (view s) i) v))
+      (λ m. let a : isAvailable s i ≡ false = ap₂ (λ (b c : Bool). not b && c) dead (le-ltb g 4294967295 (omega arith)) in
+      let b : X ≡ true = last-gen i l .1 (omega arith, omega (arith, I .issues .few i)) in
+      omega (arith, ap bit a, ap bit b, ind-no (live? (view s) i) v)))
+
+  -- "available objects P less the live ones and the records whose handle of generation 4,294,967,294 was removed"
+  pub available-objects : availableCount s + (length (L .book) + spentRecords σ p L) ≡ p
+  unfolding availableCount spentRecords
+  available-objects =
+      let S : ℕ → ℕ = λ i. bit (isAmong (lastHandle σ i) (L .given) && not (isLined (lastHandle σ i) (L .book))) in
+      omega (
+        arith,
+        line-living,
+        ap (λ (n : ℕ). count n (isAvailable s)) (I .objs),
+        sum-add p (λ i. bit (isAvailable s i)) (λ i. ind (live? (view s) i) + S i),
+        sum-add p (λ i. ind (live? (view s) i)) S,
+        sum-ext p (λ i. bit (isAvailable s i) + (ind (live? (view s) i) + S i)) (λ i. 1) one-of,
+        sum-const p,
+      )

@@ -1,0 +1,88 @@
+-- A new object keeps the tree. Assumes nothing.
+use mathlib.Core.Path.{_≡_, sym, ap, _∙_, subst}
+use mathlib.Core.Logic.{_≢_, by-cases}
+use mathlib.Core.List.{List, _∷_}
+use Prim.Native.Nat.{ℕ}
+use native.Mathlib.Decide.{ℕ-discrete}
+use native.Mathlib.Omega.{arith}
+use lib.ListN.{length}
+use Rattle.spec.proofs.Count.{sum-zero}
+use Rattle.history.proofs.Sum.{ind, ind-yes, ind-no, ind-le}
+use Rattle.history.proofs.View.{View, Live, Used, names?, at?, namings, entries, Path, SameName, namings-set, entries-set}
+use Rattle.history.proofs.Tree.{Tree}
+use Rattle.history.proofs.Change.{Created, path-avoids, avoid-free}
+
+module _ (P Q : ℕ) (v w : View) (o q k d : ℕ) (t : List ℕ) (T : Tree P Q v) (B : Created P Q v w o q k d t) where
+  not-root : o ≢ 0
+  not-root e = omega (arith, B .was-free, T .flat .root, ap (v .kind) e)
+
+  kept : (i : ℕ) → Live v i → w .kind i ≡ v .kind i
+  kept i l = B .obj .other i (λ e. omega (arith, B .was-free, ap (v .kind) e)) .0
+
+  same : (p : ℕ) → Used v p → SameName v w p
+  same p u = B .nam .other p (λ e. omega (arith, B .was-blank, ap (λ (x : ℕ). length (v .text x)) e))
+
+  blank : (i : ℕ) → ind (names? v q i) ≡ 0
+  blank i = ind-no (names? v q i) (λ h. omega (arith, B .was-blank))
+
+  used-w : (p : ℕ) → p ≢ q → Used w p → Used v p
+  used-w p n u = omega (arith, ap length (B .nam .other p n .text))
+
+  unnamed : namings Q v o ≡ 0
+  unnamed = sum-zero Q (λ p. ind (names? v p o)) (λ p l. ind-no (names? v p o) (λ h. omega (arith, T .flat .ends p (h .0), ap (v .kind) (h .1), B .was-free)))
+
+  path-created : (qs : List ℕ) (i : ℕ) → Path v i qs → Path w i qs
+  path-created qs i a = path-avoids v w o (λ p u n. same p u) qs i a (avoid-free P Q v T o (B .was-free) qs i a)
+
+  pub created-tree : Tree P Q w
+  created-tree = record {
+    flat = record {
+      few = T .flat .few;
+      root = kept 0 (omega (arith, T .flat .root)) ∙ T .flat .root;
+      past = λ i l. by-cases (ℕ-discrete i o) (λ e. omega (arith, B .in-objs)) (λ n. T .flat .past i (omega (arith, B .obj .other i n .0)));
+      rows = λ p u. by-cases (ℕ-discrete p q) (λ e. omega (arith, B .in-names)) (λ n. T .flat .rows p (used-w p n u));
+      dirs = λ p u. by-cases (ℕ-discrete p q)
+          (λ e. ap (w .kind) (ap (w .dir) e ∙ B .nam .dir) ∙ kept d (omega (arith, B .parent)) ∙ B .parent)
+          (λ n. let h = T .flat .dirs p (used-w p n u) in ap (w .kind) (B .nam .other p n .dir) ∙ kept (v .dir p) (omega arith) ∙ h);
+      ends = λ p u. by-cases (ℕ-discrete p q)
+          (λ e. omega (arith, ap (w .kind) (ap (w .child) e ∙ B .nam .child), B .obj .kind, B .live))
+          (λ n. let h = T .flat .ends p (used-w p n u) in omega (arith, ap (w .kind) (B .nam .other p n .child), kept (v .child p) h));
+      never = omega (
+        arith,
+        namings-set Q v w q d o t (B .nam) (B .in-names) 0,
+        blank 0,
+        T .flat .never,
+        ind-no (names? w q 0) (λ h. not-root (sym (B .nam .child) ∙ h .1)),
+      );
+      once = λ i n l. by-cases (ℕ-discrete i o)
+          (λ e. omega (
+            arith,
+            namings-set Q v w q d o t (B .nam) (B .in-names) i,
+            blank i,
+            unnamed,
+            ap (namings Q v) e,
+            ind-yes (names? w q i) (omega (arith, B .some, ap length (B .nam .text)), B .nam .child ∙ sym e),
+          ))
+          (λ x. omega (
+            arith,
+            namings-set Q v w q d o t (B .nam) (B .in-names) i,
+            blank i,
+            T .flat .once i n (omega (arith, B .obj .other i x .0)),
+            ind-no (names? w q i) (λ h. x (sym (h .1) ∙ B .nam .child)),
+          ));
+      apart = λ e u. by-cases (at? w q e u)
+          (λ h. omega (
+            arith,
+            entries-set Q v w q d o t (B .nam) (B .in-names) e u,
+            ind-le (at? w q e u),
+            B .absent,
+            ap (λ (x : ℕ). entries Q v x u) (sym (B .nam .dir) ∙ h .1),
+            ap (entries Q v d) (sym (B .nam .text) ∙ h .2),
+          ))
+          (λ h. omega (arith, entries-set Q v w q d o t (B .nam) (B .in-names) e u, T .flat .apart e u, ind-no (at? w q e u) h));
+    };
+    leads = λ i l. by-cases (ℕ-discrete i o)
+        (λ e. let r = T .leads d (omega (arith, B .parent)) in
+        (q ∷ r .0, ((omega (arith, B .some, ap length (B .nam .text)), B .nam .child ∙ sym e), subst (λ (x : ℕ). Path w x (r .0)) (sym (B .nam .dir)) (path-created (r .0) d (r .1)))))
+        (λ n. let r = T .leads i (omega (arith, B .obj .other i n .0)) in (r .0, path-created (r .0) i (r .1)));
+  }

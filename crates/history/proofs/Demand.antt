@@ -1,0 +1,120 @@
+-- Demand 3, proved: each field of `Kept` from the invariant, and the invariant after any list of requests from any successful format.
+-- Assumes nothing.
+use mathlib.Core.Path.{_≡_, sym, ap, _∙_, subst}
+use mathlib.Core.Bool.{_&&_}
+use mathlib.Core.List.{List}
+use Prim.Native.Nat.{ℕ, _*_, _-_, _<_}
+use native.Mathlib.Omega.{arith}
+use lib.Dec.{eqb, leb, ltb}
+use lib.ListN.{length}
+use borrow.Author.Tests.{leb-true, ltb-true}
+use Rattle.kinds.specs.declared.object.Time.{Time}
+use Rattle.spec.specs.Check.{goodTime, goodCounts, imageLength}
+use Rattle.spec.specs.Image.{Store}
+use Rattle.spec.specs.Serve.{formatted, format}
+use Rattle.spec.proofs.Count.{by-bool, and-both}
+use Rattle.spec.proofs.Formatted.{FormatAsked}
+use Rattle.spec.proofs.Valid.{passes-valid}
+use Rattle.history.specs.Book.{firstLedger}
+use Rattle.history.specs.Run.{Request, Lent, AllLent, State, step, run}
+use Rattle.history.specs.Statement.{HasLine, Kept, formattedState, Demand3}
+use Rattle.history.proofs.Seen.{view}
+use Rattle.history.proofs.Inv.{Inv, Owes}
+use Rattle.history.proofs.Next.{next, run-owes, format-inv}
+use Rattle.history.proofs.Lines.{object-lines, name-lines, current-lined}
+use Rattle.history.proofs.Counts.{line-count, name-line-count, line-given, free-blocks, free-names, available-objects, one-block}
+use Rattle.history.proofs.Paths.{stored-path, book-path}
+use Rattle.history.proofs.Later.{removed-old, added-fresh, removed-stays, same-kind}
+use Rattle.history.proofs.Answers.{getattr-live, getattr-size, getattr-stale, fsstat-room}
+use Rattle.history.proofs.Carried.{carried}
+use Rattle.history.proofs.Nospc.{blocks-left, names-left, objects-left, setattr-room, write-room, write-nothing, create-room, recreate-room, mkdir-room}
+
+-- the statement holds of every state that the invariant holds of
+pub kept : (σ p q r : ℕ) (w : State) → Inv σ p q r (w .store) (w .ledger) → Kept σ p q r w
+unfolding step
+kept σ p q r w I =
+    let s = w .store in
+    let L = w .ledger in
+    let after : (x : Request) → Lent x → Owes σ p q r s (step w x .store) (step w x .ledger) = λ x l. next σ p q r s L I x l in
+    let later : (xs : List Request) → AllLent xs → Owes σ p q r s (run w xs .store) (run w xs .ledger) = λ xs l. run-owes σ p q r w I xs l in
+    record {
+      check = passes-valid s (I .valid);
+      mark = I .mark;
+      objectCount = I .objs;
+      nameCount = I .nams;
+      blockCount = I .blks;
+      objectLines = object-lines σ p q r s L I;
+      nameLines = name-lines σ p q r s L I;
+      lineCount = line-count σ p q r s L I;
+      nameLineCount = name-line-count σ p q r s L I;
+      lineGiven = line-given σ p q r s L I;
+      addedLine = λ x l. added-fresh σ p q r s (step w x .store) L (step w x .ledger) I (after x l .inv) (after x l .grew);
+      handleLined = λ x l h t c.
+          let (o, v, e) = carried σ p q r s L I x l t h c in
+          let u = step w x .store in
+          let M = step w x .ledger in
+          (view u .kind o, subst (λ (g : List ℕ). HasLine (M .book) g (view u .kind o)) (sym e) (current-lined σ p q r u M (after x l .inv) o v));
+      storedPath = stored-path σ p q r s L I;
+      bookPath = book-path σ p q r s L I;
+      onePlace = λ i j k l a b _ _ m n e. one-block σ p q r s L I i j k l a b m n e;
+      sizes = getattr-size σ p q r s L I;
+      placesFit = omega (arith, free-blocks σ p q r s L I);
+      freeBytes = λ x h kind k l.
+          let (a, b, c, d, e) = fsstat-room σ p q r s L I x h kind k l in
+          let f = ap (λ (n : ℕ). 512 * n) (sym (blocks-left σ p q r s L I)) in
+          (a, b ∙ f, c ∙ f);
+      objectsFit = omega (arith, available-objects σ p q r s L I);
+      available = λ x h kind k l.
+          let f = sym (objects-left σ p q r s L I) in
+          (fsstat-room σ p q r s L I x h kind k l .3 ∙ f, fsstat-room σ p q r s L I x h kind k l .4 ∙ f);
+      namesFit = omega (arith, free-names σ p q r s L I);
+      freeNames = sym (names-left σ p q r s L I);
+      live = getattr-live σ p q r s L I;
+      stale = λ g d xs l x h k e.
+          let (o, n, f, m, b, c) = removed-old σ p q r s L I g d in
+          let y = later xs l in
+          getattr-stale σ p q r (run w xs .store) (run w xs .ledger) (y .inv) x h k o n b c (omega (arith, y .grew .older o)) (e ∙ f);
+      neverAgain = λ g d xs l. removed-stays σ p q r s (run w xs .store) L (run w xs .ledger) I (later xs l .inv) (later xs l .grew) g d;
+      sameKind = λ g i j a xs l b. same-kind σ p q r s (run w xs .store) L (run w xs .ledger) I (later xs l .inv) (later xs l .grew) g i j a b;
+      setattrRoom = setattr-room σ p q r s L I;
+      writeRoom = write-room σ p q r s L I;
+      writeNothing = write-nothing σ p q r s L I;
+      createRoom = create-room σ p q r s L I;
+      recreateRoom = recreate-room σ p q r s L I;
+      mkdirRoom = mkdir-room σ p q r s L I;
+    }
+
+-- what a successful format was asked for, and what it made
+asked-for : (buffer : Store) (σ p q r : ℕ) (clock : Time) → σ < 4294967296 → clock .seconds < 4294967296 → format buffer σ p q r clock .number ≡ 0
+    → FormatAsked σ p q r clock × (format buffer σ p q r clock .store ≡ formatted σ p q r clock)
+unfolding format goodTime goodCounts
+asked-for buffer σ p q r clock a b e =
+    by-bool (ltb (clock .nanoseconds) 1000000000)
+    (λ t. by-bool (leb 1 p && leb p 64 && leb q 128 && leb r 1024)
+    (λ u. by-bool (eqb (length buffer) (imageLength p q r))
+    (λ v.
+    let x = and-both (leb 1 p && leb p 64 && leb q 128) (leb r 1024) u in
+    let y = and-both (leb 1 p && leb p 64) (leb q 128) (x .0) in
+    let z = and-both (leb 1 p) (leb p 64) (y .0) in (
+      record {
+        mark-fits = a;
+        some-object = leb-true 1 p (z .0);
+        few-objects = leb-true p 64 (z .1);
+        few-names = leb-true q 128 (y .1);
+        few-blocks = leb-true r 1024 (x .1);
+        seconds = b;
+        nanoseconds = ltb-true (clock .nanoseconds) 1000000000 t;
+      },
+      rw (t, u, v),
+    ))
+    (λ v. absurd (omega (arith, rw (t, u, v) at e))))
+    (λ u. absurd (omega (arith, rw (t, u) at e))))
+    (λ t. absurd (omega (arith, rw t at e)))
+
+-- DEMAND 3
+pub demand-3 : Demand3
+demand-3 buffer σ p q r clock a b e xs l =
+    let (h, made) = asked-for buffer σ p q r clock a b e in
+    let start = formattedState buffer σ p q r clock in
+    let I : Inv σ p q r (start .store) (start .ledger) = subst (λ (s : Store). Inv σ p q r s (firstLedger σ)) (sym made) (format-inv σ p q r clock h) in
+    kept σ p q r (run start xs) (run-owes σ p q r start I xs l .inv)

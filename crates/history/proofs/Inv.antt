@@ -1,0 +1,405 @@
+-- What holds of the store and the book after any list of requests, and what the edits keep of it. Assumes nothing.
+use mathlib.Core.Path.{_≡_, refl, sym, ap, _∙_, subst}
+use mathlib.Core.Logic.{_≢_, by-cases}
+use mathlib.Core.List.{List, _∷_}
+use Prim.Native.Nat.{ℕ, _+_, _-_, _^_, _≤_, _<_}
+use native.Mathlib.Decide.{ℕ-discrete}
+use native.Mathlib.Omega.{arith}
+use lib.ListN.{length}
+use Rattle.kinds.specs.declared.object.Time.{Time}
+use Rattle.kinds.specs.declared.object.Object.{Object}
+use Rattle.kinds.specs.declared.call.Settable.{Settable}
+use Rattle.spec.specs.Edits.{setAttributes, resize, withGeneration, createObject, removeObject, moveName, writeFile}
+use Rattle.spec.specs.Image.{Store, stamp, objects, names, blocks, objectAt, nameAt, nameLength, freeName}
+use Rattle.spec.specs.Room.{sizeOf, need, freeBlockCount}
+use Rattle.kinds.specs.Objects.{freeObject}
+use Rattle.spec.proofs.BlockLists.{held-range}
+use Rattle.spec.proofs.BlockWrites.{write-file}
+use Rattle.spec.proofs.CreateObject.{newName, create-object}
+use Rattle.spec.proofs.GoodRecords.{GoodRecords, GoodClock, clock-fits, valid-records, live-at, set-attributes-still, resize-still, write-file-still, create-object-still, remove-object-still, move-name-still}
+use Rattle.spec.proofs.Kept.{NameSet, BothSet}
+use Rattle.spec.proofs.MoveName.{movedName, move-name}
+use Rattle.spec.proofs.Range.{Below}
+use Rattle.spec.proofs.Records.{FitsObject}
+use Rattle.spec.proofs.RemoveObject.{remove-object}
+use Rattle.spec.proofs.SetAttributes.{FitsSettable, Allowed, set-attributes-structure}
+use Rattle.spec.proofs.Shape.{SameShape}
+use Rattle.spec.proofs.Structure.{SameTree, kept-structure, tree-distinct, tree-named, tree-leads}
+use Rattle.spec.proofs.Resize.{resize-tree}
+use Rattle.spec.proofs.Valid.{LiveObject, GoodName, Valid, live-kind}
+use Rattle.history.specs.Book.{Ledger, under, strikeLines, moveLines}
+use Rattle.history.proofs.View.{View, Live, Used, entries, namings, Path, Avoids, SameName, not-named}
+use Rattle.history.proofs.Tree.{Tree, lone, one-name}
+use Rattle.history.proofs.Change.{Created, Removed, Moved}
+use Rattle.history.proofs.Created.{created-tree}
+use Rattle.history.proofs.Removed.{removed-tree}
+use Rattle.history.proofs.Moved.{moved-tree}
+use Rattle.history.proofs.Agree.{Agrees, handleIn, agrees-same, created-agrees, removed-agrees, moved-agrees}
+use Rattle.history.proofs.Issue.{Issues, issues-same, live-same, created-issues, removed-issues, moved-issues}
+use Rattle.history.proofs.Seen.{view, kind-at, gen-at, dir-at, child-at, text-at, live-in, used-in, text-long}
+use Rattle.history.proofs.Bridge.{tree-of, valid-of}
+use Rattle.history.proofs.Frames.{kind-same, gen-same, name-same, set-obj, set-name}
+
+pub record Inv (σ p q r : ℕ) (s : Store) (L : Ledger) : Type 0 where
+  pub valid : Valid s
+  pub bytes : Below 256 s
+  pub mark : stamp s ≡ σ
+  pub objs : objects s ≡ p
+  pub nams : names s ≡ q
+  pub blks : blocks s ≡ r
+  pub issues : Issues p σ (view s) (L .given)
+  pub agrees : Agrees σ (view s) (L .book)
+
+-- what later stores keep of earlier ones: no generation falls, and a live object of the same generation has the same type
+pub record Grew (v w : View) : Type 0 where
+  pub older : (i : ℕ) → v .gen i ≤ w .gen i
+  pub stays : (i : ℕ) → Live v i → w .gen i ≡ v .gen i → w .kind i ≡ v .kind i
+
+pub grew-same : (v w : View) → ((i : ℕ) → (w .kind i ≡ v .kind i) × (w .gen i ≡ v .gen i)) → Grew v w
+grew-same v w h = record { older = λ i. omega (arith, h i .1); stays = λ i l e. h i .0 }
+
+pub grew-trans : (u v w : View) → Grew u v → Grew v w → Grew u w
+grew-trans u v w a b =
+    record {
+      older = λ i. omega (arith, a .older i, b .older i);
+      stays = λ i l e.
+          let x : v .gen i ≡ u .gen i = omega (arith, a .older i, b .older i) in
+          let k = a .stays i l x in
+          b .stays i (omega arith) (e ∙ sym x) ∙ k;
+    }
+
+module _ (σ p q r : ℕ) (s : Store) (L : Ledger) (I : Inv σ p q r s L) where
+  pub tree : Tree p q (view s)
+  tree = subst (λ (x : ℕ). Tree x q (view s)) (I .objs) (subst (λ (x : ℕ). Tree (objects s) x (view s)) (I .nams) (tree-of s (I .valid)))
+
+  -- the demands on single records and on blocks
+  pub good : GoodRecords s
+  good = valid-records s (I .valid) (I .bytes)
+
+  pub live-seen : (o : ℕ) → Live (view s) o → 0 < objectAt s o .kind
+  live-seen o l = omega (arith, kind-at s o (live-in s o l))
+
+-- the check's demands, from those on single records and the tree
+pub valid-by : (p q : ℕ) (t : Store) → GoodRecords t → objects t ≡ p → names t ≡ q → Tree p q (view t) → Valid t
+valid-by p q t g a b T =
+    valid-of t (g .sound .shaped) (g .good-objects) (g .good-names)
+    (subst (λ (x : ℕ). Tree x (names t) (view t)) (sym a) (subst (λ (x : ℕ). Tree p x (view t)) (sym b) T)) (g .used-once)
+
+-- ---- nothing that the view shows has changed
+pub seen-inv : (σ p q r : ℕ) (s t : Store) (L : Ledger) → Inv σ p q r s L → SameShape s t → Valid t → Below 256 t
+    → ((i : ℕ) → (view t .kind i ≡ view s .kind i) × (view t .gen i ≡ view s .gen i)) → ((n : ℕ) → SameName (view s) (view t) n) → Inv σ p q r t L
+seen-inv σ p q r s t L I e K b o n =
+    record {
+      valid = K;
+      bytes = b;
+      mark = e .stamp ∙ I .mark;
+      objs = e .objects ∙ I .objs;
+      nams = e .names ∙ I .nams;
+      blks = e .blocks ∙ I .blks;
+      issues = issues-same p σ (view s) (view t) (L .given) (λ i. omega (arith, o i .1, live-same (view s) (view t) i (o i .0))) (I .issues);
+      agrees = agrees-same σ (view s) (view t) (L .book) o n (I .agrees);
+    }
+
+module _ (s t : Store) (e : SameTree s t) where
+  pub same-objects : (i : ℕ) → (view t .kind i ≡ view s .kind i) × (view t .gen i ≡ view s .gen i)
+  same-objects i = (kind-same s t (e .shape) i (λ l. e .kind i l), gen-same s t (e .shape) i (λ l. e .generation i l))
+
+  pub same-names : (n : ℕ) → SameName (view s) (view t) n
+  same-names n = name-same s t (e .shape) n (λ l. e .name n l)
+
+  pub same-valid : GoodRecords t → Valid s → Valid t
+  same-valid g K =
+      record {
+        shaped = g .sound .shaped;
+        root = e .kind 0 (K .shaped .some-object) ∙ K .root;
+        good-objects = g .good-objects;
+        good-names = g .good-names;
+        distinct = tree-distinct s t e (K .distinct);
+        named = tree-named s t e (K .named);
+        used-once = g .used-once;
+        leads = tree-leads s t e (K .leads);
+      }
+
+-- what an edit owes: the invariant, with the ledger after it, and that the view has grown
+pub record Owes (σ p q r : ℕ) (s t : Store) (L : Ledger) : Type 0 where
+  pub inv : Inv σ p q r t L
+  pub grew : Grew (view s) (view t)
+
+-- where no object is removed: generations stay, and the types of live objects
+pub record Keeps (σ p q r : ℕ) (s t : Store) (L : Ledger) : Type 0 where
+  pub owes : Owes σ p q r s t L
+  pub kinds : (i : ℕ) → Live (view s) i → view t .kind i ≡ view s .kind i
+  pub gens : (i : ℕ) → view t .gen i ≡ view s .gen i
+
+pub owes-trans : (σ p q r : ℕ) (s t u : Store) (K L : Ledger) → Owes σ p q r s t K → Owes σ p q r t u L → Owes σ p q r s u L
+owes-trans σ p q r s t u K L a b = record { inv = b .inv; grew = grew-trans (view s) (view t) (view u) (a .grew) (b .grew) }
+
+pub keeps-trans : (σ p q r : ℕ) (s t u : Store) (K L : Ledger) → Keeps σ p q r s t K → Keeps σ p q r t u L → Keeps σ p q r s u L
+keeps-trans σ p q r s t u K L a b =
+    record {
+      owes = owes-trans σ p q r s t u K L (a .owes) (b .owes);
+      kinds = λ i l. b .kinds i (omega (arith, a .kinds i l)) ∙ a .kinds i l;
+      gens = λ i. b .gens i ∙ a .gens i;
+    }
+
+pub keeps-refl : (σ p q r : ℕ) (s : Store) (L : Ledger) → Inv σ p q r s L → Keeps σ p q r s s L
+keeps-refl σ p q r s L I =
+    record { owes = record { inv = I; grew = grew-same (view s) (view s) (λ i. (refl, refl)) }; kinds = λ i l. refl; gens = λ i. refl }
+
+pub same-keeps : (s t : Store) → SameTree s t → GoodRecords t → (σ p q r : ℕ) (L : Ledger) → Inv σ p q r s L → Keeps σ p q r s t L
+same-keeps s t e g σ p q r L I =
+    record {
+      owes = record {
+        inv = seen-inv σ p q r s t L I (e .shape) (same-valid s t e g (I .valid)) (g .sound .bytes) (same-objects s t e) (same-names s t e);
+        grew = grew-same (view s) (view t) (same-objects s t e);
+      };
+      kinds = λ i l. same-objects s t e i .0;
+      gens = λ i. same-objects s t e i .1;
+    }
+
+-- ---- the first edit: attributes and times
+pub touch-inv : (σ p q r : ℕ) (s : Store) (L : Ledger) → Inv σ p q r s L → (clock : Time) (o : ℕ) (a : Settable) → Live (view s) o
+    → GoodClock clock → FitsSettable a → Allowed a → Keeps σ p q r s (setAttributes s clock o a) L
+touch-inv σ p q r s L I clock o a l c f w =
+    let g = good σ p q r s L I in
+    let k = live-in s o l in
+    same-keeps s (setAttributes s clock o a) (set-attributes-structure s clock o a (g .sound) k (clock-fits clock c) f .tree)
+    (set-attributes-still s g clock o a k (live-seen σ p q r s L I o l) c f w .good) σ p q r L I
+
+-- ---- the second edit: a file's size
+pub resize-inv : (σ p q r : ℕ) (s : Store) (L : Ledger) → Inv σ p q r s L → (o size : ℕ) → view s .kind o ≡ 1 → size ≤ 8192
+    → need size - need (sizeOf s o) ≤ freeBlockCount s → Keeps σ p q r s (resize s o size) L
+resize-inv σ p q r s L I o size k small room =
+    let g = good σ p q r s L I in
+    let l = live-in s o (omega arith) in
+    let file : objectAt s o .kind ≡ 1 = sym (kind-at s o l) ∙ k in
+    same-keeps s (resize s o size) (resize-tree s o size (g .sound) l (live-at s g o l (omega arith)) small room)
+    (resize-still s g o size l file small room .good) σ p q r L I
+
+-- ---- file data: no record is written
+pub write-inv : (σ p q r : ℕ) (s : Store) (L : Ledger) → Inv σ p q r s L → (o offset : ℕ) (xs : List ℕ) → Live (view s) o → Below 256 xs
+    → offset + length xs ≤ sizeOf s o → Keeps σ p q r s (writeFile s o offset xs) L
+write-inv σ p q r s L I o offset xs l b n =
+    let g = good σ p q r s L I in
+    let k = live-in s o l in
+    let v = live-seen σ p q r s L I o l in
+    let t = writeFile s o offset xs in
+    same-keeps s t (kept-structure s t (write-file s o offset xs (g .sound) (live-at s g o k v) b n) .tree)
+    (write-file-still s g o offset xs k v b n .good) σ p q r L I
+
+-- ---- the third edit: an object and its name
+module _ (σ p q r : ℕ) (s : Store) (L : Ledger) (I : Inv σ p q r s L) (o n : ℕ) (v : Object) (d : ℕ) (text : List ℕ)
+    (in-objs : o < objects s) (in-names : n < names s) (was-free : objectAt s o .kind ≡ 0) (low : objectAt s o .generation < 4294967295)
+    (was-blank : nameLength s n ≡ 0) (fits : FitsObject v) (live : LiveObject (blocks s) v) (empty : v .size ≡ 0) (name : GoodName text) (below : Below 256 text)
+    (parent : view s .kind d ≡ 2) (absent : entries (names s) (view s) d text ≡ 0) where
+  g : GoodRecords s
+  g = good σ p q r s L I
+
+  dl : d < objects s
+  dl = live-in s d (omega arith)
+
+  dk : objectAt s d .kind ≡ 2
+  dk = sym (kind-at s d dl) ∙ parent
+
+  t : Store
+  t = createObject s o n v d text
+
+  frame : BothSet s o (withGeneration (objectAt s o .generation) v) n (newName o d text) t
+  unfolding t
+  frame = create-object s o n v d text (g .sound) in-objs in-names fits (omega (arith, dl, I .valid .shaped .few-objects)) (name .short) below
+
+  pub created-of : Created p q (view s) (view (createObject s o n v d text)) o n (v .kind) d text
+  unfolding t withGeneration
+  created-of =
+      let w = set-obj s t (frame .shape) o (withGeneration (objectAt s o .generation) v) in-objs (frame .object) (frame .other-objects) in
+      record {
+        obj = record { kind = w .kind; gen = w .gen ∙ sym (gen-at s o in-objs); other = w .other };
+        nam = set-name s t (frame .shape) n (newName o d text) in-names (frame .name) (frame .other-names);
+        in-objs = omega (arith, I .objs);
+        in-names = omega (arith, I .nams);
+        was-free = kind-at s o in-objs ∙ was-free;
+        was-blank = ap length (text-at s n in-names) ∙ text-long s (I .valid .good-names) n in-names ∙ was-blank;
+        live = live-kind (blocks s) v live;
+        some = name .some-byte;
+        parent = parent;
+        absent = ap (λ (x : ℕ). entries x (view s) d text) (sym (I .nams)) ∙ absent;
+      }
+
+  pub create-inv : Owes σ p q r s (createObject s o n v d text)
+      (record { book = record { handle = handleIn σ (view s) o; kind = v .kind; standing = under (handleIn σ (view s) d) text } ∷ L .book; given = handleIn σ (view s) o ∷ L .given })
+  unfolding t
+  create-inv =
+      let T = tree σ p q r s L I in
+      let e = frame .shape in
+      record {
+        inv =
+            record {
+              valid = valid-by p q t
+                  (create-object-still s g o n v d text in-objs was-free low in-names fits live empty dl dk name below .good)
+                  (e .objects ∙ I .objs) (e .names ∙ I .nams) (created-tree p q (view s) (view t) o n (v .kind) d text T created-of);
+              bytes = frame .sound .bytes;
+              mark = e .stamp ∙ I .mark;
+              objs = e .objects ∙ I .objs;
+              nams = e .names ∙ I .nams;
+              blks = e .blocks ∙ I .blks;
+              issues = created-issues p q σ (view s) (view t) o n (v .kind) d text (L .given) created-of (omega (arith, gen-at s o in-objs)) (I .issues);
+              agrees = created-agrees p q σ (view s) (view t) o n (v .kind) d text T created-of (L .book) (I .agrees);
+            };
+        grew = record {
+          older = λ i. by-cases (ℕ-discrete i o) (λ x. rw x (omega (arith, created-of .obj .gen))) (λ x. omega (arith, created-of .obj .other i x .1));
+          stays = λ i l x. by-cases (ℕ-discrete i o) (λ y. absurd (omega (arith, ap (view s .kind) y, created-of .was-free))) (λ y. created-of .obj .other i y .0);
+        };
+      }
+
+  pub create-keeps : Keeps σ p q r s (createObject s o n v d text)
+      (record { book = record { handle = handleIn σ (view s) o; kind = v .kind; standing = under (handleIn σ (view s) d) text } ∷ L .book; given = handleIn σ (view s) o ∷ L .given })
+  create-keeps =
+      record {
+        owes = create-inv;
+        kinds = λ i l. by-cases (ℕ-discrete i o) (λ y. absurd (omega (arith, ap (view s .kind) y, created-of .was-free))) (λ y. created-of .obj .other i y .0);
+        gens = λ i. by-cases (ℕ-discrete i o) (λ y. rw y (created-of .obj .gen)) (λ y. created-of .obj .other i y .1);
+      }
+
+-- ---- the fourth edit: an object and its name are removed
+module _ (σ p q r : ℕ) (s : Store) (L : Ledger) (I : Inv σ p q r s L) (n : ℕ) (used : Used (view s) n)
+    (empty : (m : ℕ) → Used (view s) m → view s .dir m ≢ nameAt s n .child) where
+  o : ℕ
+  o = nameAt s n .child
+
+  nl : n < names s
+  nl = used-in s n used
+
+  child : view s .child n ≡ o
+  unfolding o
+  child = child-at s n nl
+
+  alive : Live (view s) o
+  alive = let l = tree σ p q r s L I .flat .ends n used in omega (arith, ap (view s .kind) child)
+
+  ol : o < objects s
+  ol = live-in s o alive
+
+  rec : LiveObject (blocks s) (objectAt s o)
+  rec = live-at s (good σ p q r s L I) o ol (live-seen σ p q r s L I o alive)
+
+  used-record : 0 < nameLength s n
+  used-record = omega (arith, ap length (text-at s n nl), text-long s (I .valid .good-names) n nl)
+
+  u : Store
+  u = removeObject s n
+
+  removal : BothSet s o (freeObject (objectAt s o .generation + 1)) n freeName u
+  unfolding u o
+  removal = remove-object s n o refl (good σ p q r s L I .sound) nl ol (rec .generation) (held-range s o rec)
+
+  single : namings q (view s) o ≤ 1
+  single = lone p q (view s) (tree σ p q r s L I .flat) o alive
+
+  pub removed-of : Removed p q (view s) (view (removeObject s n)) (nameAt s n .child) n 0 0
+  unfolding u o
+  removed-of =
+      let w = set-obj s u (removal .shape) o (freeObject (objectAt s o .generation + 1)) ol (removal .object) (removal .other-objects) in
+      record {
+        obj = record { kind = w .kind; gen = omega (arith, w .gen, gen-at s o ol); other = w .other };
+        nam = set-name s u (removal .shape) n freeName nl (removal .name) (removal .other-names);
+        not-root = λ z. not-named q (view s) 0 n (tree σ p q r s L I .flat .never) (omega (arith, nl, I .nams)) (used, child ∙ z);
+        named = (used, child);
+        last = single;
+        empty = empty;
+      }
+
+  pub remove-inv : Owes σ p q r s (removeObject s n)
+      (record { book = strikeLines (handleIn σ (view s) (view s .dir n)) (view s .text n) (L .book); given = L .given })
+  unfolding u o
+  remove-inv =
+      let T = tree σ p q r s L I in
+      let e = removal .shape in
+      record {
+        inv =
+            record {
+              valid = valid-by p q u
+                  (remove-object-still s (good σ p q r s L I) n nl used-record
+                  (λ m l d x. let y : Used (view s) m = omega (arith, ap length (text-at s m l), text-long s (I .valid .good-names) m l) in (
+                    (λ z. d (one-name p q (view s) (T .flat) o m n single (y, child-at s m l ∙ z) (used, child))),
+                    (λ z. empty m y (dir-at s m l ∙ z)),
+                  )) .good)
+                  (e .objects ∙ I .objs) (e .names ∙ I .nams) (removed-tree p q (view s) (view u) o n 0 0 T removed-of);
+              bytes = removal .sound .bytes;
+              mark = e .stamp ∙ I .mark;
+              objs = e .objects ∙ I .objs;
+              nams = e .names ∙ I .nams;
+              blks = e .blocks ∙ I .blks;
+              issues = removed-issues p q σ (view s) (view u) o n 0 0 (L .given) T removed-of (I .issues);
+              agrees = removed-agrees p q σ (view s) (view u) o n 0 0 T removed-of (L .book) (I .agrees);
+            };
+        grew = record {
+          older = λ i. by-cases (ℕ-discrete i o) (λ x. rw x (omega (arith, removed-of .obj .gen))) (λ x. omega (arith, removed-of .obj .other i x .1));
+          stays = λ i l x. by-cases (ℕ-discrete i o)
+              (λ y. absurd (omega (arith, ap (view s .gen) y, ap (view u .gen) y, removed-of .obj .gen))) (λ y. removed-of .obj .other i y .0);
+        };
+      }
+
+-- ---- the fifth edit: a name is moved
+module _ (σ p q r : ℕ) (s : Store) (L : Ledger) (I : Inv σ p q r s L) (n d : ℕ) (text : List ℕ) (used : Used (view s) n)
+    (name : GoodName text) (below : Below 256 text) (parent : view s .kind d ≡ 2) (absent : entries (names s) (view s) d text ≡ 0)
+    (clear : (qs : List ℕ) → Path (view s) d qs → Avoids (view s) (nameAt s n .child) d qs) where
+  m : Store
+  m = moveName s n d text
+
+  ml : n < names s
+  ml = used-in s n used
+
+  md : d < objects s
+  md = live-in s d (omega arith)
+
+  mg : GoodRecords s
+  mg = good σ p q r s L I
+
+  msmall : d < 2 ^ 32
+  msmall = omega (arith, md, I .valid .shaped .few-objects)
+
+  turned : NameSet s n (movedName s n d text) m
+  unfolding m
+  turned = move-name s n d text (mg .sound) ml msmall (name .short) below
+
+  pub moved-of : Moved p q (view s) (view (moveName s n d text)) n d text
+  unfolding m
+  moved-of =
+      let w = set-name s m (turned .shape) n (movedName s n d text) ml (turned .name) (turned .other-names) in
+      record {
+        kinds = λ i. kind-same s m (turned .shape) i (λ k. ap (λ (x : Object). x .kind) (turned .each-object i k));
+        gens = λ i. gen-same s m (turned .shape) i (λ k. ap (λ (x : Object). x .generation) (turned .each-object i k));
+        nam = record { dir = w .dir; child = w .child ∙ sym (child-at s n ml); text = w .text; other = w .other };
+        used = used;
+        some = name .some-byte;
+        parent = parent;
+        absent = ap (λ (x : ℕ). entries x (view s) d text) (sym (I .nams)) ∙ absent;
+        clear = λ qs a. subst (λ (x : ℕ). Avoids (view s) x d qs) (sym (child-at s n ml)) (clear qs a);
+      }
+
+  pub move-inv : Owes σ p q r s (moveName s n d text)
+      (record { book = moveLines (handleIn σ (view s) (view s .dir n)) (view s .text n) (handleIn σ (view s) d) text (L .book); given = L .given })
+  unfolding m
+  move-inv =
+      let T = tree σ p q r s L I in
+      let e = turned .shape in
+      record {
+        inv =
+            record {
+              valid = valid-by p q m
+                  (move-name-still s mg n d text ml (omega (arith, ap length (text-at s n ml), text-long s (I .valid .good-names) n ml)) md (sym (kind-at s d md) ∙ parent) name below .good)
+                  (e .objects ∙ I .objs) (e .names ∙ I .nams) (moved-tree p q (view s) (view m) n d text T moved-of);
+              bytes = turned .sound .bytes;
+              mark = e .stamp ∙ I .mark;
+              objs = e .objects ∙ I .objs;
+              nams = e .names ∙ I .nams;
+              blks = e .blocks ∙ I .blks;
+              issues = moved-issues p q σ (view s) (view m) n d text (L .given) moved-of (I .issues);
+              agrees = moved-agrees p q σ (view s) (view m) n d text T moved-of (L .book) (I .agrees);
+            };
+        grew = grew-same (view s) (view m) (λ i. (moved-of .kinds i, moved-of .gens i));
+      }
+
+  pub move-keeps : Keeps σ p q r s (moveName s n d text)
+      (record { book = moveLines (handleIn σ (view s) (view s .dir n)) (view s .text n) (handleIn σ (view s) d) text (L .book); given = L .given })
+  move-keeps = record { owes = move-inv; kinds = λ i l. moved-of .kinds i; gens = λ i. moved-of .gens i }

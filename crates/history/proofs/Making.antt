@@ -1,0 +1,219 @@
+-- CREATE and MKDIR keep the invariant, with the line that the book gets. Assumes nothing.
+use mathlib.Core.Path.{_≡_, refl, sym, ap, _∙_, subst}
+use mathlib.Core.Logic.{_⊎_}
+use mathlib.Core.Bool.{Bool, true, false, _&&_, _||_, not}
+use mathlib.Core.Option.{Option, some, none}
+use mathlib.Core.List.{List, _∷_}
+use Prim.Native.Nat.{ℕ, _-_, _^_, _≤_, _<_}
+use native.Mathlib.Omega.{arith}
+use lib.Dec.{lit<}
+use Rattle.kinds.specs.declared.object.Context.{Context}
+use Rattle.kinds.specs.declared.object.Object.{Object}
+use Rattle.kinds.specs.declared.call.SetSize.{SetSize}
+use Rattle.kinds.specs.declared.call.SetSize.the-variants as SetSize
+use Rattle.kinds.specs.declared.call.Settable.{Settable}
+use Rattle.kinds.specs.declared.call.How.{How}
+use Rattle.kinds.specs.declared.call.How.the-variants as How
+use Rattle.spec.specs.Checked.{Checked, refused, passed, absent}
+use Rattle.spec.specs.Edits.{withAttributes, withGeneration, resize, createObject, mtimeAndCtime}
+use Rattle.spec.specs.Handles.{handleOf, reachDirectory}
+use Rattle.spec.specs.Image.{Store, objects, names, blocks, objectAt, nameAt}
+use Rattle.spec.specs.Procedures.Attributes.{isGiven, sizeSet, badAttributes, lacksRoom, resizeTo}
+use Rattle.spec.specs.Procedures.Names.{newObject, newEdit, new, existing, isNew, roomForNew, checkExisting, targetOf, checkNew, checkAttributed, checkHow, checkCreate, existingEdit, checkMkdir}
+use Rattle.spec.specs.Room.{isRegular, sizeOf, need, freeBlockCount, findName}
+use Rattle.spec.proofs.CreateObject.{create-object, create-object-uses}
+use Rattle.spec.proofs.GoodRecords.{GoodClock, clock-fits, free-size}
+use Rattle.spec.proofs.Passed.{Reached, NewRoom}
+use Rattle.spec.proofs.Range.{Below}
+use Rattle.spec.proofs.Records.{FitsObject}
+use Rattle.spec.proofs.SameReads.{freeBlockCount-reads}
+use Rattle.spec.proofs.SetAttributes.{FitsSettable, Allowed, new-fits, new-live, mtime-and-ctime-fits, mtime-and-ctime-allowed}
+use Rattle.spec.proofs.Valid.{GoodName, LiveObject}
+use Rattle.history.specs.Book.{under, Ledger, handleBytes, someAt, add}
+use Rattle.history.proofs.View.{Live, At, entries}
+use Rattle.history.proofs.Agree.{handleIn, none-at, some-at}
+use Rattle.history.proofs.Seen.{view, kind-at, gen-at, live-in}
+use Rattle.history.proofs.Inv.{Inv, Keeps, keeps-refl, keeps-trans, tree, touch-inv, resize-inv, created-of, create-keeps}
+use Rattle.history.proofs.Inv as Inv
+use Rattle.history.proofs.Checks.{handle-reached, Sure, sure-bind, sure-then, sure-passed, sure-refused, sure-absent, sure-directory, sure-room, sure-new}
+use Rattle.history.proofs.Noted.{add-new, add-old}
+use Rattle.history.proofs.Sizes.{resize-to}
+
+-- the handle of an object in range
+pub handle-seen : (σ p q r : ℕ) (s : Store) (L : Ledger) → Inv σ p q r s L → (o : ℕ) → o < objects s → handleOf s o ≡ handleIn σ (view s) o
+unfolding handleOf
+handle-seen σ p q r s L I o l = λ i. handleBytes (I .mark i) o (sym (gen-at s o l) i)
+
+-- the ledger with the line of a new object
+abbrev pub withLine : ℕ → Store → Ledger → ℕ → ℕ → ℕ → List ℕ → Ledger
+withLine σ s L o kind d text =
+    record { book = record { handle = handleIn σ (view s) o; kind = kind; standing = under (handleIn σ (view s) d) text } ∷ L .book; given = handleIn σ (view s) o ∷ L .given }
+
+module _ (σ p q r : ℕ) (s : Store) (L : Ledger) (I : Inv σ p q r s L) (c : Context) (clock : GoodClock (c .clock)) where
+  -- ---- a new object
+  module _ (kind o n d : ℕ) (text : List ℕ) (a : Settable) (which : (kind ≡ 1) ⊎ (kind ≡ 2)) (room : NewRoom s (sizeSet (a .size) 0) o n) (f : FitsSettable a) (ok : Allowed a)
+      (good : GoodName text) (below : Below 256 text) (parent : view s .kind d ≡ 2) (absent : entries (names s) (view s) d text ≡ 0)
+      (file : isGiven (a .size) ≡ true → kind ≡ 1) where
+    v : Object
+    v = newObject (c .clock) kind a
+
+    v-kind : v .kind ≡ kind
+    unfolding v newObject withAttributes
+    v-kind = refl
+
+    v-size : v .size ≡ 0
+    unfolding v newObject withAttributes
+    v-size = refl
+
+    small-kind : kind < 2 ^ 32
+    small-kind = go which
+      where
+        go : (kind ≡ 1) ⊎ (kind ≡ 2) → kind < 2 ^ 32
+        go (_⊎_.inl e) = omega arith
+        go (_⊎_.inr e) = omega arith
+
+    v-fits : FitsObject v
+    unfolding v
+    v-fits = new-fits (c .clock) kind a (clock-fits (c .clock) clock) small-kind f
+
+    v-live : LiveObject (blocks s) v
+    unfolding v
+    v-live = new-live (blocks s) (c .clock) kind a (clock .nanoseconds) ok which
+
+    t : Store
+    t = createObject s o n v d text
+
+    first : Keeps σ p q r s t (withLine σ s L o (v .kind) d text)
+    unfolding t
+    first =
+        create-keeps σ p q r s L I o n v d text (room .object-below) (room .name-below) (room .object-free) (room .generation-low) (room .name-free) v-fits v-live v-size good below parent absent
+
+    K : Ledger
+    K = withLine σ s L o (v .kind) d text
+
+    made-kind : view t .kind o ≡ kind
+    unfolding t
+    made-kind =
+        created-of σ p q r s L I o n v d text (room .object-below) (room .name-below) (room .object-free) (room .generation-low) (room .name-free) v-fits v-live v-size good below parent absent .obj .kind
+        ∙ v-kind
+
+    dl : d < objects s
+    dl = live-in s d (omega arith)
+
+    d-small : d < 2 ^ 32
+    d-small = omega (arith, dl, I .valid .shaped .few-objects)
+
+    made-size : sizeOf t o ≡ 0
+    unfolding t sizeOf withGeneration
+    made-size =
+        ap (λ (x : Object). x .size) (create-object s o n v d text (Inv.good σ p q r s L I .sound) (room .object-below) (room .name-below) v-fits d-small (good .short) below .object) ∙ v-size
+
+    was-empty : objectAt s o .size ≡ 0
+    was-empty = free-size s (Inv.good σ p q r s L I) o (room .object-below) (room .object-free)
+
+    same-free : freeBlockCount t ≡ freeBlockCount s
+    unfolding t
+    same-free =
+        freeBlockCount-reads s t (create-object s o n v d text (Inv.good σ p q r s L I .sound) (room .object-below) (room .name-below) v-fits d-small (good .short) below .shape .blocks)
+        (λ b _. create-object-uses s o n v d text (Inv.good σ p q r s L I .sound) (room .object-below) (room .name-below) v-fits d-small (good .short) below was-empty v-size b)
+
+    second : Keeps σ p q r t (resizeTo t o (a .size)) K
+    unfolding K
+    second =
+        resize-to σ p q r t (withLine σ s L o (v .kind) d text) (first .owes .inv) o (a .size) (λ g. made-kind ∙ file g) (ok .size)
+        (omega (arith, same-free, room .room, ap (λ (x : ℕ). need (sizeSet (a .size) x) - need x) made-size))
+
+    third : Keeps σ p q r (resizeTo t o (a .size)) (newEdit s c kind o n d text a) K
+    unfolding newEdit t v K
+    third =
+        touch-inv σ p q r (resizeTo t o (a .size)) K (second .owes .inv) (c .clock) d mtimeAndCtime
+        (let x = first .kinds d (omega arith) in omega (arith, second .kinds d (omega arith))) clock mtime-and-ctime-fits mtime-and-ctime-allowed
+
+    both : Keeps σ p q r s (newEdit s c kind o n d text a) K
+    unfolding K
+    both = keeps-trans σ p q r s t _ K K first (keeps-trans σ p q r t (resizeTo t o (a .size)) _ K K second third)
+
+    pub new-keeps : Keeps σ p q r s (newEdit s c kind o n d text a) (withLine σ s L o kind d text)
+    unfolding K
+    new-keeps = subst (λ (x : ℕ). Keeps σ p q r s (newEdit s c kind o n d text a) (withLine σ s L o x d text)) v-kind both
+
+    -- the handle in the reply
+    pub new-handle : handleOf (newEdit s c kind o n d text a) o ≡ handleIn σ (view s) o
+    new-handle =
+        let u = newEdit s c kind o n d text a in
+        let J = new-keeps .owes .inv in
+        handle-seen σ p q r u (withLine σ s L o kind d text) J o (omega (arith, J .objs, I .objs, room .object-below))
+        ∙ ap (handleBytes σ o) (new-keeps .gens o)
+
+    pub new-alive : Live (view (newEdit s c kind o n d text a)) o
+    new-alive = go which
+      where
+        go : (kind ≡ 1) ⊎ (kind ≡ 2) → Live (view (newEdit s c kind o n d text a)) o
+        go (_⊎_.inl e) = let x = second .kinds o (omega (arith, made-kind)) in omega (arith, made-kind, third .kinds o (omega (arith, made-kind)))
+        go (_⊎_.inr e) = let x = second .kinds o (omega (arith, made-kind)) in omega (arith, made-kind, third .kinds o (omega (arith, made-kind)))
+
+  -- ---- the line of a new object, where the store has no such name, and none where it has one
+  module _ (h text : List ℕ) (d : ℕ) (w : Reached s h d) (dk : objectAt s d .kind ≡ 2) (hb : Below 256 h) where
+    pub directory-kind : view s .kind d ≡ 2
+    directory-kind = kind-at s d (w .below) ∙ dk
+
+    pub directory-handle : h ≡ handleIn σ (view s) d
+    directory-handle = handle-reached s h d w hb ∙ handle-seen σ p q r s L I d (w .below)
+
+    pub line-added : (o kind : ℕ) → entries (names s) (view s) d text ≡ 0 → add (handleIn σ (view s) o) kind h text L ≡ withLine σ s L o kind d text
+    line-added o kind z =
+        add-new (handleIn σ (view s) o) kind h text L
+        (ap (λ (x : List ℕ). someAt x text (L .book)) directory-handle
+        ∙ none-at p q σ (view s) (tree σ p q r s L I) (L .book) (I .agrees) d text directory-kind (ap (λ (x : ℕ). entries x (view s) d text) (sym (I .nams)) ∙ z))
+        ∙ ap (λ (x : List ℕ). record { book = record { handle = handleIn σ (view s) o; kind = kind; standing = under x text } ∷ L .book; given = handleIn σ (view s) o ∷ L .given }) directory-handle
+
+    pub line-there : (g : List ℕ) (kind n : ℕ) → At (view s) n d text → add g kind h text L ≡ L
+    line-there g kind n e =
+        add-old g kind h text L
+        (ap (λ (x : List ℕ). someAt x text (L .book)) directory-handle
+        ∙ some-at p q σ (view s) (tree σ p q r s L I) (L .book) (I .agrees) d text directory-kind n e)
+
+  -- ---- CREATE of an existing file
+  pub existing-keeps : (o : ℕ) (a : Settable) → view s .kind o ≡ 1 → sizeSet (a .size) 0 ≤ 8192
+      → need (sizeSet (a .size) (sizeOf s o)) - need (sizeOf s o) ≤ freeBlockCount s → Keeps σ p q r s (existingEdit s c o (a .size)) L
+  existing-keeps o a k m e = go (a .size) m e
+    where
+      go : (z : SetSize) → sizeSet z 0 ≤ 8192 → need (sizeSet z (sizeOf s o)) - need (sizeOf s o) ≤ freeBlockCount s → Keeps σ p q r s (existingEdit s c o z) L
+      go SetSize.Keep m e = keeps-refl σ p q r s L I
+      go (SetSize.To n) m e =
+          let first = resize-inv σ p q r s L I o n k m e in
+          keeps-trans σ p q r s (resize s o n) _ L L first
+          (touch-inv σ p q r (resize s o n) L (first .owes .inv) (c .clock) o mtimeAndCtime (omega (arith, first .kinds o (omega arith))) clock mtime-and-ctime-fits mtime-and-ctime-allowed)
+
+-- ---- the checks of CREATE and MKDIR
+pub sure-target : (s : Store) (d : ℕ) (text : List ℕ) (b : Bool) (a : Settable) → Sure (checkAttributed s d text b a)
+unfolding checkAttributed checkExisting
+sure-target s d text b a = sure-bind (checkNew s d text (badAttributes a)) _ (sure-new s d text (badAttributes a)) (λ _. target (findName s d text))
+  where
+    is-new : (x : Checked (ℕ × ℕ)) → Sure x → Sure (isNew x)
+    is-new (refused n) f = λ status e. let z : n ≡ status = cc in f status (ap refused z)
+    is-new (passed x) f = sure-passed (new (x .0) (x .1))
+
+    target : (x : Option ℕ) → Sure (targetOf s b a x)
+    target none = is-new (roomForNew s (sizeSet (a .size) 0)) (sure-room s (sizeSet (a .size) 0))
+    target (some n) =
+        sure-then (not (b && isRegular s (nameAt s n .child))) 17 _ (lit< tt) (lit< tt)
+        (sure-then (lacksRoom s (sizeOf s (nameAt s n .child)) (sizeSet (a .size) (sizeOf s (nameAt s n .child)))) 28 _ (lit< tt) (lit< tt) (sure-passed (existing (nameAt s n .child))))
+
+pub sure-create : (s : Store) (h text : List ℕ) (manner : How) → Sure (checkCreate s h text manner)
+unfolding checkCreate
+sure-create s h text manner =
+    sure-bind (reachDirectory s h) _ (sure-directory s h) (λ d. sure-bind (checkHow s d text manner) _ (how d manner) (λ t. sure-passed (d, t)))
+  where
+    how : (d : ℕ) (m : How) → Sure (checkHow s d text m)
+    how d (How.Unchecked a) = sure-target s d text true a
+    how d (How.Guarded a) = sure-target s d text false a
+    how d (How.Exclusive verifier) = sure-refused 10004 (lit< tt) (lit< tt)
+
+pub sure-mkdir : (s : Store) (h text : List ℕ) (a : Settable) → Sure (checkMkdir s h text a)
+unfolding checkMkdir
+sure-mkdir s h text a =
+    sure-bind (reachDirectory s h) _ (sure-directory s h) (λ d.
+    sure-bind (checkNew s d text (badAttributes a || isGiven (a .size))) _ (sure-new s d text (badAttributes a || isGiven (a .size))) (λ _.
+    sure-bind (absent 17 (findName s d text)) _ (sure-absent 17 (findName s d text) (lit< tt) (lit< tt)) (λ _.
+    sure-bind (roomForNew s 0) _ (sure-room s 0) (λ x. sure-passed (d, x .0, x .1)))))

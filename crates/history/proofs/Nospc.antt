@@ -1,0 +1,261 @@
+-- NOSPC is answered exactly where the room that the book counts is missing, and OK where it is there. Assumes nothing.
+use mathlib.Core.Path.{_≡_, refl, sym, ap, _∙_, subst}
+use mathlib.Core.Logic.{_⊎_, inl, inr, by-cases, ⊎-elim}
+use mathlib.Core.Bool.{Bool, true, false, _&&_, _||_, not}
+use mathlib.Core.Option.{Option, some, none}
+use mathlib.Core.List.{List}
+use Prim.Native.Nat.{ℕ, _+_, _-_, _≤_, _<_, min}
+use native.Mathlib.Decide.{ℕ-discrete, decLt}
+use native.Mathlib.Omega.{arith}
+use lib.Dec.{eqb, ltb, lit<}
+use lib.ListN.{length, take}
+use borrow.Author.Tests.{eq-eqb, ne-eqb, lt-ltb, le-ltb, ltb-true}
+use Rattle.kinds.specs.declared.call.Part.{Part}
+use Rattle.kinds.specs.declared.call.NameIn.{NameIn}
+use Rattle.kinds.specs.declared.call.Settable.{Settable}
+use Rattle.kinds.specs.declared.call.Guard.{Guard}
+use Rattle.kinds.specs.declared.call.How.{How}
+use Rattle.kinds.specs.declared.call.How.the-variants as How
+use Rattle.kinds.specs.declared.call.Arguments.{Arguments}
+use Rattle.kinds.specs.declared.call.Arguments.the-variants as Call
+use Rattle.spec.specs.Checked.{Checked, refused, passed, bind, refuseIf, present}
+use Rattle.spec.specs.Count.{bit, count, lowest}
+use Rattle.spec.specs.Handles.{reach, reachDirectory}
+use Rattle.spec.specs.Image.{Store, objects, names, objectAt, nameAt}
+use Rattle.spec.specs.Procedures.{cut, act}
+use Rattle.spec.specs.Procedures.Attributes.{isGiven, sizeSet, badAttributes, lacksRoom, differs, checkSetattr, setattrEdit, edited, setattr}
+use Rattle.spec.specs.Procedures.Data.{mostBytes, reachRegular, grown, checkWrite, writeDone, write}
+use Rattle.spec.specs.Procedures.Names.{Target, existing, isNew, roomForNew, checkNew, checkExisting, checkAttributed, checkCreate, createEdit, settableOf, create, checkMkdir, mkdir, createdIn, newEdit}
+use Rattle.spec.specs.Results.{Result, failChanging, settle}
+use Rattle.spec.specs.Room.{isRegular, isDirectory, isAvailable, isUsedName, sizeOf, need, freeBlockCount, availableCount, availableObject, freeNameCount, availableName, findName}
+use Rattle.spec.proofs.Count.{by-bool, sum-at, lowest-passes, lowest-none, true-false}
+use Rattle.spec.proofs.Error.{statusOf}
+use Rattle.spec.proofs.Searches.{count-nothing}
+use Rattle.history.specs.Book.{Ledger, isStatus, isOk}
+use Rattle.history.specs.Run.{Request, replyTo}
+use Rattle.history.specs.Statement.{Asks, AnswersRoom, BlocksMissing, RoomMissing, blocksLeft, namesLeft, objectsLeft}
+use Rattle.history.proofs.Inv.{Inv}
+use Rattle.history.proofs.Replies.{answered-is, answered-ok}
+use Rattle.history.proofs.Counts.{free-blocks, free-names, available-objects}
+use Rattle.history.proofs.Noted.{Answer, Says, changing-says, changed-says, wrote-says, created-says}
+use Rattle.history.proofs.Next.{answer-to}
+
+-- ---- an answer by a test
+module _ (call reply : List ℕ) (a : Arguments) (r : Result) (A : Answer call reply a r) where
+  status-of : (n k : ℕ) → Says r n → n < 4294967296 → isStatus k reply ≡ eqb n k
+  status-of n k f l =
+      ap (isStatus k) (A .is) ∙ answered-is (A .xid) (A .procedure) r (f .some) (omega (arith, f .status)) k ∙ ap (λ (x : ℕ). eqb x k) (f .status)
+
+  pub ok-of : Says r 0 → isOk reply ≡ true
+  ok-of f = ap isOk (A .is) ∙ answered-ok (A .xid) (A .procedure) r (f .some) (omega (arith, f .status)) ∙ eq-eqb (statusOf r) 0 (f .status)
+
+  pub by-room : (missing : Type 0) → Dec missing → (missing → Says r 28) → (¬ missing → Says r 0) → AnswersRoom reply missing
+  by-room missing d full there =
+      record {
+        nospc = (
+          (λ e. by-cases d (λ m. m) (λ n. absurd (true-false (sym e ∙ status-of 0 28 (there n) (lit< tt))))),
+          (λ m. status-of 28 28 (full m) (lit< tt)),
+        );
+        ok = λ n. ok-of (there n);
+      }
+
+-- ---- a search that finds nothing, and a count that is 0
+lowest-count : (n : ℕ) (f : ℕ → Bool) → count n f ≡ 0 → lowest n f ≡ none
+lowest-count n f z = go (lowest n f) refl
+  where
+    go : (x : Option ℕ) → lowest n f ≡ x → x ≡ none
+    go none e = refl
+    go (some k) e =
+        let w = lowest-passes f n k e in
+        absurd (omega (arith, sum-at n k (λ i. bit (f i)) (w .below), ap bit (w .passes)))
+
+lowest-found : (n : ℕ) (f : ℕ → Bool) → 0 < count n f → (k : ℕ) × (lowest n f ≡ some k)
+lowest-found n f l = go (lowest n f) refl
+  where
+    go : (x : Option ℕ) → lowest n f ≡ x → (k : ℕ) × (lowest n f ≡ some k)
+    go none e = absurd (omega (arith, count-nothing n f (λ i m. lowest-none f n i e m)))
+    go (some k) e = (k, e)
+
+-- the checks of room for a new object, by what is found
+abbrev roomBy : Option ℕ → Option ℕ → Bool → Checked (ℕ × ℕ)
+roomBy x y t = bind (present 28 x) (λ o. bind (present 28 y) (λ n. bind (refuseIf t 28) (λ _. passed (o, n))))
+
+module _ (σ p q r : ℕ) (s : Store) (L : Ledger) (I : Inv σ p q r s L) where
+  -- the room that is left, by the book and in the store
+  pub blocks-left : blocksLeft r s L ≡ freeBlockCount s
+  blocks-left = omega (arith, free-blocks σ p q r s L I)
+
+  pub names-left : namesLeft q L ≡ freeNameCount s
+  names-left = omega (arith, free-names σ p q r s L I)
+
+  pub objects-left : objectsLeft σ p L ≡ availableCount s
+  objects-left = omega (arith, available-objects σ p q r s L I)
+
+  missing-yes : (old size : ℕ) → BlocksMissing r s L old size → lacksRoom s old size ≡ true
+  unfolding lacksRoom
+  missing-yes old size m = lt-ltb (freeBlockCount s) (need size - need old) (omega (arith, blocks-left))
+
+  missing-no : (old size : ℕ) → ¬ BlocksMissing r s L old size → lacksRoom s old size ≡ false
+  unfolding lacksRoom
+  missing-no old size m =
+      by-bool (ltb (freeBlockCount s) (need size - need old))
+      (λ t. absurd (m (omega (arith, blocks-left, ltb-true (freeBlockCount s) (need size - need old) t)))) (λ t. t)
+
+  missing? : (old size : ℕ) → Dec (BlocksMissing r s L old size)
+  missing? old size = decLt (blocksLeft r s L) (need size - need old)
+
+  -- ---- SETATTR
+  pub setattr-room : (x : Request) (h : Part) (a : Settable) (g : Guard) (o : ℕ) → Asks x (Call.Setattr h a g)
+      → reach s (cut (x .call) h) ≡ passed o → differs g (objectAt s o .ctime) ≡ false → badAttributes a ≡ false → isGiven (a .size) && isDirectory s o ≡ false
+      → AnswersRoom (replyTo s x) (BlocksMissing r s L (sizeOf s o) (sizeSet (a .size) (sizeOf s o)))
+  unfolding act setattr checkSetattr statusOf
+  setattr-room x h a g o k e₁ e₂ e₃ e₄ =
+      let hb = cut (x .call) h in
+      let c = x .context in
+      let old = sizeOf s o in
+      let size = sizeSet (a .size) (sizeOf s o) in
+      let checks : checkSetattr s hb a g ≡ bind (refuseIf (lacksRoom s old size) 28) (λ _. passed o) = rw (e₁, e₂, e₃, e₄) in
+      let result : Checked ℕ → Result = λ y. settle s (failChanging s hb) y (λ o. edited s o (setattrEdit s c o a)) .result in
+      let A = answer-to σ p q r s L I x (Call.Setattr h a g) k in
+      by-room (x .call) (replyTo s x) (Call.Setattr h a g) _ A (BlocksMissing r s L old size) (missing? old size)
+      (λ m. subst (λ (y : Checked ℕ). Says (result y) 28) (sym (checks ∙ ap (λ (t : Bool). bind (refuseIf t 28) (λ _. passed o)) (missing-yes old size m))) (changing-says s hb 28))
+      (λ m. subst (λ (y : Checked ℕ). Says (result y) 0) (sym (checks ∙ ap (λ (t : Bool). bind (refuseIf t 28) (λ _. passed o)) (missing-no old size m)))
+      (changed-says 0 _))
+
+  -- ---- WRITE
+  pub write-room : (x : Request) (h : Part) (offset n : ℕ) (bytes : Part) (o : ℕ) → Asks x (Call.Write h offset n bytes)
+      → reachRegular s (cut (x .call) h) ≡ passed o → n ≡ length (cut (x .call) bytes) → 0 < n → offset + min n mostBytes ≤ 8192
+      → AnswersRoom (replyTo s x) (BlocksMissing r s L (sizeOf s o) (grown s o offset (min n mostBytes)))
+  unfolding act write writeDone checkWrite statusOf
+  write-room x h offset n bytes o k e₁ e₂ l m =
+      let hb = cut (x .call) h in
+      let c = x .context in
+      let old = sizeOf s o in
+      let size = grown s o offset (min n mostBytes) in
+      let sent = cut (x .call) bytes in
+      let d₁ : eqb n (length sent) ≡ true = eq-eqb n (length sent) e₂ in
+      let d₂ : eqb n 0 ≡ false = ne-eqb n 0 (λ z. omega arith) in
+      let d₃ : ltb 8192 (offset + min n 4096) ≡ false = le-ltb 8192 (offset + min n 4096) m in
+      let checks : checkWrite s hb offset n sent ≡ bind (refuseIf (lacksRoom s old size) 28) (λ _. passed o) = rw (e₁, d₁, d₂, d₃) in
+      let result : Checked ℕ → Result = λ y. settle s (failChanging s hb) y (λ o. writeDone s c o offset (take (min n mostBytes) sent)) .result in
+      let A = answer-to σ p q r s L I x (Call.Write h offset n bytes) k in
+      by-room (x .call) (replyTo s x) (Call.Write h offset n bytes) _ A (BlocksMissing r s L old size) (missing? old size)
+      (λ b. subst (λ (y : Checked ℕ). Says (result y) 28) (sym (checks ∙ ap (λ (t : Bool). bind (refuseIf t 28) (λ _. passed o)) (missing-yes old size b))) (changing-says s hb 28))
+      (λ b. subst (λ (y : Checked ℕ). Says (result y) 0) (sym (checks ∙ ap (λ (t : Bool). bind (refuseIf t 28) (λ _. passed o)) (missing-no old size b)))
+      (wrote-says _ _ _))
+
+  pub write-nothing : (x : Request) (h : Part) (offset : ℕ) (bytes : Part) (o : ℕ) → Asks x (Call.Write h offset 0 bytes)
+      → reachRegular s (cut (x .call) h) ≡ passed o → 0 ≡ length (cut (x .call) bytes) → isOk (replyTo s x) ≡ true
+  unfolding act write writeDone checkWrite statusOf
+  write-nothing x h offset bytes o k e₁ e₂ =
+      let hb = cut (x .call) h in
+      let c = x .context in
+      let sent = cut (x .call) bytes in
+      let d₁ : eqb 0 (length sent) ≡ true = eq-eqb 0 (length sent) e₂ in
+      let checks : checkWrite s hb offset 0 sent ≡ passed o = rw (e₁, d₁) in
+      let result : Checked ℕ → Result = λ y. settle s (failChanging s hb) y (λ o. writeDone s c o offset (take (min 0 mostBytes) sent)) .result in
+      let A = answer-to σ p q r s L I x (Call.Write h offset 0 bytes) k in
+      ok-of (x .call) (replyTo s x) (Call.Write h offset 0 bytes) _ A (subst (λ (y : Checked ℕ). Says (result y) 0) (sym checks) (wrote-says _ _ _))
+
+  -- ---- room for a new object
+  room? : (size : ℕ) → Dec (RoomMissing σ p q r s L size)
+  room? size = by-cases (ℕ-discrete (objectsLeft σ p L) 0)
+      (λ a. yes (inl a))
+      (λ a. by-cases (ℕ-discrete (namesLeft q L) 0)
+      (λ b. yes (inr (inl b)))
+      (λ b. by-cases (missing? 0 size)
+      (λ c. yes (inr (inr c)))
+      (λ c. no (λ x. ⊎-elim a (λ y. ⊎-elim b c y) x))))
+
+  room-full : (size : ℕ) → RoomMissing σ p q r s L size → roomForNew s size ≡ refused 28
+  unfolding roomForNew availableObject availableName availableCount freeNameCount
+  room-full size (_⊎_.inl a) = rw (lowest-count (objects s) (isAvailable s) (sym objects-left ∙ a))
+  room-full size (_⊎_.inr (_⊎_.inl b)) = objects-first (availableObject s)
+    where
+      objects-first : (x : Option ℕ) → roomBy x (availableName s) (lacksRoom s 0 size) ≡ refused 28
+      objects-first none = refl
+      objects-first (some o) = rw (lowest-count (names s) (λ n. not (isUsedName s n)) (sym names-left ∙ b))
+  room-full size (_⊎_.inr (_⊎_.inr c)) = both (availableObject s) (availableName s)
+    where
+      both : (x y : Option ℕ) → roomBy x y (lacksRoom s 0 size) ≡ refused 28
+      both none y = refl
+      both (some o) none = refl
+      both (some o) (some n) = rw (missing-yes 0 size c)
+
+  room-there : (size : ℕ) → ¬ RoomMissing σ p q r s L size → (x : ℕ × ℕ) × (roomForNew s size ≡ passed x)
+  unfolding roomForNew availableObject availableName availableCount freeNameCount
+  room-there size m =
+      let (o, e) = lowest-found (objects s) (isAvailable s) (some-of (objectsLeft σ p L) (count (objects s) (isAvailable s)) objects-left (λ z. m (inl z))) in
+      let (n, f) = lowest-found (names s) (λ n. not (isUsedName s n)) (some-of (namesLeft q L) (count (names s) (λ n. not (isUsedName s n))) names-left (λ z. m (inr (inl z)))) in
+      ((o, n), rw (e, f, missing-no 0 size (λ z. m (inr (inr z)))))
+    where
+      some-of : (a b : ℕ) → a ≡ b → (a ≡ 0 → ⊥) → 0 < b
+      some-of a b e n = by-cases (ℕ-discrete a 0) (λ z. absurd (n z)) (λ z. omega arith)
+
+  -- ---- CREATE of a new file
+  pub create-room : (x : Request) (place : NameIn) (manner : How) (a : Settable) (d : ℕ) → Asks x (Call.Create place manner)
+      → (manner ≡ How.Unchecked a) ⊎ (manner ≡ How.Guarded a) → reachDirectory s (cut (x .call) (place .directory)) ≡ passed d
+      → checkNew s d (cut (x .call) (place .name)) (badAttributes a) ≡ passed tt → findName s d (cut (x .call) (place .name)) ≡ none
+      → AnswersRoom (replyTo s x) (RoomMissing σ p q r s L (sizeSet (a .size) 0))
+  unfolding act create checkCreate checkAttributed statusOf
+  create-room x place manner a d k which e₁ e₂ e₃ =
+      let h = cut (x .call) (place .directory) in
+      let text = cut (x .call) (place .name) in
+      let c = x .context in
+      let size = sizeSet (a .size) 0 in
+      let checks : checkCreate s h text manner ≡ bind (isNew (roomForNew s size)) (λ t. passed (d, t)) = either which in
+      let result : Checked (ℕ × Target) → Result = λ y. settle s (failChanging s h) y (λ p. createEdit s c (p .0) text (settableOf manner) (p .1)) .result in
+      let A = answer-to σ p q r s L I x (Call.Create place manner) k in
+      by-room (x .call) (replyTo s x) (Call.Create place manner) _ A (RoomMissing σ p q r s L size) (room? size)
+      (λ m. subst (λ (y : Checked (ℕ × Target)). Says (result y) 28) (sym (checks ∙ ap (λ (t : Checked (ℕ × ℕ)). bind (isNew t) (λ t. passed (d, t))) (room-full size m))) (changing-says s h 28))
+      (λ m. let (y, e) = room-there size m in
+      subst (λ (y : Checked (ℕ × Target)). Says (result y) 0) (sym (checks ∙ ap (λ (t : Checked (ℕ × ℕ)). bind (isNew t) (λ t. passed (d, t))) e))
+      (created-says _ _ _))
+    where
+      either : (manner ≡ How.Unchecked a) ⊎ (manner ≡ How.Guarded a)
+          → checkCreate s (cut (x .call) (place .directory)) (cut (x .call) (place .name)) manner ≡ bind (isNew (roomForNew s (sizeSet (a .size) 0))) (λ t. passed (d, t))
+      either (_⊎_.inl e) = rw (e₁, e, e₂, e₃)
+      either (_⊎_.inr e) = rw (e₁, e, e₂, e₃)
+
+  -- ---- CREATE of an existing file
+  pub recreate-room : (x : Request) (place : NameIn) (a : Settable) (d n : ℕ) → Asks x (Call.Create place (How.Unchecked a))
+      → reachDirectory s (cut (x .call) (place .directory)) ≡ passed d
+      → checkNew s d (cut (x .call) (place .name)) (badAttributes a) ≡ passed tt → findName s d (cut (x .call) (place .name)) ≡ some n
+      → isRegular s (nameAt s n .child) ≡ true
+      → AnswersRoom (replyTo s x) (BlocksMissing r s L (sizeOf s (nameAt s n .child)) (sizeSet (a .size) (sizeOf s (nameAt s n .child))))
+  unfolding act create checkCreate checkAttributed checkExisting statusOf
+  recreate-room x place a d n k e₁ e₂ e₃ e₄ =
+      let h = cut (x .call) (place .directory) in
+      let text = cut (x .call) (place .name) in
+      let c = x .context in
+      let o = nameAt s n .child in
+      let old = sizeOf s o in
+      let size = sizeSet (a .size) (sizeOf s o) in
+      let rest : Bool → Checked (ℕ × Target) = λ t. bind (bind (refuseIf t 28) (λ _. passed (existing o))) (λ t. passed (d, t)) in
+      let checks : checkCreate s h text (How.Unchecked a) ≡ rest (lacksRoom s old size) = rw (e₁, e₂, e₃, e₄) in
+      let result : Checked (ℕ × Target) → Result = λ y. settle s (failChanging s h) y (λ p. createEdit s c (p .0) text a (p .1)) .result in
+      let A = answer-to σ p q r s L I x (Call.Create place (How.Unchecked a)) k in
+      by-room (x .call) (replyTo s x) (Call.Create place (How.Unchecked a)) _ A (BlocksMissing r s L old size) (missing? old size)
+      (λ m. subst (λ (y : Checked (ℕ × Target)). Says (result y) 28) (sym (checks ∙ ap rest (missing-yes old size m))) (changing-says s h 28))
+      (λ m. subst (λ (y : Checked (ℕ × Target)). Says (result y) 0) (sym (checks ∙ ap rest (missing-no old size m)))
+      (created-says _ _ _))
+
+  -- ---- MKDIR
+  pub mkdir-room : (x : Request) (place : NameIn) (a : Settable) (d : ℕ) → Asks x (Call.Mkdir place a)
+      → reachDirectory s (cut (x .call) (place .directory)) ≡ passed d
+      → checkNew s d (cut (x .call) (place .name)) (badAttributes a || isGiven (a .size)) ≡ passed tt → findName s d (cut (x .call) (place .name)) ≡ none
+      → AnswersRoom (replyTo s x) (RoomMissing σ p q r s L 0)
+  unfolding act mkdir checkMkdir statusOf
+  mkdir-room x place a d k e₁ e₂ e₃ =
+      let h = cut (x .call) (place .directory) in
+      let text = cut (x .call) (place .name) in
+      let c = x .context in
+      let rest : Checked (ℕ × ℕ) → Checked (ℕ × ℕ × ℕ) = λ y. bind y (λ p. passed (d, p .0, p .1)) in
+      let checks : checkMkdir s h text a ≡ rest (roomForNew s 0) = rw (e₁, e₂, e₃) in
+      let result : Checked (ℕ × ℕ × ℕ) → Result = λ y. settle s (failChanging s h) y (λ p. createdIn s (newEdit s c 2 (p .1) (p .2) (p .0) text a) (p .0) (p .1)) .result in
+      let A = answer-to σ p q r s L I x (Call.Mkdir place a) k in
+      by-room (x .call) (replyTo s x) (Call.Mkdir place a) _ A (RoomMissing σ p q r s L 0) (room? 0)
+      (λ m. subst (λ (y : Checked (ℕ × ℕ × ℕ)). Says (result y) 28) (sym (checks ∙ ap rest (room-full 0 m))) (changing-says s h 28))
+      (λ m. let (y, e) = room-there 0 m in
+      subst (λ (y : Checked (ℕ × ℕ × ℕ)). Says (result y) 0) (sym (checks ∙ ap rest e))
+      (created-says _ _ _))

@@ -1,0 +1,92 @@
+-- Parents as spec computes them: from a live directory, as many steps as there are objects lead to the root, and what is not met within them
+-- is not on the path. Assumes nothing.
+use mathlib.Core.Path.{_≡_, refl, sym, ap, _∙_}
+use mathlib.Core.Logic.{_≢_, by-cases}
+use mathlib.Core.Option.{Option, some, none}
+use mathlib.Core.List.{List, [], _∷_}
+use Prim.Native.Nat.{ℕ, zero, suc, _≤_, _<_}
+use native.Mathlib.Decide.{ℕ-discrete}
+use native.Mathlib.Omega.{arith}
+use lib.ListN.{length}
+use Rattle.spec.specs.Count.{lowest, iterate}
+use Rattle.spec.proofs.Count.{lowest-passes, lowest-none, true-false}
+use Rattle.history.proofs.Sum.{holds, holds-true, holds-yes}
+use Rattle.history.proofs.View.{View, Live, Names, names?, namings, Path, Avoids, named-by, not-named}
+use Rattle.history.proofs.Tree.{Flat, one-name, single}
+
+-- the directory of the record that is found, and 0 where none is
+abbrev pub directoryAt : View → Option ℕ → ℕ
+directoryAt v none = 0
+directoryAt v (some q) = v .dir q
+
+-- the record that names object i
+abbrev pub naming : ℕ → View → ℕ → Option ℕ
+naming Q v i = lowest Q (λ q. holds (names? v q i))
+
+abbrev pub parentIn : ℕ → View → ℕ → ℕ
+parentIn Q v i = directoryAt v (naming Q v i)
+
+pub iterate-inner : (n : ℕ) (f : ℕ → ℕ) (x : ℕ) → iterate (suc n) f x ≡ iterate n f (f x)
+unfolding iterate
+iterate-inner zero f x = refl
+iterate-inner (suc n) f x = ap f (iterate-inner n f x)
+
+module _ (P Q : ℕ) (v : View) (F : Flat P Q v) where
+  pub parent-of : (q i : ℕ) → namings Q v i ≤ 1 → Names v q i → parentIn Q v i ≡ v .dir q
+  parent-of q i m n = go (naming Q v i) refl
+    where
+      go : (x : Option ℕ) → naming Q v i ≡ x → directoryAt v x ≡ v .dir q
+      go none e = true-false (sym (holds-yes (names? v q i) n) ∙ lowest-none (λ p. holds (names? v p i)) Q q e (F .rows q (n .0)))
+      go (some p) e =
+          ap (v .dir) (one-name P Q v F i p q m (holds-true (names? v p i) (lowest-passes (λ p. holds (names? v p i)) Q p e .passes)) n)
+
+  pub parent-root : parentIn Q v 0 ≡ 0
+  parent-root = go (naming Q v 0) refl
+    where
+      go : (x : Option ℕ) → naming Q v 0 ≡ x → directoryAt v x ≡ 0
+      go none e = refl
+      go (some p) e =
+          let r = lowest-passes (λ p. holds (names? v p 0)) Q p e in
+          absurd (not-named Q v 0 p (F .never) (r .below) (holds-true (names? v p 0) (r .passes)))
+
+  walk-root : (n : ℕ) → iterate n (parentIn Q v) 0 ≡ 0
+  unfolding iterate
+  walk-root zero = refl
+  walk-root (suc n) = ap (parentIn Q v) (walk-root n) ∙ parent-root
+
+  pub path-walk : (n i : ℕ) (qs : List ℕ) → namings Q v i ≤ 1 → length qs ≤ n → Path v i qs → iterate n (parentIn Q v) i ≡ 0
+  path-walk n i [] k l a = ap (iterate n (parentIn Q v)) a ∙ walk-root n
+  path-walk zero i (q ∷ qs) k l a = absurd (omega arith)
+  path-walk (suc n) i (q ∷ qs) k l a =
+      iterate-inner n (parentIn Q v) i ∙ ap (iterate n (parentIn Q v)) (parent-of q i k (a .0))
+      ∙ path-walk n (v .dir q) qs (single P Q v F (v .dir q) (F .dirs q (a .0 .0))) (omega arith) (a .1)
+
+  -- a walk that ends at the root is a path
+  pub walk-path : (n i : ℕ) → Live v i → namings Q v i ≤ 1 → iterate n (parentIn Q v) i ≡ 0 → (qs : List ℕ) × Path v i qs
+  unfolding iterate
+  walk-path zero i l k e = ([], e)
+  walk-path (suc n) i l k e = by-cases (ℕ-discrete i 0)
+      (λ z. ([], z))
+      (λ z. let (q, h, x) = named-by Q v i (F .once i z l .0) in
+      let d = F .dirs q (x .0) in
+      let r = walk-path n (v .dir q) (omega arith) (single P Q v F (v .dir q) d)
+      (ap (iterate n (parentIn Q v)) (sym (parent-of q i k x)) ∙ sym (iterate-inner n (parentIn Q v) i) ∙ e) in
+      (q ∷ r .0, (x, r .1)))
+
+  -- what is met within no number of steps is not on the path
+  pub outside : (n c i : ℕ) (qs : List ℕ) → namings Q v i ≤ 1 → length qs < n → Path v i qs
+      → ((k : ℕ) → k < n → iterate k (parentIn Q v) i ≢ c) → Avoids v c i qs
+  unfolding iterate
+  outside n c i [] k l a x = x 0 l
+  outside zero c i (q ∷ qs) k l a x = absurd (omega arith)
+  outside (suc n) c i (q ∷ qs) k l a x = (
+    x 0 (omega arith),
+    outside n c (v .dir q) qs (single P Q v F (v .dir q) (F .dirs q (a .0 .0))) (omega arith) (a .1)
+        (λ j m e. x (suc j) (omega arith) (iterate-inner j (parentIn Q v) i ∙ ap (iterate j (parentIn Q v)) (parent-of q i k (a .0)) ∙ e)),
+  )
+
+  -- a file is on no path from a directory
+  pub outside-file : (c i : ℕ) (qs : List ℕ) → v .kind c ≢ 2 → v .kind i ≡ 2 → Path v i qs → Avoids v c i qs
+  outside-file c i [] n k a = λ e. n (ap (v .kind) (sym e) ∙ k)
+  outside-file c i (q ∷ qs) n k a =
+      ((λ e. n (ap (v .kind) (sym e) ∙ k)), outside-file c (v .dir q) qs n (F .dirs q (a .0 .0)) (a .1))
