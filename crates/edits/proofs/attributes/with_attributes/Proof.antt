@@ -20,7 +20,23 @@ time-set-requires-2 c κs = search needs
 
 returns : tie.Need-returns
 unfolding withAttributes
-returns c = cc
+returns c =
+    let t = c .before in
+    let n = t .before .before .before in
+    let st = n .before .before .before .before in
+    let v = st .args .v in
+    λ i. record {
+      kind = v .kind;
+      generation = v .generation;
+      mode = n .number-set .ensures i;
+      uid = t .before .before .number-set2 .ensures i;
+      gid = t .before .number-set3 .ensures i;
+      size = v .size;
+      atime = t .time-set .ensures i;
+      mtime = c .time-set2 .ensures i;
+      ctime = st .args .clock;
+      blocks = v .blocks;
+    }
 
 pub with-attributes-spec : {M : Type 1} → statement M
 with-attributes-spec =
