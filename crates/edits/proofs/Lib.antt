@@ -1,4 +1,3 @@
-pub mod Shaped
 pub mod ClearedBlocks
 pub mod ClearedTail
 pub mod RemovedObject

@@ -23,9 +23,7 @@ subdirectories-few s d = count-bound (names s) (λ n. isIn s d n && isDirectory 
 
 module _ (s : Store) (g : GoodRecords s) where
   pub good-shaped : Shaped s
-  good-shaped =
-      let h = g .sound .shaped in
-      record { some-object = h .some-object; few-objects = h .few-objects; few-names = h .few-names; few-blocks = h .few-blocks; long = h .exact }
+  good-shaped = g .sound .shaped
 
   pub used-record : (n : ℕ) → n < names s → isUsedName s n ≡ true → UsedName s n
   used-record n l u = used-of s n (used-true s n u) (g .good-names n l)

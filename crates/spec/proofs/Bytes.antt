@@ -238,14 +238,6 @@ pub get-put : (b : List ℕ) (at w v : ℕ) → at + w ≤ length b → v < 256 
 unfolding beAt
 get-put b at w v h k = ap beOf (part-same b at (bytesOf w v) (rw bytes-length h) w (bytes-length w v)) ∙ be-bytes w v k
 
-pub get-before : (b : List ℕ) (at : ℕ) (xs : List ℕ) (p w : ℕ) → at + length xs ≤ length b → p + w ≤ at → beAt (overlay b at xs) p w ≡ beAt b p w
-unfolding beAt
-get-before b at xs p w h k = ap beOf (part-before b at xs h p w k)
-
-pub get-after : (b : List ℕ) (at : ℕ) (xs : List ℕ) (p w : ℕ) → at + length xs ≤ length b → at + length xs ≤ p → beAt (overlay b at xs) p w ≡ beAt b p w
-unfolding beAt
-get-after b at xs p w h k = ap beOf (part-after b at xs h p w k)
-
 pub be-part : (b : List ℕ) (at n i w : ℕ) → i + w ≤ n → beAt (part b at n) i w ≡ beAt b (at + i) w
 unfolding beAt
 be-part b at n i w h = ap beOf (part-part b at n i w h)

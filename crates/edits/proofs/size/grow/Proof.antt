@@ -4,7 +4,6 @@ use native.Mathlib.Omega.{arith}
 use borrow.Author.Needs.{needs}
 use Rattle.spec.specs.Room.{need}
 use Rattle.edits.proofs.Resized.{Resizing, old-size, old-small, tail-kept, grown-range, grown}
-use Rattle.edits.proofs.Shaped.{image-shaped}
 use Rattle.edits.proofs.size.grow.Statement.{statement}
 use Rattle.edits.proofs.size.grow.Tie as tie
 
@@ -43,7 +42,7 @@ free-blocks-requires : tie.Need-free-blocks-requires
 free-blocks-requires c κs =
     let r = resizing (c .before) in
     let p = c .before .before .before .before .before .before .before .before .pre in
-    (image-shaped _ (r .good .sound .shaped), (p .1 .0, omega (arith, r .had, r .gets, p .1 .1 .1 .1 .1 .0)))
+    (r .good .sound .shaped, (p .1 .0, omega (arith, r .had, r .gets, p .1 .1 .1 .1 .1 .0)))
 
 clear-tail-requires : tie.Need-clear-tail-requires
 clear-tail-requires c κs =
