@@ -39,7 +39,6 @@ find-name-requires c κs =
 enum-known-found : tie.Need-enum-known-found
 enum-known-found c = search needs
 
--- /work/wt-files/target/rlib/kinds.rlib/interface/lang/src/numbers.rt:7:28
 enum-told : tie.Need-enum-told
 enum-told c = search needs
 
