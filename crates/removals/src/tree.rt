@@ -28,7 +28,7 @@ pub fn has_entries(store: &[u8], directory: ObjectNumber) -> bool
     false
 }
 
-// Whether `o` is a directory, and `directory` is `o` or lies below it: the way up from `directory` is at most as long as there are objects.
+// Whether `o` is a directory, and `directory` is `o` or lies below it. The way up from `directory` ends at the root, which is in itself.
 pub fn is_within(store: &[u8], o: ObjectNumber, directory: ObjectNumber) -> bool
     requires { ⌜ GoodRecords (now store) ⌝ }
     requires { ⌜ o .0 < objects (now store) ⌝ }
@@ -45,7 +45,11 @@ pub fn is_within(store: &[u8], o: ObjectNumber, directory: ObjectNumber) -> bool
             return true;
         }
         let up = parent_of(store, ObjectNumber(at));
-        at = up.0;
+        let parent = up.0;
+        if parent == at {
+            return false;
+        }
+        at = parent;
         steps += 1;
     }
     false

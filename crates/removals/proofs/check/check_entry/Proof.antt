@@ -38,7 +38,8 @@ unfolding checkEntry
 returns-3 c = rw (← c .before .before .before .before .before .before .before .before .reach-directory .ensures, c .before .before .before .before .before .before .reached .given .1, ← c .before .before .before .before .check-name .ensures, c .before .before .enum-told .given .1, ← c .before .is-dots .ensures, c .if1 .taken)
 
 find-name-requires : tie.Need-find-name-requires
-find-name-requires c κs = let pre = c .before .before .before .before .before .before .before .before .before .before .before .before .before .pre in (good-shaped _ (pre .0), (good-names-sound _ (pre .0), pre .1 .1))
+find-name-requires c κs =
+    let pre = c .before .before .before .before .before .before .before .before .before .before .before .before .before .pre in (good-shaped _ (pre .0), (good-names-sound _ (pre .0), pre .1 .1))
 
 enum-known-n : tie.Need-enum-known-n
 enum-known-n c = search needs

@@ -48,7 +48,8 @@ unfolding checkMove
 returns-4 c = rw (← c .before .before .before .before .before .before .before .before .before .check-name .ensures, c .before .before .before .before .before .before .before .enum-told .given .1, ← c .before .before .before .before .before .before .check-name2 .ensures, c .before .before .before .before .enum-told2 .given .1, ← c .before .before .before .is-dots .ensures, c .before .before .if1 .left, ← c .before .is-dots2 .ensures, c .if2 .taken)
 
 find-name-requires : tie.Need-find-name-requires
-find-name-requires c κs = let pre = c .before .before .before .before .before .before .before .before .before .before .before .before .pre in (good-shaped _ (pre .0), (good-names-sound _ (pre .0), pre .1 .0))
+find-name-requires c κs =
+    let pre = c .before .before .before .before .before .before .before .before .before .before .before .before .pre in (good-shaped _ (pre .0), (good-names-sound _ (pre .0), pre .1 .0))
 
 enum-known-n : tie.Need-enum-known-n
 enum-known-n c = search needs
@@ -62,7 +63,8 @@ unfolding checkMove
 returns-5 c = rw (← c .before .before .before .before .before .before .before .before .before .before .before .before .check-name .ensures, c .before .before .before .before .before .before .before .before .before .before .enum-told .given .1, ← c .before .before .before .before .before .before .before .before .before .check-name2 .ensures, c .before .before .before .before .before .before .before .enum-told2 .given .1, ← c .before .before .before .before .before .before .is-dots .ensures, c .before .before .before .before .before .if1 .left, ← c .before .before .before .before .is-dots2 .ensures, c .before .before .before .if2 .left, ← c .before .before .find-name .ensures, c .enum-told3 .given .1)
 
 find-name-requires-2 : tie.Need-find-name-requires-2
-find-name-requires-2 c κs = let pre = c .before .before .before .before .before .before .before .before .before .before .before .before .before .before .before .before .pre in (good-shaped _ (pre .0), (good-names-sound _ (pre .0), pre .1 .1))
+find-name-requires-2 c κs =
+    let pre = c .before .before .before .before .before .before .before .before .before .before .before .before .before .before .before .before .pre in (good-shaped _ (pre .0), (good-names-sound _ (pre .0), pre .1 .1))
 
 enum-known-other : tie.Need-enum-known-other
 enum-known-other c = search needs
@@ -75,11 +77,17 @@ enum-told-4 : tie.Need-enum-told-4
 enum-told-4 c = search needs
 
 name-child-requires : tie.Need-name-child-requires
-name-child-requires c κs = let st = c .before .before .before .before .before .before .before .before .before .before .before .before .before .before .before .before .before .before .before in let a = st .args in let k = name-found (a .store .now) (st .pre .0) (a .d .0) (cut (a .call .now) (a .from)) _ _ (c .before .before .before .before .n .given .1) (c .before .before .before .before .before .before .find-name .ensures) in
+name-child-requires c κs =
+    let st = c .before .before .before .before .before .before .before .before .before .before .before .before .before .before .before .before .before .before .before in
+    let a = st .args in
+    let k = name-found (a .store .now) (st .pre .0) (a .d .0) (cut (a .call .now) (a .from)) _ _ (c .before .before .before .before .n .given .1) (c .before .before .before .before .before .before .find-name .ensures) in
     omega arith
 
 is-within-requires : tie.Need-is-within-requires
-is-within-requires c κs = let st = c .before .before .before .before .before .before .before .before .before .before .before .before .before .before .before .before .before .before .before .before in let a = st .args in let k = name-found (a .store .now) (st .pre .0) (a .d .0) (cut (a .call .now) (a .from)) _ _ (c .before .before .before .before .before .n .given .1) (c .before .before .before .before .before .before .before .find-name .ensures) in
+is-within-requires c κs =
+    let st = c .before .before .before .before .before .before .before .before .before .before .before .before .before .before .before .before .before .before .before .before in
+    let a = st .args in
+    let k = name-found (a .store .now) (st .pre .0) (a .d .0) (cut (a .call .now) (a .from)) _ _ (c .before .before .before .before .before .n .given .1) (c .before .before .before .before .before .before .before .find-name .ensures) in
     (st .pre .0, omega (arith, c .name-child .ensures))
 
 returns-7 : tie.Need-returns-7

@@ -29,7 +29,9 @@ is-in-requires c κs = search needs
 
 returns : tie.Need-returns Inv-loop μ-loop
 unfolding hasEntries
-returns c = let a = c .before .before .before .before .before .before .args in let l = c .before .before .before .loop in
+returns c =
+    let a = c .before .before .before .before .before .before .args in
+    let l = c .before .before .before .loop in
     sym (some-hit (isIn (a .store .now) (a .directory .0)) (l .i) (names (a .store .now)) (sym (c .before .is-in .ensures) ∙ c .if1 .taken) (omega arith))
 
 add-i : tie.Need-add-i Inv-loop μ-loop
@@ -43,7 +45,8 @@ loop-again c = (omega arith, some-more _ (c .before .before .before .loop .i) (c
 
 returns-2 : tie.Need-returns-2 Inv-loop μ-loop
 unfolding hasEntries
-returns-2 c = let e : c .before .loop .i ≡ names (c .before .before .before .before .args .store .now) = omega arith in
+returns-2 c =
+    let e : c .before .loop .i ≡ names (c .before .before .before .before .args .store .now) = omega arith in
     sym (rw e at (c .before .loop .inv .1))
 
 pub has-entries-spec : {M : Type 1} → statement M
