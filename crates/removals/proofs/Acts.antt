@@ -10,12 +10,11 @@ use Rattle.kinds.specs.declared.object.Before.{Before}
 use Rattle.kinds.specs.declared.object.Change.{Change}
 use Rattle.kinds.specs.declared.object.Context.{Context}
 use Rattle.kinds.specs.declared.call.NameIn.{NameIn}
-use Rattle.kinds.specs.declared.call.Part.{Part}
 use Rattle.kinds.specs.declared.call.Arguments.the-variants as Arguments
-use Rattle.spec.specs.Checked.{Checked, passed}
+use Rattle.spec.specs.Checked.{passed}
 use Rattle.spec.specs.Edits.{removeObject}
 use Rattle.spec.specs.Handles.{before, change}
-use Rattle.spec.specs.Image.{Store, objects, names}
+use Rattle.spec.specs.Image.{Store, objects}
 use Rattle.spec.specs.Procedures.{cut, act}
 use Rattle.spec.specs.Procedures.Names.{touchDirectory}
 use Rattle.spec.specs.Procedures.Removal.{checkRemove, checkRmdir, checkRename, removeFrom, remove, rmdir, renameEdit, rename}

@@ -1,6 +1,6 @@
 // What REMOVE, RMDIR and RENAME do: their checks, their edits of the store, and their result.
 ghost use mathlib.Core.Path.{_≡_};
-ghost use Prim.Native.Nat.{_+_, _≤_, _<_};
+ghost use Prim.Native.Nat.{_+_, _≤_};
 ghost use lib.ListN.{length};
 ghost use Rattle.spec.specs.Edits.{setAttributes, mtimeAndCtime, removeObject};
 ghost use Rattle.spec.specs.Image.{objectStart};
