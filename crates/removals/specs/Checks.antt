@@ -1,0 +1,31 @@
+-- Parts of the checks of REMOVE, RMDIR and RENAME.
+use Prim.Native.Nat.{ℕ}
+use mathlib.Core.Bool.{_||_}
+use mathlib.Core.List.{List}
+use Rattle.kinds.specs.Numbers.{NOENT, EXIST, INVAL}
+use Rattle.spec.specs.Checked.{Checked, _>>=_, _>>_, refuseIf, present, absent, passed}
+use Rattle.spec.specs.Handles.{reachDirectory, checkName}
+use Rattle.spec.specs.Image.{Store, nameAt}
+use Rattle.spec.specs.Names.{isDots}
+use Rattle.spec.specs.Procedures.Removal.{isWithin}
+use Rattle.spec.specs.Room.{findName}
+
+-- what REMOVE and RMDIR check first, with the status of "." and "..": the directory and the name record
+unfoldable pub checkEntry : Store → List ℕ → List ℕ → ℕ → Checked (ℕ × ℕ)
+checkEntry s h text dots = do
+  d ← reachDirectory s h
+  checkName text
+  refuseIf (isDots text) dots
+  n ← present NOENT (findName s d text)
+  passed (d, n)
+
+-- what RENAME checks in directories d and e: both directories and the name record
+unfoldable pub checkMove : Store → ℕ → ℕ → List ℕ → List ℕ → Checked (ℕ × ℕ × ℕ)
+checkMove s d e text title = do
+  checkName text
+  checkName title
+  refuseIf (isDots text || isDots title) INVAL
+  n ← present NOENT (findName s d text)
+  absent EXIST (findName s e title)
+  refuseIf (isWithin s (nameAt s n .child) e) INVAL
+  passed (d, e, n)

@@ -1,0 +1,182 @@
+// What REMOVE, RMDIR and RENAME do: their checks, their edits of the store, and their result.
+ghost use mathlib.Core.Path.{_≡_};
+ghost use Prim.Native.Nat.{_+_, _≤_};
+ghost use lib.ListN.{length};
+ghost use Rattle.spec.specs.Edits.{setAttributes, mtimeAndCtime, removeObject};
+ghost use Rattle.spec.specs.Image.{objectStart};
+ghost use Rattle.spec.specs.Procedures.{cut};
+ghost use Rattle.spec.specs.Procedures.Attributes.{edited};
+ghost use Rattle.spec.specs.Procedures.Names.{touchDirectory};
+ghost use Rattle.spec.specs.Procedures.Removal.{remove, rmdir, renameEdit, failRenaming, renamedTo, rename};
+ghost use Rattle.spec.proofs.GoodRecords.{GoodRecords, StillGood, GoodClock};
+ghost use Rattle.spec.proofs.Valid.{Valid};
+ghost use Rattle.results.specs.Meaning.{resultOf, Does};
+ghost use Rattle.removals.specs.Acts.{RemovableAt, MovableAt};
+use crate::check::Removable;
+use crate::check::Renamable;
+use crate::check::check_remove;
+use crate::check::check_rename;
+use crate::check::check_rmdir;
+use edits::attributes::mtime_and_ctime;
+use edits::attributes::only_ctime;
+use edits::attributes::set_attributes;
+use edits::naming::move_name;
+use edits::naming::remove_object;
+use files::failure::fail_changing;
+use files::failure::handle_change;
+use files::shown::before;
+use files::shown::change_from;
+use image::name::name_child;
+use kinds::call::NameIn;
+use kinds::call::Part;
+use kinds::numbers::NameNumber;
+use kinds::numbers::ObjectNumber;
+use kinds::numbers::Status;
+use kinds::object::Context;
+use kinds::object::Time;
+use results::HandleChange;
+use results::Reply;
+
+// Sets a directory's mtime and ctime.
+fn touch_directory(store: &mut [u8], clock: Time, d: ObjectNumber)
+    requires { ⌜ objectStart (d .0) + 80 ≤ length (now store) ⌝ }
+    ensures { λ _. ⌜ now (store .exit) ≡ setAttributes (now (store .entry)) clock (d .0) mtimeAndCtime ⌝ }
+{
+    set_attributes(store, clock, d, mtime_and_ctime());
+}
+
+// An object and its name are removed, and the directory's times are set.
+fn remove_entry(store: &mut [u8], context: Context, d: ObjectNumber, n: NameNumber) -> Reply
+    requires { ⌜ GoodRecords (now store) ⌝ }
+    requires { ⌜ RemovableAt (now store) (d .0) (n .0) ⌝ }
+    requires { ⌜ StillGood (now store) (touchDirectory (removeObject (now store) (n .0)) context (d .0)) ⌝ }
+    ensures { λ r. ⌜ Does (edited (now (store .entry)) (d .0) (touchDirectory (removeObject (now (store .entry)) (n .0)) context (d .0))) r (now (store .exit)) ⌝ }
+{
+    let clock = context.clock;
+    let earlier = before(store, d);
+    remove_object(store, n);
+    touch_directory(store, clock, d);
+    let change = change_from(earlier, store, d);
+    Reply::Changed(Status::OK, change)
+}
+
+pub fn remove(store: &mut [u8], context: Context, call: &[u8], p: NameIn) -> Reply
+    requires { ⌜ Valid (now store) ⌝ }
+    requires { ⌜ GoodRecords (now store) ⌝ }
+    requires { ⌜ GoodClock (context .clock) ⌝ }
+    requires { ⌜ p .directory .start + p .directory .length ≤ length (now call) ⌝ }
+    requires { ⌜ p .name .start + p .name .length ≤ length (now call) ⌝ }
+    ensures { λ r. ⌜ Does (remove (now (store .entry)) context (cut (now (call .entry)) (p .directory)) (cut (now (call .entry)) (p .name))) r (now (store .exit)) ⌝ }
+{
+    let directory = p.directory;
+    let checked = check_remove(store, call, p);
+    match checked {
+        Removable::At(d, n) => remove_entry(store, context, d, n),
+        Removable::Refused(status) => fail_changing(store, call, directory, status),
+    }
+}
+
+pub fn rmdir(store: &mut [u8], context: Context, call: &[u8], p: NameIn) -> Reply
+    requires { ⌜ Valid (now store) ⌝ }
+    requires { ⌜ GoodRecords (now store) ⌝ }
+    requires { ⌜ GoodClock (context .clock) ⌝ }
+    requires { ⌜ p .directory .start + p .directory .length ≤ length (now call) ⌝ }
+    requires { ⌜ p .name .start + p .name .length ≤ length (now call) ⌝ }
+    ensures { λ r. ⌜ Does (rmdir (now (store .entry)) context (cut (now (call .entry)) (p .directory)) (cut (now (call .entry)) (p .name))) r (now (store .exit)) ⌝ }
+{
+    let directory = p.directory;
+    let checked = check_rmdir(store, call, p);
+    match checked {
+        Removable::At(d, n) => remove_entry(store, context, d, n),
+        Removable::Refused(status) => fail_changing(store, call, directory, status),
+    }
+}
+
+// A failure of RENAME shows each of the two directories whose handle is live.
+fn fail_renaming(store: &[u8], call: &[u8], source: Part, target: Part, status: Status) -> Reply
+    requires { ⌜ GoodRecords (now store) ⌝ }
+    requires { ⌜ source .start + source .length ≤ length (now call) ⌝ }
+    requires { ⌜ target .start + target .length ≤ length (now call) ⌝ }
+    ensures { λ r. ⌜ resultOf (now (store .entry)) r ≡ failRenaming (now (store .entry)) (cut (now (call .entry)) source) (cut (now (call .entry)) target) (status .0) ⌝ }
+{
+    let from = handle_change(store, call, source);
+    let to = handle_change(store, call, target);
+    if let HandleChange::Present(shown) = from {
+        return Reply::Renamed(status, from, to);
+    }
+    if let HandleChange::Present(shown) = to {
+        return Reply::Renamed(status, from, to);
+    }
+    Reply::Dead(status)
+}
+
+// The name record is rewritten in place; the object's ctime and both directories' times are set.
+fn rename_edit(
+    store: &mut [u8],
+    context: Context,
+    source: ObjectNumber,
+    target: ObjectNumber,
+    n: NameNumber,
+    call: &[u8],
+    name: Part,
+)
+    requires { ⌜ GoodRecords (now store) ⌝ }
+    requires { ⌜ MovableAt (now store) (source .0) (target .0) (n .0) (name .length) ⌝ }
+    requires { ⌜ name .start + name .length ≤ length (now call) ⌝ }
+    ensures { λ _. ⌜ now (store .exit) ≡ renameEdit (now (store .entry)) context (source .0) (target .0) (n .0) (cut (now (call .entry)) name) ⌝ }
+{
+    let clock = context.clock;
+    let child = name_child(store, n);
+    move_name(store, n, target, call, name);
+    set_attributes(store, clock, child, only_ctime());
+    touch_directory(store, clock, source);
+    touch_directory(store, clock, target);
+}
+
+// The edit, and both directories' changes.
+fn rename_entry(
+    store: &mut [u8],
+    context: Context,
+    d: ObjectNumber,
+    e: ObjectNumber,
+    n: NameNumber,
+    call: &[u8],
+    name: Part,
+) -> Reply
+    requires { ⌜ GoodRecords (now store) ⌝ }
+    requires { ⌜ MovableAt (now store) (d .0) (e .0) (n .0) (name .length) ⌝ }
+    requires { ⌜ name .start + name .length ≤ length (now call) ⌝ }
+    requires { ⌜ StillGood (now store) (renameEdit (now store) context (d .0) (e .0) (n .0) (cut (now call) name)) ⌝ }
+    ensures { λ r. ⌜ Does (renamedTo (now (store .entry)) (d .0) (e .0) (renameEdit (now (store .entry)) context (d .0) (e .0) (n .0) (cut (now (call .entry)) name))) r (now (store .exit)) ⌝ }
+{
+    let from = before(store, d);
+    let to = before(store, e);
+    rename_edit(store, context, d, e, n, call, name);
+    let source = change_from(from, store, d);
+    let target = change_from(to, store, e);
+    Reply::Renamed(
+        Status::OK,
+        HandleChange::Present(source),
+        HandleChange::Present(target),
+    )
+}
+
+pub fn rename(store: &mut [u8], context: Context, call: &[u8], p: NameIn, q: NameIn) -> Reply
+    requires { ⌜ Valid (now store) ⌝ }
+    requires { ⌜ GoodRecords (now store) ⌝ }
+    requires { ⌜ GoodClock (context .clock) ⌝ }
+    requires { ⌜ p .directory .start + p .directory .length ≤ length (now call) ⌝ }
+    requires { ⌜ p .name .start + p .name .length ≤ length (now call) ⌝ }
+    requires { ⌜ q .directory .start + q .directory .length ≤ length (now call) ⌝ }
+    requires { ⌜ q .name .start + q .name .length ≤ length (now call) ⌝ }
+    ensures { λ r. ⌜ Does (rename (now (store .entry)) context (cut (now (call .entry)) (p .directory)) (cut (now (call .entry)) (p .name)) (cut (now (call .entry)) (q .directory)) (cut (now (call .entry)) (q .name))) r (now (store .exit)) ⌝ }
+{
+    let source = p.directory;
+    let target = q.directory;
+    let name = q.name;
+    let checked = check_rename(store, call, p, q);
+    match checked {
+        Renamable::At(d, e, n) => rename_entry(store, context, d, e, n, call, name),
+        Renamable::Refused(status) => fail_renaming(store, call, source, target, status),
+    }
+}
