@@ -1,3 +1,4 @@
 pub mod Shapes
 pub mod Steps
 pub mod Verdict
+pub mod Laid

@@ -1,3 +1,4 @@
 pub mod Found
 pub mod Tree
 pub mod Checked
+pub mod Format

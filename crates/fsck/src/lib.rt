@@ -2,3 +2,4 @@
 pub mod shape; // the counts and the length
 pub mod tree; // that parents lead to the root
 pub mod check; // the whole check
+pub mod format; // format

@@ -10,11 +10,11 @@ use lib.ListN.{length}
 use borrow.Author.Tests.{eq-eqb, ne-eqb}
 use Rattle.spec.specs.Bytes.{sameBytes}
 use Rattle.spec.specs.Count.{bit, times}
-use Rattle.spec.proofs.Bytes.{same-yes, same-no}
+use Rattle.spec.proofs.Bytes.{same-yes}
 use Rattle.spec.proofs.Count.{and-both, true-false, by-bool}
 use Rattle.history.specs.Book.{Standing, asRoot, under, Line, Book, handleBytes, stands, isAt, someAt, strikeLines, moveLine, moveLines}
-use Rattle.history.proofs.Sum.{ind, ind-same, ind-yes, ind-no, ind-true}
-use Rattle.history.proofs.Lists.{text?, All, without, without-same, without-other, all-times, times-without, times-without-other}
+use Rattle.history.proofs.Sum.{or-right, ind, ind-same, ind-yes, ind-no, ind-true}
+use Rattle.history.proofs.Lists.{same-true, All, without, without-same, without-other, all-times, times-without, times-without-other}
 use Rattle.history.proofs.View.{View, Live, Used, At, entries, SameName, no-entry}
 use Rattle.history.proofs.Tree.{Tree, one-name, one-entry}
 use Rattle.history.proofs.Change.{Created, Removed, Moved}
@@ -40,9 +40,6 @@ pub record Agrees (σ : ℕ) (v : View) (b : Book) : Type 0 where
   pub lines : b ≡ map (lineOf σ v) order ++ (rootLine σ v ∷ [])
 
 -- ---- the tests of the book
-same-true : (xs ys : List ℕ) → sameBytes xs ys ≡ true → xs ≡ ys
-same-true xs ys e = by-cases (text? xs ys) (λ p. p) (λ n. true-false (sym e ∙ same-no xs ys n))
-
 pub at-yes : (d t : List ℕ) (l : Line) → l .standing ≡ under d t → isAt d t l ≡ true
 at-yes d t l e = ap (stands d t) e ∙ ap₂ (λ (x y : Bool). x && y) (same-yes d d refl) (same-yes t t refl)
 
@@ -260,14 +257,10 @@ module _ (P Q σ : ℕ) (v : View) (T : Tree P Q v) (b : Book) (A : Agrees σ v 
   unfolding someAt times
   some-at q a = ap (someAt (handleIn σ v d) t) (A .lines) ∙ go (A .order) (omega (arith, A .each q, ind-yes (used? v q) (a .0)))
     where
-      or-right : (x : Bool) → x || true ≡ true
-      or-right true = refl
-      or-right false = refl
-
       go : (ks : List ℕ) → 0 < times q ks → someAt (handleIn σ v d) t (map (lineOf σ v) ks ++ (rootLine σ v ∷ [])) ≡ true
       go [] h = absurd (omega arith)
       go (p ∷ ks) h = by-cases (ℕ-discrete p q)
           (λ e. ap (λ (x : Bool). x || someAt (handleIn σ v d) t (map (lineOf σ v) ks ++ (rootLine σ v ∷ [])))
           (at-yes (handleIn σ v d) t (lineOf σ v p) (let x = a .1 in let y = a .2 in cc)))
           (λ n. ap (λ (x : Bool). isAt (handleIn σ v d) t (lineOf σ v p) || x) (go ks (omega (arith, ap bit (ne-eqb p q n))))
-          ∙ or-right (isAt (handleIn σ v d) t (lineOf σ v p)))
+          ∙ or-right (isAt (handleIn σ v d) t (lineOf σ v p)) true refl)

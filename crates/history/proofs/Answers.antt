@@ -1,5 +1,5 @@
 -- What GETATTR and FSSTAT answer, by the book. Assumes nothing.
-use mathlib.Core.Path.{_≡_, refl, sym, ap, _∙_}
+use mathlib.Core.Path.{_≡_, sym, ap, _∙_}
 use mathlib.Core.Bool.{Bool, true, false, cond}
 use mathlib.Core.Option.{some}
 use mathlib.Core.List.{List, [], _∷_, _++_, append-nil}
@@ -25,20 +25,21 @@ use Rattle.spec.proofs.Count.{by-bool, count-bound}
 use Rattle.spec.proofs.Error.{statusOf}
 use Rattle.spec.proofs.Range.{be-below}
 use Rattle.spec.proofs.RecordRange.{objectAt-fits}
-use Rattle.spec.proofs.Valid.{true-live}
-use Rattle.history.specs.Book.{Ledger, handleBytes, statusIn, isOk}
+use Rattle.history.specs.Book.{Ledger, handleBytes, isStatus, isOk}
 use Rattle.history.specs.Run.{Request, replyTo}
 use Rattle.history.specs.Statement as Shown
-use Rattle.history.specs.Statement.{HasLine, Asks, objectIn, shownKind, shownFree, shownAvailable}
+use Rattle.history.specs.Statement.{HasLine, Asks, objectIn, shownKind, shownFree, shownFreeAgain, shownAvailable, shownAvailableAgain}
 use Rattle.history.proofs.View.{Live}
 use Rattle.history.proofs.Handles.{handle-length, handle-stamp, handle-object, handle-generation}
-use Rattle.history.proofs.Replies.{Begins, begins, word-of, long-of, ok-is, status-is}
+use Rattle.history.proofs.Replies.{Begins, begins, word-of, long-of, ok-is, answered-is}
 use Rattle.history.proofs.Seen.{view, kind-at, gen-at, live-in}
-use Rattle.history.proofs.Bridge.{size-small}
-use Rattle.history.proofs.Inv.{Inv, tree}
+use Rattle.history.proofs.Inv.{Inv, tree, good, live-seen}
+use Rattle.history.proofs.Making.{handle-seen}
+use Rattle.spec.proofs.Handles.{reach-own}
+use Rattle.spec.proofs.FreeRoom.{good-size-small}
 use Rattle.history.proofs.Lines.{lined-current}
 use Rattle.history.proofs.Later.{small-live}
-use Rattle.history.proofs.Noted.{dead-fails}
+use Rattle.history.proofs.Noted.{dead-says}
 use Rattle.history.proofs.Next.{answer-to}
 
 module _ (σ p q r : ℕ) (s : Store) (L : Ledger) (I : Inv σ p q r s L) where
@@ -66,15 +67,6 @@ module _ (σ p q r : ℕ) (s : Store) (L : Ledger) (I : Inv σ p q r s L) where
     unfolding handle
     marked = eq-eqb (beAt handle 0 4) (stamp s) (handle-stamp σ o g mark-small ∙ sym (I .mark))
 
-    pub reach-live : Live (view s) o → g ≡ view s .gen o → reach s (handleBytes σ o g) ≡ passed o
-    unfolding reach handle
-    reach-live v e =
-        let k = live-in s o v in
-        let a : isLive s (beAt handle 4 4) ≡ true = ap (isLive s) object ∙ true-live s o (omega (arith, kind-at s o k)) in
-        let b : eqb (beAt handle 8 4) (objectAt s (beAt handle 4 4) .generation) ≡ true =
-        eq-eqb (beAt handle 8 4) (objectAt s (beAt handle 4 4) .generation) (handle-generation σ o g m ∙ e ∙ gen-at s o k ∙ ap (λ (i : ℕ). objectAt s i .generation) (sym object)) in
-        rw (long, within, marked, a, b) (ap passed object)
-
     pub reach-stale : g < view s .gen o → reach s (handleBytes σ o g) ≡ refused 70
     unfolding reach handle
     reach-stale n =
@@ -92,7 +84,8 @@ module _ (σ p q r : ℕ) (s : Store) (L : Ledger) (I : Inv σ p q r s L) where
   reach-lined g kind x =
       let (o, v, e, f) = lined-current σ p q r s L I g kind x in
       let n = small-live σ p q r s L I o v in
-      (o, ap (reach s) e ∙ reach-live o (view s .gen o) (n .2) (n .1) v refl, v, f, ap objectIn e ∙ handle-object σ o (view s .gen o) (n .0))
+      let k = live-in s o v in
+      (o, ap (reach s) (e ∙ sym (handle-seen σ p q r s L I o k)) ∙ reach-own s o (good σ p q r s L I .sound) k (live-seen σ p q r s L I o v), v, f, ap objectIn e ∙ handle-object σ o (view s .gen o) (n .0))
 
   -- ---- GETATTR
   got-attributes : (x : Request) (h : Part) → Asks x (Call.Getattr h) → (o : ℕ) → reach s (cut (x .call) h) ≡ passed o
@@ -129,19 +122,19 @@ module _ (σ p q r : ℕ) (s : Store) (L : Ledger) (I : Inv σ p q r s L) where
       let ws : List ℕ = 0 ∷ fattr3 (attributes s o) in
       let n = live-in s o v in
       let z : shownSize s o ≡ sizeOf s o = ap (λ (t : Bool). cond t 512 (sizeOf s o)) (ne-eqb (objectAt s o .kind) 2 (λ d. omega (arith, kind-at s o n))) in
-      let small : shownSize s o < 4294967296 = omega (arith, size-small s (I .valid) o n) in
+      let small : shownSize s o < 4294967296 = omega (arith, good-size-small s o (I .valid .good-objects o n)) in
       long-of (replyTo s x) xid ws [] b 6 (omega arith) (lit< tt) small ∙ omega (arith, z, ap (sizeOf s) i)
 
   -- ---- a removed handle
   pub getattr-stale : (x : Request) (h : Part) → Asks x (Call.Getattr h) → (o g : ℕ) → o < p → g < 4294967296 → g < view s .gen o
-      → cut (x .call) h ≡ handleBytes σ o g → statusIn (replyTo s x) ≡ 70
+      → cut (x .call) h ≡ handleBytes σ o g → isStatus 70 (replyTo s x) ≡ true
   unfolding act getattr statusOf
   getattr-stale x h k o g l m n e =
       let A = answer-to σ p q r s L I x (Call.Getattr h) k in
       let w : settle s dead (reach s (cut (x .call) h)) (λ o. unchanged s (gotAttributes (attributes s o))) .result ≡ dead 70 =
       ap (λ (c : Checked ℕ). settle s dead c (λ o. unchanged s (gotAttributes (attributes s o))) .result) (ap (reach s) e ∙ reach-stale o g l m n) in
-      ap statusIn (A .is ∙ ap (λ (v : Result). accepted (A .xid) 0 (resultBytes (A .procedure) v)) w)
-      ∙ status-is (A .xid) (A .procedure) (dead 70) (dead-fails 70 .some) (lit< tt)
+      ap (isStatus 70) (A .is ∙ ap (λ (v : Result). accepted (A .xid) 0 (resultBytes (A .procedure) v)) w)
+      ∙ answered-is (A .xid) (A .procedure) (dead 70) (dead-says 70 .some) (lit< tt) 70
 
   -- ---- FSSTAT
   roomWords : ℕ → List ℕ
@@ -167,7 +160,8 @@ module _ (σ p q r : ℕ) (s : Store) (L : Ledger) (I : Inv σ p q r s L) where
   two-words n l = omega arith
 
   pub fsstat-room : (x : Request) (h : Part) (kind : ℕ) → Asks x (Call.Fsstat h) → HasLine (L .book) (cut (x .call) h) kind
-      → (isOk (replyTo s x) ≡ true) × (shownFree (replyTo s x) ≡ 512 * freeBlockCount s) × (shownAvailable (replyTo s x) ≡ availableCount s)
+      → (isOk (replyTo s x) ≡ true) × (shownFree (replyTo s x) ≡ 512 * freeBlockCount s) × (shownFreeAgain (replyTo s x) ≡ 512 * freeBlockCount s)
+      × (shownAvailable (replyTo s x) ≡ availableCount s) × (shownAvailableAgain (replyTo s x) ≡ availableCount s)
   unfolding roomWords postOp fattr3 freeBlockCount availableCount
   fsstat-room x h kind k l =
       let (o, e, v, f, i) = reach-lined (cut (x .call) h) kind l in
@@ -179,5 +173,7 @@ module _ (σ p q r : ℕ) (s : Store) (L : Ledger) (I : Inv σ p q r s L) where
       let x2 : availableCount s < 4294967296 = omega arith in (
         ok-is (replyTo s x) xid (roomWords o) [] b (omega arith) (lit< tt),
         long-of (replyTo s x) xid (roomWords o) [] b 25 (omega arith) (omega arith) (omega arith) ∙ two-words (512 * freeBlockCount s) x1,
+        long-of (replyTo s x) xid (roomWords o) [] b 27 (omega arith) (omega arith) (omega arith) ∙ two-words (512 * freeBlockCount s) x1,
         long-of (replyTo s x) xid (roomWords o) [] b 31 (omega arith) (omega arith) (omega arith) ∙ two-words (availableCount s) x2,
+        long-of (replyTo s x) xid (roomWords o) [] b 33 (omega arith) (omega arith) (omega arith) ∙ two-words (availableCount s) x2,
       )

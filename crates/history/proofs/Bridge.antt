@@ -2,7 +2,7 @@
 use mathlib.Core.Path.{_≡_, sym, ap, _∙_}
 use mathlib.Core.Logic.{_⊎_, by-cases}
 use mathlib.Core.List.{List}
-use Prim.Native.Nat.{ℕ, _+_, _≤_, _<_}
+use Prim.Native.Nat.{ℕ, _+_, _<_}
 use native.Mathlib.Decide.{ℕ-discrete, decLt}
 use native.Mathlib.Omega.{arith}
 use lib.ListN.{length, take, getD, length-take}
@@ -12,7 +12,8 @@ use Rattle.spec.specs.Image.{Store, objects, names, blocks, objectAt, objectFro
 use Rattle.spec.specs.Room.{held, sizeOf, need}
 use Rattle.spec.proofs.Count.{sum-zero, sum-at}
 use Rattle.spec.proofs.Records.{halves-count}
-use Rattle.spec.proofs.Valid.{Shaped, GoodObject, GoodObjects, UsedName, GoodNameRecord, GoodNames, BlocksUsedOnce, Valid, live-size}
+use Rattle.spec.proofs.Valid.{Shaped, GoodObject, GoodObjects, UsedName, GoodNameRecord, GoodNames, BlocksUsedOnce, Valid}
+use Rattle.spec.proofs.FreeRoom.{good-size-small}
 use Rattle.history.proofs.Sum.{ind, ind-yes}
 use Rattle.history.proofs.Lists.{All, all-times, times-all, times-place}
 use Rattle.history.proofs.View.{Live, Used, At, at?, entries, entry-by}
@@ -83,18 +84,10 @@ module _ (s : Store) (K : Valid s) where
   unfolding objectAt objectFrom
   blocks-long o = halves-count s (objectStart o + 48) 16
 
-  pub size-small : (o : ℕ) → o < objects s → sizeOf s o ≤ 8192
-  unfolding sizeOf
-  size-small o l = go (K .good-objects o l)
-    where
-      go : GoodObject (blocks s) (objectAt s o) → objectAt s o .size ≤ 8192
-      go (_⊎_.inl f) = omega (arith, ap (λ v. v .size) f)
-      go (_⊎_.inr x) = live-size (blocks s) (objectAt s o) x
-
   -- an object has as many blocks as its size needs
   pub held-long : (o : ℕ) → o < objects s → length (held s o) ≡ need (sizeOf s o)
   unfolding held
-  held-long o l = omega (arith, length-take (need (sizeOf s o)) (objectAt s o .blocks), blocks-long o, size-small o l)
+  held-long o l = omega (arith, length-take (need (sizeOf s o)) (objectAt s o .blocks), blocks-long o, good-size-small s o (K .good-objects o l))
 
   held-below : (o : ℕ) → o < objects s → (k : ℕ) → k < length (held s o) → getD (held s o) k 0 < blocks s
   unfolding held sizeOf

@@ -36,7 +36,7 @@ use Rattle.history.proofs.Checks.{found-name, Sure, sure-bind, sure-pas
 use Rattle.history.proofs.Replies.{found-is}
 use Rattle.history.proofs.Asked.{acted, Idle, served}
 use Rattle.history.proofs.Ranges.{asked-fits}
-use Rattle.history.proofs.Noted.{Answer, showing-fails, not-ok}
+use Rattle.history.proofs.Noted.{Answer, showing-says, not-ok}
 use Rattle.history.proofs.Making.{handle-seen}
 use Rattle.history.proofs.Create.{create-made, mkdir-made}
 use Rattle.history.proofs.Next.{answer-to, clocked}
@@ -123,7 +123,7 @@ module _ (σ p q r : ℕ) (s : Store) (L : Ledger) (I : Inv σ p q r s L) where
           → Current σ (view s) (foundHandle reply)
       go (refused n) e A =
           let b = sure-lookup h text n e in
-          true-false (sym t ∙ not-ok call reply (Call.Lookup place) _ A n (showing-fails s h n) (b .0) (b .1))
+          true-false (sym t ∙ not-ok call reply (Call.Lookup place) _ A n (showing-says s h n) (b .0) (b .1))
       go (passed x) e A =
           let o = x .1 in
           let l = look-facts h text x e in (

@@ -1,7 +1,7 @@
 -- What the invariant says of the counts: lines, places, free names and available objects. Assumes nothing.
 use mathlib.Core.Path.{_≡_, refl, sym, ap, ap₂, _∙_}
 use mathlib.Core.Logic.{_↔_, _⊎_, inl, inr, by-cases, ⊎-elim}
-use mathlib.Core.Bool.{Bool, true, false, _&&_, _||_, not}
+use mathlib.Core.Bool.{Bool, true, false, _&&_, not}
 use mathlib.Core.List.{List, [], _∷_, map, List·Memᴰ, List·Memᴰ·head, List·Memᴰ·tail, List·Memᴰ·cases-cons, List·Memᴰ·not-nil}
 use Prim.Native.Nat.{ℕ, _+_, _*_, _-_, _≤_, _<_}
 use native.Mathlib.Decide.{ℕ-discrete, decLt}
@@ -16,15 +16,15 @@ use Rattle.spec.specs.Bytes.{sameBytes}
 use Rattle.spec.specs.Count.{bit, sum, count, times}
 use Rattle.spec.specs.Image.{Store, objects, names, blocks, objectAt}
 use Rattle.spec.specs.Room.{isLive, isAvailable, isUsedName, sizeOf, need, held, freeBlockCount, availableCount, freeNameCount}
-use Rattle.spec.proofs.Bytes.{same-yes, same-no}
+use Rattle.spec.proofs.Bytes.{same-yes}
 use Rattle.spec.proofs.Count.{sum-ext, sum-add, by-bool, true-false, and-both}
 use Rattle.spec.proofs.FreeRoom.{free-room}
 use Rattle.spec.proofs.Tests.{and-true, or-one}
 use Rattle.spec.proofs.Valid.{GoodObject, live-true, true-live, false-live}
 use Rattle.history.specs.Book.{Line, Book, Ledger, handleBytes}
 use Rattle.history.specs.Statement.{In, HasLine, liveObjects, objectIn, placesIn, hasName, namedLines, isAmong, isLined, lastHandle, spentRecords}
-use Rattle.history.proofs.Sum.{ind, ind-yes, ind-no, holds-same, sum-const}
-use Rattle.history.proofs.Lists.{text?, All, all-times}
+use Rattle.history.proofs.Sum.{or-left, or-right, ind, ind-yes, ind-no, holds-same, sum-const}
+use Rattle.history.proofs.Lists.{same-true, All, all-times}
 use Rattle.history.proofs.View.{Live, Used}
 use Rattle.history.proofs.Tree.{Tree, live?, living}
 use Rattle.history.proofs.Handles.{same-object, same-generation, handle-object}
@@ -46,18 +46,8 @@ unfolding total
 total-one [] = refl
 total-one (x ∷ xs) = omega (arith, total-one xs)
 
-same-true : (xs ys : List ℕ) → sameBytes xs ys ≡ true → xs ≡ ys
-same-true xs ys e = by-cases (text? xs ys) (λ p. p) (λ n. true-false (sym e ∙ same-no xs ys n))
-
 is-false : (t : Bool) → (t ≡ true → ⊥) → t ≡ false
 is-false t f = by-bool t (λ e. absurd (f e)) (λ e. e)
-
-or-left : (t u : Bool) → t ≡ true → t || u ≡ true
-or-left t u e = ap (λ (b : Bool). b || u) e
-
-or-right : (t u : Bool) → u ≡ true → t || u ≡ true
-or-right true u e = refl
-or-right false u e = e
 
 -- ---- the tests of the book
 pub among-in : (h : List ℕ) (gs : List (List ℕ)) → isAmong h gs ≡ true → List·Memᴰ h gs

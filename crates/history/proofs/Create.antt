@@ -1,6 +1,6 @@
 -- CREATE and MKDIR: the invariant after the call, with the book's step. Assumes nothing.
 use mathlib.Core.Path.{_≡_, refl, sym, ap, _∙_, subst}
-use mathlib.Core.Logic.{_≢_, _⊎_}
+use mathlib.Core.Logic.{_⊎_}
 use mathlib.Core.Bool.{true, false}
 use mathlib.Core.Option.{some, none}
 use mathlib.Core.List.{List}
@@ -23,7 +23,7 @@ use Rattle.spec.specs.Image.{Store, stamp, objectAt, nameAt}
 use Rattle.spec.specs.Procedures.{cut}
 use Rattle.spec.specs.Procedures.Attributes.{isGiven, sizeSet}
 use Rattle.spec.specs.Procedures.Names.{newEdit, createdIn, Target, new, existing, checkCreate, settableOf, existingEdit, createEdit, create, checkMkdir, mkdir}
-use Rattle.spec.specs.Results.{created, failChanging, settle, null}
+use Rattle.spec.specs.Results.{created, failChanging, settle}
 use Rattle.spec.specs.Room.{findName}
 use Rattle.spec.proofs.Error.{statusOf}
 use Rattle.spec.proofs.Count.{true-false}
@@ -41,11 +41,8 @@ use Rattle.history.proofs.Inv.{Inv, Owes, keeps-refl, tree}
 use Rattle.history.proofs.Checks.{found-name, no-name}
 use Rattle.history.proofs.Replies.{made-is}
 use Rattle.spec.proofs.ArgumentRange.{FitsHow}
-use Rattle.history.proofs.Noted.{Answer, changing-fails, not-ok, note-failed, note-ok}
+use Rattle.history.proofs.Noted.{Answer, created-says, changing-says, not-ok, note-failed, note-ok}
 use Rattle.history.proofs.Making.{handle-seen, withLine, new-keeps, new-handle, new-alive, directory-kind, line-added, line-there, existing-keeps, sure-create, sure-mkdir}
-
-created-some : (h : List ℕ) (a : _) (d : _) → created h a d ≢ null
-created-some h a d e = let z : _≡_ {A = ℕ} 0 1 = cc in omega arith
 
 -- what CREATE and MKDIR owe: the invariant, and that the handle in an OK reply is a live object's
 pub record Made (σ p q r : ℕ) (s t : Store) (L : Ledger) (reply : List ℕ) : Type 0 where
@@ -71,8 +68,8 @@ module _ (σ p q r : ℕ) (s : Store) (L : Ledger) (I : Inv σ p q r s L) (c : C
   failed-made : (a : Arguments) (h : List ℕ) (n : ℕ) → 0 < n → n < 4294967296 → Answer call reply a (failChanging s h n) → Made σ p q r s s (note call reply L) reply
   failed-made a h n l m A =
       record {
-        owes = subst (Owes σ p q r s s) (sym (note-failed call reply a _ A n (changing-fails s h n) l m L)) (keeps-refl σ p q r s L I .owes);
-        shown = λ t. true-false (sym t ∙ not-ok call reply a _ A n (changing-fails s h n) l m);
+        owes = subst (Owes σ p q r s s) (sym (note-failed call reply a _ A n (changing-says s h n) l m L)) (keeps-refl σ p q r s L I .owes);
+        shown = λ t. true-false (sym t ∙ not-ok call reply a _ A n (changing-says s h n) l m);
       }
 
   -- ---- CREATE
@@ -87,7 +84,7 @@ module _ (σ p q r : ℕ) (s : Store) (L : Ledger) (I : Inv σ p q r s L) (c : C
         → note call reply L ≡ add (handleOf t o) 1 h text L
     unfolding noted statusOf h text
     note-created t o d A =
-        note-ok call reply (Call.Create place manner) _ A (created-some (handleOf t o) (attributes t o) (change s t d)) refl L
+        note-ok call reply (Call.Create place manner) _ A (created-says (handleOf t o) (attributes t o) (change s t d)) L
         ∙ ap (λ (x : List ℕ). add x 1 h text L) (made-handle (Call.Create place manner) t o d A)
 
     -- of a new file, and of one that is there
@@ -175,7 +172,7 @@ module _ (σ p q r : ℕ) (s : Store) (L : Ledger) (I : Inv σ p q r s L) (c : C
         let step = new-keeps σ p q r s L I c clock 2 o n d name a (_⊎_.inr refl) room fits (w .allowed) (w .good) (cut-below (place .name)) k gap file in
         let same = new-handle σ p q r s L I c clock 2 o n d name a (_⊎_.inr refl) room fits (w .allowed) (w .good) (cut-below (place .name)) k gap file in
         let alive = new-alive σ p q r s L I c clock 2 o n d name a (_⊎_.inr refl) room fits (w .allowed) (w .good) (cut-below (place .name)) k gap file in
-        let book = note-ok call reply (Call.Mkdir place a) _ A (created-some _ _ _) refl L
+        let book = note-ok call reply (Call.Mkdir place a) _ A (created-says _ _ _) L
         ∙ ap (λ (v : List ℕ). add v 2 g name L) (made-handle (Call.Mkdir place a) (newEdit s c 2 o n d name a) o d A ∙ same)
         ∙ line-added σ p q r s L I c clock g name d (w .reached) (w .directory) (cut-below (place .directory)) o 2 gap in
         record {

@@ -27,7 +27,7 @@ use Rattle.history.proofs.Paths.{stored-path, book-path}
 use Rattle.history.proofs.Later.{removed-old, added-fresh, removed-stays, same-kind}
 use Rattle.history.proofs.Answers.{getattr-live, getattr-size, getattr-stale, fsstat-room}
 use Rattle.history.proofs.Carried.{carried}
-use Rattle.history.proofs.Nospc.{blocks-left, names-left, objects-left, setattr-room, write-room, create-room, recreate-room, mkdir-room}
+use Rattle.history.proofs.Nospc.{blocks-left, names-left, objects-left, setattr-room, write-room, write-nothing, create-room, recreate-room, mkdir-room}
 
 -- the statement holds of every state that the invariant holds of
 pub kept : (σ p q r : ℕ) (w : State) → Inv σ p q r (w .store) (w .ledger) → Kept σ p q r w
@@ -60,10 +60,13 @@ kept σ p q r w I =
       sizes = getattr-size σ p q r s L I;
       placesFit = omega (arith, free-blocks σ p q r s L I);
       freeBytes = λ x h kind k l.
-          let (a, b, c) = fsstat-room σ p q r s L I x h kind k l in
-          (a, b ∙ ap (λ (n : ℕ). 512 * n) (sym (blocks-left σ p q r s L I)));
+          let (a, b, c, d, e) = fsstat-room σ p q r s L I x h kind k l in
+          let f = ap (λ (n : ℕ). 512 * n) (sym (blocks-left σ p q r s L I)) in
+          (a, b ∙ f, c ∙ f);
       objectsFit = omega (arith, available-objects σ p q r s L I);
-      available = λ x h kind k l. fsstat-room σ p q r s L I x h kind k l .2 ∙ sym (objects-left σ p q r s L I);
+      available = λ x h kind k l.
+          let f = sym (objects-left σ p q r s L I) in
+          (fsstat-room σ p q r s L I x h kind k l .3 ∙ f, fsstat-room σ p q r s L I x h kind k l .4 ∙ f);
       namesFit = omega (arith, free-names σ p q r s L I);
       freeNames = sym (names-left σ p q r s L I);
       live = getattr-live σ p q r s L I;
@@ -75,6 +78,7 @@ kept σ p q r w I =
       sameKind = λ g i j a xs l b. same-kind σ p q r s (run w xs .store) L (run w xs .ledger) I (later xs l .inv) (later xs l .grew) g i j a b;
       setattrRoom = setattr-room σ p q r s L I;
       writeRoom = write-room σ p q r s L I;
+      writeNothing = write-nothing σ p q r s L I;
       createRoom = create-room σ p q r s L I;
       recreateRoom = recreate-room σ p q r s L I;
       mkdirRoom = mkdir-room σ p q r s L I;

@@ -1,7 +1,7 @@
 -- Texts that are decided the same, and how often a number stands in a list. Assumes nothing.
 use mathlib.Core.Path.{_≡_, refl, sym, ap, _∙_, subst}
 use mathlib.Core.Logic.{_≢_, by-cases}
-use mathlib.Core.Bool.{Bool, cond}
+use mathlib.Core.Bool.{Bool, true, cond}
 use mathlib.Core.List.{List, [], _∷_}
 use Prim.Native.Nat.{ℕ, zero, suc, _<_}
 use native.Mathlib.Decide.{ℕ-discrete}
@@ -10,6 +10,9 @@ use native.Mathlib.Omega.{arith}
 use lib.Dec.{eqb}
 use lib.ListN.{length, getD}
 use borrow.Author.Tests.{eq-eqb, ne-eqb}
+use Rattle.spec.specs.Bytes.{sameBytes}
+use Rattle.spec.proofs.Bytes.{same-no}
+use Rattle.spec.proofs.Count.{true-false}
 use Rattle.spec.specs.Count.{bit, times}
 
 -- two lists of bytes are the same
@@ -23,6 +26,9 @@ text? [] [] = yes refl
 text? [] (y ∷ ys) = no (λ e. let z : _≡_ {A = ℕ} 0 1 = cc in omega arith)
 text? (x ∷ xs) [] = no (λ e. let z : _≡_ {A = ℕ} 0 1 = cc in omega arith)
 text? (x ∷ xs) (y ∷ ys) = both? (ℕ-discrete x y) (text? xs ys)
+
+pub same-true : (xs ys : List ℕ) → sameBytes xs ys ≡ true → xs ≡ ys
+same-true xs ys e = by-cases (text? xs ys) (λ p. p) (λ n. true-false (sym e ∙ same-no xs ys n))
 
 abbrev pub All : {A : Type 0} → (A → Type 0) → List A → Type 0
 All P [] = Unit {0}

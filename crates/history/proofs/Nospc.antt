@@ -28,32 +28,33 @@ use Rattle.spec.specs.Procedures.Data.{mostBytes, reachRegular, grown, checkWri
 use Rattle.spec.specs.Procedures.Names.{Target, existing, isNew, roomForNew, checkNew, checkExisting, checkAttributed, checkCreate, createEdit, settableOf, create, checkMkdir, mkdir, createdIn, newEdit}
 use Rattle.spec.specs.Results.{Result, failChanging, settle}
 use Rattle.spec.specs.Room.{isRegular, isDirectory, isAvailable, isUsedName, sizeOf, need, freeBlockCount, availableCount, availableObject, freeNameCount, availableName, findName}
-use Rattle.spec.proofs.Count.{by-bool, sum-at, lowest-passes, lowest-none}
+use Rattle.spec.proofs.Count.{by-bool, sum-at, lowest-passes, lowest-none, true-false}
 use Rattle.spec.proofs.Error.{statusOf}
 use Rattle.spec.proofs.Searches.{count-nothing}
-use Rattle.history.specs.Book.{Ledger, statusIn, isOk}
+use Rattle.history.specs.Book.{Ledger, isStatus, isOk}
 use Rattle.history.specs.Run.{Request, replyTo}
 use Rattle.history.specs.Statement.{Asks, AnswersRoom, BlocksMissing, RoomMissing, blocksLeft, namesLeft, objectsLeft}
 use Rattle.history.proofs.Inv.{Inv}
-use Rattle.history.proofs.Replies.{status-is, answered-ok}
+use Rattle.history.proofs.Replies.{answered-is, answered-ok}
 use Rattle.history.proofs.Counts.{free-blocks, free-names, available-objects}
-use Rattle.history.proofs.Noted.{Answer, Fails, changing-fails}
+use Rattle.history.proofs.Noted.{Answer, Says, changing-says, changed-says, wrote-says, created-says}
 use Rattle.history.proofs.Next.{answer-to}
 
 -- ---- an answer by a test
 module _ (call reply : List ℕ) (a : Arguments) (r : Result) (A : Answer call reply a r) where
-  status-of : (n : ℕ) → Fails r n → n < 4294967296 → statusIn reply ≡ n
-  status-of n f l = ap statusIn (A .is) ∙ status-is (A .xid) (A .procedure) r (f .some) (omega (arith, f .status)) ∙ f .status
+  status-of : (n k : ℕ) → Says r n → n < 4294967296 → isStatus k reply ≡ eqb n k
+  status-of n k f l =
+      ap (isStatus k) (A .is) ∙ answered-is (A .xid) (A .procedure) r (f .some) (omega (arith, f .status)) k ∙ ap (λ (x : ℕ). eqb x k) (f .status)
 
-  ok-of : Fails r 0 → isOk reply ≡ true
+  pub ok-of : Says r 0 → isOk reply ≡ true
   ok-of f = ap isOk (A .is) ∙ answered-ok (A .xid) (A .procedure) r (f .some) (omega (arith, f .status)) ∙ eq-eqb (statusOf r) 0 (f .status)
 
-  pub by-room : (missing : Type 0) → Dec missing → (missing → Fails r 28) → (¬ missing → Fails r 0) → AnswersRoom reply missing
+  pub by-room : (missing : Type 0) → Dec missing → (missing → Says r 28) → (¬ missing → Says r 0) → AnswersRoom reply missing
   by-room missing d full there =
       record {
         nospc = (
-          (λ e. by-cases d (λ m. m) (λ n. absurd (omega (arith, status-of 0 (there n) (lit< tt))))),
-          (λ m. status-of 28 (full m) (lit< tt)),
+          (λ e. by-cases d (λ m. m) (λ n. absurd (true-false (sym e ∙ status-of 0 28 (there n) (lit< tt))))),
+          (λ m. status-of 28 28 (full m) (lit< tt)),
         );
         ok = λ n. ok-of (there n);
       }
@@ -117,9 +118,9 @@ module _ (σ p q r : ℕ) (s : Store) (L : Ledger) (I : Inv σ p q r s L) where
       let result : Checked ℕ → Result = λ y. settle s (failChanging s hb) y (λ o. edited s o (setattrEdit s c o a)) .result in
       let A = answer-to σ p q r s L I x (Call.Setattr h a g) k in
       by-room (x .call) (replyTo s x) (Call.Setattr h a g) _ A (BlocksMissing r s L old size) (missing? old size)
-      (λ m. subst (λ (y : Checked ℕ). Fails (result y) 28) (sym (checks ∙ ap (λ (t : Bool). bind (refuseIf t 28) (λ _. passed o)) (missing-yes old size m))) (changing-fails s hb 28))
-      (λ m. subst (λ (y : Checked ℕ). Fails (result y) 0) (sym (checks ∙ ap (λ (t : Bool). bind (refuseIf t 28) (λ _. passed o)) (missing-no old size m)))
-      (record { status = refl; some = λ z. let y : _≡_ {A = ℕ} 0 1 = cc in omega arith }))
+      (λ m. subst (λ (y : Checked ℕ). Says (result y) 28) (sym (checks ∙ ap (λ (t : Bool). bind (refuseIf t 28) (λ _. passed o)) (missing-yes old size m))) (changing-says s hb 28))
+      (λ m. subst (λ (y : Checked ℕ). Says (result y) 0) (sym (checks ∙ ap (λ (t : Bool). bind (refuseIf t 28) (λ _. passed o)) (missing-no old size m)))
+      (changed-says 0 _))
 
   -- ---- WRITE
   pub write-room : (x : Request) (h : Part) (offset n : ℕ) (bytes : Part) (o : ℕ) → Asks x (Call.Write h offset n bytes)
@@ -139,9 +140,22 @@ module _ (σ p q r : ℕ) (s : Store) (L : Ledger) (I : Inv σ p q r s L) where
       let result : Checked ℕ → Result = λ y. settle s (failChanging s hb) y (λ o. writeDone s c o offset (take (min n mostBytes) sent)) .result in
       let A = answer-to σ p q r s L I x (Call.Write h offset n bytes) k in
       by-room (x .call) (replyTo s x) (Call.Write h offset n bytes) _ A (BlocksMissing r s L old size) (missing? old size)
-      (λ b. subst (λ (y : Checked ℕ). Fails (result y) 28) (sym (checks ∙ ap (λ (t : Bool). bind (refuseIf t 28) (λ _. passed o)) (missing-yes old size b))) (changing-fails s hb 28))
-      (λ b. subst (λ (y : Checked ℕ). Fails (result y) 0) (sym (checks ∙ ap (λ (t : Bool). bind (refuseIf t 28) (λ _. passed o)) (missing-no old size b)))
-      (record { status = refl; some = λ z. let y : _≡_ {A = ℕ} 0 1 = cc in omega arith }))
+      (λ b. subst (λ (y : Checked ℕ). Says (result y) 28) (sym (checks ∙ ap (λ (t : Bool). bind (refuseIf t 28) (λ _. passed o)) (missing-yes old size b))) (changing-says s hb 28))
+      (λ b. subst (λ (y : Checked ℕ). Says (result y) 0) (sym (checks ∙ ap (λ (t : Bool). bind (refuseIf t 28) (λ _. passed o)) (missing-no old size b)))
+      (wrote-says _ _ _))
+
+  pub write-nothing : (x : Request) (h : Part) (offset : ℕ) (bytes : Part) (o : ℕ) → Asks x (Call.Write h offset 0 bytes)
+      → reachRegular s (cut (x .call) h) ≡ passed o → 0 ≡ length (cut (x .call) bytes) → isOk (replyTo s x) ≡ true
+  unfolding act write writeDone checkWrite statusOf
+  write-nothing x h offset bytes o k e₁ e₂ =
+      let hb = cut (x .call) h in
+      let c = x .context in
+      let sent = cut (x .call) bytes in
+      let d₁ : eqb 0 (length sent) ≡ true = eq-eqb 0 (length sent) e₂ in
+      let checks : checkWrite s hb offset 0 sent ≡ passed o = rw (e₁, d₁) in
+      let result : Checked ℕ → Result = λ y. settle s (failChanging s hb) y (λ o. writeDone s c o offset (take (min 0 mostBytes) sent)) .result in
+      let A = answer-to σ p q r s L I x (Call.Write h offset 0 bytes) k in
+      ok-of (x .call) (replyTo s x) (Call.Write h offset 0 bytes) _ A (subst (λ (y : Checked ℕ). Says (result y) 0) (sym checks) (wrote-says _ _ _))
 
   -- ---- room for a new object
   room? : (size : ℕ) → Dec (RoomMissing σ p q r s L size)
@@ -193,10 +207,10 @@ module _ (σ p q r : ℕ) (s : Store) (L : Ledger) (I : Inv σ p q r s L) where
       let result : Checked (ℕ × Target) → Result = λ y. settle s (failChanging s h) y (λ p. createEdit s c (p .0) text (settableOf manner) (p .1)) .result in
       let A = answer-to σ p q r s L I x (Call.Create place manner) k in
       by-room (x .call) (replyTo s x) (Call.Create place manner) _ A (RoomMissing σ p q r s L size) (room? size)
-      (λ m. subst (λ (y : Checked (ℕ × Target)). Fails (result y) 28) (sym (checks ∙ ap (λ (t : Checked (ℕ × ℕ)). bind (isNew t) (λ t. passed (d, t))) (room-full size m))) (changing-fails s h 28))
+      (λ m. subst (λ (y : Checked (ℕ × Target)). Says (result y) 28) (sym (checks ∙ ap (λ (t : Checked (ℕ × ℕ)). bind (isNew t) (λ t. passed (d, t))) (room-full size m))) (changing-says s h 28))
       (λ m. let (y, e) = room-there size m in
-      subst (λ (y : Checked (ℕ × Target)). Fails (result y) 0) (sym (checks ∙ ap (λ (t : Checked (ℕ × ℕ)). bind (isNew t) (λ t. passed (d, t))) e))
-      (record { status = refl; some = λ z. let y : _≡_ {A = ℕ} 0 1 = cc in omega arith }))
+      subst (λ (y : Checked (ℕ × Target)). Says (result y) 0) (sym (checks ∙ ap (λ (t : Checked (ℕ × ℕ)). bind (isNew t) (λ t. passed (d, t))) e))
+      (created-says _ _ _))
     where
       either : (manner ≡ How.Unchecked a) ⊎ (manner ≡ How.Guarded a)
           → checkCreate s (cut (x .call) (place .directory)) (cut (x .call) (place .name)) manner ≡ bind (isNew (roomForNew s (sizeSet (a .size) 0))) (λ t. passed (d, t))
@@ -222,9 +236,9 @@ module _ (σ p q r : ℕ) (s : Store) (L : Ledger) (I : Inv σ p q r s L) where
       let result : Checked (ℕ × Target) → Result = λ y. settle s (failChanging s h) y (λ p. createEdit s c (p .0) text a (p .1)) .result in
       let A = answer-to σ p q r s L I x (Call.Create place (How.Unchecked a)) k in
       by-room (x .call) (replyTo s x) (Call.Create place (How.Unchecked a)) _ A (BlocksMissing r s L old size) (missing? old size)
-      (λ m. subst (λ (y : Checked (ℕ × Target)). Fails (result y) 28) (sym (checks ∙ ap rest (missing-yes old size m))) (changing-fails s h 28))
-      (λ m. subst (λ (y : Checked (ℕ × Target)). Fails (result y) 0) (sym (checks ∙ ap rest (missing-no old size m)))
-      (record { status = refl; some = λ z. let y : _≡_ {A = ℕ} 0 1 = cc in omega arith }))
+      (λ m. subst (λ (y : Checked (ℕ × Target)). Says (result y) 28) (sym (checks ∙ ap rest (missing-yes old size m))) (changing-says s h 28))
+      (λ m. subst (λ (y : Checked (ℕ × Target)). Says (result y) 0) (sym (checks ∙ ap rest (missing-no old size m)))
+      (created-says _ _ _))
 
   -- ---- MKDIR
   pub mkdir-room : (x : Request) (place : NameIn) (a : Settable) (d : ℕ) → Asks x (Call.Mkdir place a)
@@ -241,7 +255,7 @@ module _ (σ p q r : ℕ) (s : Store) (L : Ledger) (I : Inv σ p q r s L) where
       let result : Checked (ℕ × ℕ × ℕ) → Result = λ y. settle s (failChanging s h) y (λ p. createdIn s (newEdit s c 2 (p .1) (p .2) (p .0) text a) (p .0) (p .1)) .result in
       let A = answer-to σ p q r s L I x (Call.Mkdir place a) k in
       by-room (x .call) (replyTo s x) (Call.Mkdir place a) _ A (RoomMissing σ p q r s L 0) (room? 0)
-      (λ m. subst (λ (y : Checked (ℕ × ℕ × ℕ)). Fails (result y) 28) (sym (checks ∙ ap rest (room-full 0 m))) (changing-fails s h 28))
+      (λ m. subst (λ (y : Checked (ℕ × ℕ × ℕ)). Says (result y) 28) (sym (checks ∙ ap rest (room-full 0 m))) (changing-says s h 28))
       (λ m. let (y, e) = room-there 0 m in
-      subst (λ (y : Checked (ℕ × ℕ × ℕ)). Fails (result y) 0) (sym (checks ∙ ap rest e))
-      (record { status = refl; some = λ z. let y : _≡_ {A = ℕ} 0 1 = cc in omega arith }))
+      subst (λ (y : Checked (ℕ × ℕ × ℕ)). Says (result y) 0) (sym (checks ∙ ap rest e))
+      (created-says _ _ _))

@@ -8,6 +8,7 @@ use Prim.Native.Nat.{ℕ, _<_}
 use native.Mathlib.Omega.{arith}
 use lib.Dec.{eqb}
 use borrow.Author.Tests.{eq-eqb, ne-eqb}
+use Rattle.kinds.specs.declared.object.Attributes.{Attributes}
 use Rattle.kinds.specs.declared.object.Change.{Change}
 use Rattle.kinds.specs.declared.call.Arguments.{Arguments}
 use Rattle.spec.specs.Checked.{Checked, refused, passed}
@@ -15,7 +16,7 @@ use Rattle.spec.specs.Handles.{reach, handleChange}
 use Rattle.spec.specs.Image.{Store}
 use Rattle.spec.specs.Procedures.Removal.{renamedOr, failRenaming}
 use Rattle.spec.specs.Replies.{resultBytes}
-use Rattle.spec.specs.Results.{Result, null, dead, changed, showingOf, changingOf, failShowing, failChanging}
+use Rattle.spec.specs.Results.{Result, null, dead, changed, showingOf, changingOf, failShowing, failChanging, renamed, wrote, created}
 use Rattle.spec.specs.Rpc.{accepted}
 use Rattle.spec.proofs.Error.{statusOf}
 use Rattle.history.specs.Book.{under, Ledger, asked, isOk, someAt, add, noted, note}
@@ -28,63 +29,73 @@ pub record Answer (call reply : List ℕ) (a : Arguments) (r : Result) : Type 0 
   pub procedure : ℕ
   pub is : reply ≡ accepted xid 0 (resultBytes procedure r)
 
--- a result whose status is n
-pub record Fails (r : Result) (n : ℕ) : Type 0 where
+-- a result that begins with the status n
+pub record Says (r : Result) (n : ℕ) : Type 0 where
   pub status : statusOf r ≡ n
   pub some : r ≢ null
 
-dead-some : (n : ℕ) → dead n ≢ null
-dead-some n e = let z : _≡_ {A = ℕ} 0 1 = cc in omega arith
-
-changed-some : (n : ℕ) (c : Change) → changed n c ≢ null
-changed-some n c e = let z : _≡_ {A = ℕ} 0 1 = cc in omega arith
-
-pub dead-fails : (n : ℕ) → Fails (dead n) n
+pub dead-says : (n : ℕ) → Says (dead n) n
 unfolding statusOf
-dead-fails n = record { status = refl; some = dead-some n }
+dead-says n = record { status = refl; some = λ e. let z : _≡_ {A = ℕ} 0 1 = cc in omega arith }
 
-pub showing-fails : (s : Store) (h : List ℕ) (n : ℕ) → Fails (failShowing s h n) n
+pub changed-says : (n : ℕ) (c : Change) → Says (changed n c) n
+unfolding statusOf
+changed-says n c = record { status = refl; some = λ e. let z : _≡_ {A = ℕ} 0 1 = cc in omega arith }
+
+pub renamed-says : (n : ℕ) (c d : Option Change) → Says (renamed n c d) n
+unfolding statusOf
+renamed-says n c d = record { status = refl; some = λ e. let z : _≡_ {A = ℕ} 0 1 = cc in omega arith }
+
+pub wrote-says : (c : Change) (n v : ℕ) → Says (wrote c n v) 0
+unfolding statusOf
+wrote-says c n v = record { status = refl; some = λ e. let z : _≡_ {A = ℕ} 0 1 = cc in omega arith }
+
+pub created-says : (h : List ℕ) (a : Attributes) (c : Change) → Says (created h a c) 0
+unfolding statusOf
+created-says h a c = record { status = refl; some = λ e. let z : _≡_ {A = ℕ} 0 1 = cc in omega arith }
+
+pub showing-says : (s : Store) (h : List ℕ) (n : ℕ) → Says (failShowing s h n) n
 unfolding failShowing statusOf
-showing-fails s h n = go (reach s h)
+showing-says s h n = go (reach s h)
   where
-    go : (x : Checked ℕ) → Fails (showingOf s n x) n
-    go (refused m) = dead-fails n
+    go : (x : Checked ℕ) → Says (showingOf s n x) n
+    go (refused m) = dead-says n
     go (passed o) = record { status = refl; some = λ e. let z : _≡_ {A = ℕ} 0 1 = cc in omega arith }
 
-pub changing-fails : (s : Store) (h : List ℕ) (n : ℕ) → Fails (failChanging s h n) n
+pub changing-says : (s : Store) (h : List ℕ) (n : ℕ) → Says (failChanging s h n) n
 unfolding failChanging statusOf
-changing-fails s h n = go (reach s h)
+changing-says s h n = go (reach s h)
   where
-    go : (x : Checked ℕ) → Fails (changingOf s n x) n
-    go (refused m) = dead-fails n
-    go (passed o) = record { status = refl; some = changed-some n _ }
+    go : (x : Checked ℕ) → Says (changingOf s n x) n
+    go (refused m) = dead-says n
+    go (passed o) = changed-says n _
 
-pub renaming-fails : (s : Store) (h g : List ℕ) (n : ℕ) → Fails (failRenaming s h g n) n
+pub renaming-says : (s : Store) (h g : List ℕ) (n : ℕ) → Says (failRenaming s h g n) n
 unfolding failRenaming statusOf
-renaming-fails s h g n = go (handleChange s s h) (handleChange s s g)
+renaming-says s h g n = go (handleChange s s h) (handleChange s s g)
   where
-    go : (x y : Option Change) → Fails (renamedOr n x y) n
-    go none none = dead-fails n
-    go none (some b) = record { status = refl; some = λ e. let z : _≡_ {A = ℕ} 0 1 = cc in omega arith }
-    go (some a) b = record { status = refl; some = λ e. let z : _≡_ {A = ℕ} 0 1 = cc in omega arith }
+    go : (x y : Option Change) → Says (renamedOr n x y) n
+    go none none = dead-says n
+    go none (some b) = renamed-says n none (some b)
+    go (some a) b = renamed-says n (some a) b
 
 module _ (call reply : List ℕ) (a : Arguments) (r : Result) (A : Answer call reply a r) where
   ok-of : r ≢ null → statusOf r < 4294967296 → isOk reply ≡ eqb (statusOf r) 0
   ok-of n l = ap isOk (A .is) ∙ answered-ok (A .xid) (A .procedure) r n l
 
-  pub not-ok : (n : ℕ) → Fails r n → 0 < n → n < 4294967296 → isOk reply ≡ false
+  pub not-ok : (n : ℕ) → Says r n → 0 < n → n < 4294967296 → isOk reply ≡ false
   not-ok n f l h = ok-of (f .some) (omega (arith, f .status)) ∙ ne-eqb (statusOf r) 0 (λ e. omega (arith, f .status))
 
   -- a call that is not answered OK leaves the book
-  pub note-failed : (n : ℕ) → Fails r n → 0 < n → n < 4294967296 → (L : Ledger) → note call reply L ≡ L
+  pub note-failed : (n : ℕ) → Says r n → 0 < n → n < 4294967296 → (L : Ledger) → note call reply L ≡ L
   unfolding note
   note-failed n f l h L =
       ap (λ (t : Bool). cond t (noted call reply L (asked call)) L) (not-ok n f l h)
 
-  pub note-ok : r ≢ null → statusOf r ≡ 0 → (L : Ledger) → note call reply L ≡ noted call reply L (some a)
+  pub note-ok : Says r 0 → (L : Ledger) → note call reply L ≡ noted call reply L (some a)
   unfolding note
-  note-ok n e L =
-      ap (λ (t : Bool). cond t (noted call reply L (asked call)) L) (ok-of n (omega arith) ∙ eq-eqb (statusOf r) 0 e)
+  note-ok f L =
+      ap (λ (t : Bool). cond t (noted call reply L (asked call)) L) (ok-of (f .some) (omega (arith, f .status)) ∙ eq-eqb (statusOf r) 0 (f .status))
       ∙ ap (noted call reply L) (A .reads)
 
 -- a call that never changes the book

@@ -2,7 +2,7 @@
 use mathlib.Core.Path.{_≡_, refl, sym, ap, _∙_, subst}
 use mathlib.Core.Logic.{_≢_}
 use mathlib.Core.Bool.{Bool, false, _&&_, _||_, not}
-use mathlib.Core.Option.{Option, some, none}
+use mathlib.Core.Option.{some, none}
 use mathlib.Core.List.{List}
 use Prim.Native.Nat.{ℕ, _-_, _<_}
 use native.Mathlib.Omega.{arith}
@@ -10,7 +10,6 @@ use lib.Dec.{eqb, lit<}
 use lib.ListN.{length}
 use borrow.Author.Tests.{eqb-false}
 use Rattle.kinds.specs.declared.object.Context.{Context}
-use Rattle.kinds.specs.declared.object.Change.{Change}
 use Rattle.kinds.specs.declared.call.Part.{Part}
 use Rattle.kinds.specs.declared.call.NameIn.{NameIn}
 use Rattle.kinds.specs.declared.call.Arguments.{Arguments}
@@ -25,7 +24,7 @@ use Rattle.spec.specs.Procedures.{cut}
 use Rattle.spec.specs.Procedures.Attributes.{edited}
 use Rattle.spec.specs.Procedures.Names.{touchDirectory}
 use Rattle.spec.specs.Procedures.Removal.{checkRemove, hasEntries, checkRmdir, removeFrom, remove, rmdir, isWithin, checkRename, renameEdit, failRenaming, renamedTo, rename}
-use Rattle.spec.specs.Results.{changed, renamed, failChanging, settle, null}
+use Rattle.spec.specs.Results.{failChanging, settle}
 use Rattle.spec.specs.Room.{isDirectory, findName, above}
 use Rattle.spec.proofs.Count.{by-bool, true-false, some-none}
 use Rattle.spec.proofs.Error.{statusOf}
@@ -43,7 +42,7 @@ use Rattle.history.proofs.Agree.{handleIn}
 use Rattle.history.proofs.Seen.{view, kind-at, dir-at, child-at, text-at, live-in, used-in, text-long, above-same}
 use Rattle.history.proofs.Inv.{Inv, Owes, keeps-refl, keeps-trans, owes-trans, tree, touch-inv, removed-of, remove-inv, move-keeps}
 use Rattle.history.proofs.Checks.{found-name, no-name, Sure, sure-bind, sure-then, sure-passed, sure-present, sure-absent, sure-directory, sure-name}
-use Rattle.history.proofs.Noted.{Answer, changing-fails, renaming-fails, note-failed, note-ok}
+use Rattle.history.proofs.Noted.{Answer, changed-says, renamed-says, changing-says, renaming-says, note-failed, note-ok}
 use Rattle.history.proofs.Making.{directory-kind, directory-handle}
 
 -- ---- the checks' statuses
@@ -77,12 +76,6 @@ sure-rename s h text g title =
     (sure-bind (present 2 (findName s d text)) _ (sure-present 2 (findName s d text) (lit< tt) (lit< tt)) (λ n.
     sure-bind (absent 17 (findName s e title)) _ (sure-absent 17 (findName s e title) (lit< tt) (lit< tt)) (λ _.
     sure-then (isWithin s (nameAt s n .child) e) 22 _ (lit< tt) (lit< tt) (sure-passed (d, e, n)))))))))
-
-changed-some : (n : ℕ) (c : Change) → changed n c ≢ null
-changed-some n c e = let z : _≡_ {A = ℕ} 0 1 = cc in omega arith
-
-renamed-some : (n : ℕ) (c d : Option Change) → renamed n c d ≢ null
-renamed-some n c d e = let z : _≡_ {A = ℕ} 0 1 = cc in omega arith
 
 module _ (σ p q r : ℕ) (s : Store) (L : Ledger) (I : Inv σ p q r s L) (c : Context) (clock : GoodClock (c .clock)) where
   -- the object of name record n goes, with its name
@@ -191,9 +184,9 @@ module _ (σ p q r : ℕ) (s : Store) (L : Ledger) (I : Inv σ p q r s L) (c : C
     unfolding statusOf
     from a h text checks (refused n) e f g k A =
         let b = f n e in
-        subst (Owes σ p q r s s) (sym (note-failed call reply a _ A n (changing-fails s h n) (b .0) (b .1) L)) (keeps-refl σ p q r s L I .owes)
+        subst (Owes σ p q r s s) (sym (note-failed call reply a _ A n (changing-says s h n) (b .0) (b .1) L)) (keeps-refl σ p q r s L I .owes)
     from a h text checks (passed y) e f g k A =
-        subst (Owes σ p q r s (touchDirectory (removeObject s (y .1)) c (y .0))) (sym (note-ok call reply a _ A (changed-some 0 _) refl L ∙ k reply)) (g y e)
+        subst (Owes σ p q r s (touchDirectory (removeObject s (y .1)) c (y .0))) (sym (note-ok call reply a _ A (changed-says 0 _) L ∙ k reply)) (g y e)
 
     pub remove-owes : (place : NameIn) → Answer call reply (Call.Remove place) (remove s c (cut call (place .directory)) (cut call (place .name)) .result)
         → Owes σ p q r s (remove s c (cut call (place .directory)) (cut call (place .name)) .store) (note call reply L)
@@ -234,7 +227,7 @@ module _ (σ p q r : ℕ) (s : Store) (L : Ledger) (I : Inv σ p q r s L) (c : C
             → Owes σ p q r s (settle s (failRenaming s h g) x (λ p. renamedTo s (p .0) (p .1) (renameEdit s c (p .0) (p .1) (p .2) title)) .store) (note call reply L)
         go (refused n) e A =
             let z = sure-rename s h text g title n e in
-            subst (Owes σ p q r s s) (sym (note-failed call reply (Call.Rename a b) _ A n (renaming-fails s h g n) (z .0) (z .1) L)) (keeps-refl σ p q r s L I .owes)
+            subst (Owes σ p q r s s) (sym (note-failed call reply (Call.Rename a b) _ A n (renaming-says s h g n) (z .0) (z .1) L)) (keeps-refl σ p q r s L I .owes)
         go (passed x) e A =
-            subst (Owes σ p q r s (renameEdit s c (x .0) (x .1) (x .2) title)) (sym (note-ok call reply (Call.Rename a b) _ A (renamed-some 0 _ _) refl L))
+            subst (Owes σ p q r s (renameEdit s c (x .0) (x .1) (x .2) title)) (sym (note-ok call reply (Call.Rename a b) _ A (renamed-says 0 _ _) L))
             (rename-facts h text g title (cut-below (a .directory)) (cut-below (b .directory)) (cut-below (b .name)) (x .0) (x .1) (x .2) (rename-passed s h text g title x e))

@@ -19,7 +19,7 @@ use Rattle.spec.specs.Rpc.{accepted}
 use Rattle.spec.proofs.Bytes.{part-left, part-right, part-whole, be-add}
 use Rattle.spec.proofs.Error.{statusOf}
 use Rattle.spec.proofs.Words.{words-append, words-length}
-use Rattle.history.specs.Book.{handleBytes, statusIn, isOk, handleAt}
+use Rattle.history.specs.Book.{handleBytes, isStatus, isOk, handleAt}
 use Rattle.history.proofs.Handles.{word-in}
 
 -- an accepted reply whose results begin with the words ws
@@ -59,11 +59,16 @@ module _ (reply : List ℕ) (xid : ℕ) (ws rest : List ℕ) (b : Begins reply x
       be-add reply (24 + 4 * k) 4 4 (omega (arith, reply-long))
       ∙ ap₂ (λ (x y : ℕ). x * 4294967296 + y) (word-of k (omega arith) g) (ap (λ (at : ℕ). beAt reply at 4) (sym e) ∙ word-of (suc k) l h)
 
+  -- whether the status is n
+  pub status-test : (n : ℕ) → 0 < length ws → getD ws 0 0 < 4294967296 → isStatus n reply ≡ eqb (getD ws 0 0) n
+  unfolding isStatus
+  status-test n l h =
+      ap₂ (λ (x y : Bool). x && y) (le-leb 28 (length reply) (omega (arith, reply-long)))
+      (ap₂ (λ (x y : ℕ). eqb x 0 && eqb y n) accept-stat (word-of 0 l h))
+
   pub ok-is : 0 < length ws → getD ws 0 0 < 4294967296 → isOk reply ≡ eqb (getD ws 0 0) 0
   unfolding isOk
-  ok-is l h =
-      ap₂ (λ (x y : Bool). x && y) (le-leb 28 (length reply) (omega (arith, reply-long)))
-      (ap₂ (λ (x y : ℕ). eqb x 0 && eqb y 0) accept-stat (word-of 0 l h))
+  ok-is l h = status-test 0 l h
 
 -- the words between others
 pub words-between : (xs ys rest : List ℕ) → part (words (xs ++ ys) ++ rest) (4 * length xs) (4 * length ys) ≡ words ys
@@ -137,8 +142,8 @@ module _ (xid p : ℕ) (r : Result) (n : r ≢ null) (small : statusOf r < 42949
   first-word : Begins (accepted xid 0 (resultBytes p r)) xid (statusOf r ∷ starts p r n .ws) (starts p r n .rest)
   first-word = begins xid (statusOf r ∷ starts p r n .ws) (starts p r n .rest) (resultBytes p r) (starts p r n .is)
 
-  pub status-is : statusIn (accepted xid 0 (resultBytes p r)) ≡ statusOf r
-  status-is = word-of _ xid (statusOf r ∷ starts p r n .ws) (starts p r n .rest) first-word 0 (omega arith) small
+  pub answered-is : (k : ℕ) → isStatus k (accepted xid 0 (resultBytes p r)) ≡ eqb (statusOf r) k
+  answered-is k = status-test _ xid (statusOf r ∷ starts p r n .ws) (starts p r n .rest) first-word k (omega arith) small
 
   pub answered-ok : isOk (accepted xid 0 (resultBytes p r)) ≡ eqb (statusOf r) 0
   answered-ok = ok-is _ xid (statusOf r ∷ starts p r n .ws) (starts p r n .rest) first-word (omega arith) small

@@ -16,13 +16,13 @@ use Rattle.spec.specs.Count.{bit, sum, count, lowest, iterate, times}
 use Rattle.spec.specs.Image.{Store, objects, names, objectAt, nameAt, nameLength}
 use Rattle.spec.specs.Room.{isUsedName, isNaming, isIn, isNamed, held, uses, parent, directoryOf, above}
 use Rattle.spec.specs.Room as Spec
-use Rattle.spec.proofs.Bytes.{same-yes, same-no}
-use Rattle.spec.proofs.Count.{sum-ext, and-both, true-false, lowest-ext, lowest-passes}
+use Rattle.spec.proofs.Bytes.{same-yes}
+use Rattle.spec.proofs.Count.{sum-ext, and-both, lowest-ext, lowest-passes}
 use Rattle.spec.proofs.Searches.{iterate-ext}
 use Rattle.spec.proofs.Tests.{and-true}
 use Rattle.spec.proofs.Valid.{GoodNameRecord, GoodNames, used-true, true-used}
 use Rattle.history.proofs.Sum.{holds, ind, holds-same}
-use Rattle.history.proofs.Lists.{text?}
+use Rattle.history.proofs.Lists.{same-true}
 use Rattle.history.proofs.View.{View, Live, Used, names?, at?, namings, entries}
 use Rattle.history.proofs.Walk.{directoryAt, parentIn}
 
@@ -122,10 +122,7 @@ module _ (s : Store) (N : GoodNames s) where
       (λ e. let p = and-both (x && y) (z && w) e in
       let a = and-both x y (p .0) in
       let b = and-both z w (p .1) in
-      (of-used n l (a .0), dir-at s n l ∙ eqb-true (nameAt s n .directory) d (a .1), text-at s n l ∙ same (nameAt s n .text) t (b .1)))
-    where
-      same : (xs ys : List ℕ) → sameBytes xs ys ≡ true → xs ≡ ys
-      same xs ys e = by-cases (text? xs ys) (λ p. p) (λ n. true-false (sym e ∙ same-no xs ys n))
+      (of-used n l (a .0), dir-at s n l ∙ eqb-true (nameAt s n .directory) d (a .1), text-at s n l ∙ same-true (nameAt s n .text) t (b .1)))
 
   pub namings-same : (o : ℕ) → namings (names s) (view s) o ≡ Spec.namings s o
   unfolding Spec.namings

@@ -30,7 +30,7 @@ use Rattle.spec.proofs.Valid.{live-true}
 use Rattle.history.specs.Book.{Ledger}
 use Rattle.history.proofs.View.{Live}
 use Rattle.history.proofs.Seen.{view, kind-at, live-in}
-use Rattle.history.proofs.Bridge.{size-small}
+use Rattle.spec.proofs.FreeRoom.{good-size-small}
 use Rattle.history.proofs.Inv.{Inv, Keeps, keeps-refl, keeps-trans, good, touch-inv, resize-inv, write-inv}
 
 pub seen-live : (s : Store) (o : ℕ) → o < objects s → isLive s o ≡ true → Live (view s) o
@@ -69,7 +69,7 @@ module _ (σ p q r : ℕ) (s : Store) (L : Ledger) (I : Inv σ p q r s L) (c : C
   write-some o offset xs k b m room =
       let n = live-in s o (omega arith) in
       let size = grown s o offset (length xs) in
-      let small : size ≤ 8192 = omega (arith, size-small s (I .valid) o n) in
+      let small : size ≤ 8192 = omega (arith, good-size-small s o (I .valid .good-objects o n)) in
       let first = resize-inv σ p q r s L I o size k small room in
       let t = resize s o size in
       let l : Live (view t) o = omega (arith, first .kinds o (omega arith)) in

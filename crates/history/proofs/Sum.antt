@@ -1,7 +1,7 @@
 -- Further laws of the sums of spec, and tests that are decided as 1 and 0. Assumes nothing.
-use mathlib.Core.Path.{_≡_, refl, sym}
+use mathlib.Core.Path.{_≡_, refl, sym, ap}
 use mathlib.Core.Logic.{_≢_, by-cases, ite, if-pos, if-neg}
-use mathlib.Core.Bool.{Bool, true, false}
+use mathlib.Core.Bool.{Bool, true, false, _||_}
 use Prim.Native.Nat.{ℕ, zero, suc, _≤_, _<_}
 use native.Mathlib.Nat.{not-suc-le-zero}
 use native.Mathlib.Decide.{ℕ-discrete, decLt}
@@ -52,6 +52,14 @@ holds-true (no n) h = true-false (sym h)
 pub holds-yes : {A : Type 0} (d : Dec A) → A → holds d ≡ true
 holds-yes (yes a) x = refl
 holds-yes (no n) x = absurd (n x)
+
+-- one of two tests holds
+pub or-left : (t u : Bool) → t ≡ true → t || u ≡ true
+or-left t u e = ap (λ (b : Bool). b || u) e
+
+pub or-right : (t u : Bool) → u ≡ true → t || u ≡ true
+or-right true u e = refl
+or-right false u e = e
 
 pub sum-find : (n : ℕ) (f : ℕ → ℕ) → 0 < sum n f → (i : ℕ) × (i < n) × (0 < f i)
 unfolding sum

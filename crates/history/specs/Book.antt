@@ -1,5 +1,4 @@
--- The book: what the calls and their replies alone say is in the store. Document 01 coins "book", "line" and, for a block of a live file,
--- "place"; they are defined here and in Statement.
+-- The book: what the calls and their replies alone say is in the store.
 use Prim.Native.Nat.{ℕ, _+_}
 use mathlib.Core.List.{List, [], _∷_}
 use mathlib.Core.Bool.{Bool, false, _&&_, _||_, cond}
@@ -25,13 +24,13 @@ pub data Standing : Type 0 where
   asRoot : Standing
   under : List ℕ → List ℕ → Standing
 
--- a line: "A line holds a handle, its type and, but for the root's, a directory handle and a name."
+-- a line, a term that document 01 coins: "A line holds a handle, its type and, but for the root's, a directory handle and a name."
 pub record Line : Type 0 where
   pub handle : List ℕ
   pub kind : ℕ
   pub standing : Standing
 
--- the book
+-- the book, a term that document 01 coins: "The book is fed the calls and their replies"
 abbrev pub Book : Type 0
 Book = List Line
 
@@ -115,9 +114,14 @@ asked call = headedArguments call (header call 0)
 abbrev pub statusIn : List ℕ → ℕ
 statusIn reply = beAt reply 24 4
 
--- "a call answered OK": an accepted reply with accept_stat SUCCESS, 0, and the status OK
+-- an accepted reply with accept_stat SUCCESS, 0, and that status
+unfoldable pub isStatus : ℕ → List ℕ → Bool
+isStatus status reply = leb 28 (length reply) && (eqb (beAt reply 20 4) 0 && eqb (statusIn reply) status)
+
+-- "a call answered OK"
 unfoldable pub isOk : List ℕ → Bool
-isOk reply = leb 28 (length reply) && (eqb (beAt reply 20 4) 0 && eqb (statusIn reply) OK)
+unfolding isStatus
+isOk reply = isStatus OK reply
 
 -- the handle that stands at an index of a reply as opaque data: its length, then its bytes
 abbrev pub handleAt : List ℕ → ℕ → List ℕ

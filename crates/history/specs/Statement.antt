@@ -30,11 +30,11 @@ use Rattle.spec.specs.Procedures.Attributes.{isGiven, sizeSet, badAttributes, d
 use Rattle.spec.specs.Procedures.Data.{mostBytes, reachRegular, grown}
 use Rattle.spec.specs.Procedures.Names.{checkNew}
 use Rattle.spec.specs.Serve.{format}
-use Rattle.history.specs.Book.{Standing, asRoot, under, Line, Book, Ledger, handleBytes, firstLedger, asked, statusIn, isOk, foundHandle, madeHandle}
+use Rattle.history.specs.Book.{Standing, asRoot, under, Line, Book, Ledger, handleBytes, firstLedger, asked, isStatus, isOk, foundHandle, madeHandle}
 use Rattle.history.specs.Run.{Request, Lent, AllLent, replyTo, State, step, run}
 
 -- ---- the words of the statement
--- a line is in the book
+-- x is a member of a list
 abbrev pub In : {A : Type 0} → A → List A → Type 0
 In x xs = List·Memᴰ x xs
 
@@ -70,6 +70,7 @@ abbrev pub BookPath : Book → List ℕ → List Line → Type 0
 BookPath b h [] = (l : Line) × In l b × (l .handle ≡ h) × (l .standing ≡ asRoot)
 BookPath b h (l ∷ ls) = In l b × (l .handle ≡ h) × ((d : List ℕ) × (text : List ℕ) × (l .standing ≡ under d text) × BookPath b d ls)
 
+-- how many objects are live
 unfoldable pub liveObjects : Store → ℕ
 liveObjects s = count (objects s) (isLive s)
 
@@ -87,7 +88,7 @@ pub data Carries (x : Request) (reply : List ℕ) : List ℕ → Type 0 where
   create : (p : NameIn) (manner : How) → asked (x .call) ≡ some (Call.Create p manner) → Carries x reply (madeHandle reply)
   mkdir : (p : NameIn) (a : Settable) → asked (x .call) ≡ some (Call.Mkdir p a) → Carries x reply (madeHandle reply)
 
--- what replies show: GETATTR's type and size; FSSTAT's free bytes and available objects
+-- what replies show: GETATTR's type and size; FSSTAT's free bytes and available objects, each twice
 abbrev pub shownKind : List ℕ → ℕ
 shownKind reply = beAt reply 28 4
 
@@ -97,15 +98,21 @@ shownSize reply = beAt reply 48 8
 abbrev pub shownFree : List ℕ → ℕ
 shownFree reply = beAt reply 124 8
 
+abbrev pub shownFreeAgain : List ℕ → ℕ
+shownFreeAgain reply = beAt reply 132 8
+
 abbrev pub shownAvailable : List ℕ → ℕ
 shownAvailable reply = beAt reply 148 8
+
+abbrev pub shownAvailableAgain : List ℕ → ℕ
+shownAvailableAgain reply = beAt reply 156 8
 
 -- the object of a handle
 abbrev pub objectIn : List ℕ → ℕ
 objectIn h = beAt h 4 4
 
--- "A place is one of a live file's ceil(size/512) blocks, size as GETATTR answers.": how many there are by the book. That the sizes are those
--- that GETATTR answers is the field `sizes`
+-- the places, a term that document 01 coins: "A place is one of a live file's ceil(size/512) blocks, size as GETATTR answers.". How many there
+-- are, by the book's lines; that the sizes are those that GETATTR answers is the field `sizes`
 unfoldable pub placesIn : Store → Book → ℕ
 placesIn s [] = 0
 placesIn s (l ∷ ls) = bit (eqb (l .kind) REGULAR) * need (sizeOf s (objectIn (l .handle))) + placesIn s ls
@@ -147,7 +154,7 @@ objectsLeft stamp p L = p - (length (L .book) + spentRecords stamp p L)
 
 -- NOSPC exactly where the room is missing; OK where it is not
 pub record AnswersRoom (reply : List ℕ) (missing : Type 0) : Type 0 where
-  pub nospc : (statusIn reply ≡ NOSPC) ↔ missing
+  pub nospc : (isStatus NOSPC reply ≡ true) ↔ missing
   pub ok : (missing → ⊥) → isOk reply ≡ true
 
 -- a file's growth from one size to another asks for more blocks than are left
@@ -161,12 +168,14 @@ RoomMissing σ p q r s L size = (objectsLeft σ p L ≡ 0) ⊎ ((namesLeft q L �
 -- ---- THE STATEMENT
 -- the stamp σ and the counts p, q and r that format was given, and the state after any list of requests
 pub record Kept (σ p q r : ℕ) (w : State) : Type 0 where
+  -- ---- 1. THE CHECK
   -- after the list the store passes its check; stamp and counts are the format's
   pub check : passes (w .store) ≡ true
   pub mark : stamp (w .store) ≡ σ
   pub objectCount : objects (w .store) ≡ p
   pub nameCount : names (w .store) ≡ q
   pub blockCount : blocks (w .store) ≡ r
+  -- ---- 2. THE BOOK'S LINES
   -- "The store's live objects (handle, type) and used names (directory's handle, child's handle, name) are exactly the book's."
   pub objectLines : (h : List ℕ) (kind : ℕ) → StoredObject (w .store) h kind ↔ HasLine (w .ledger .book) h kind
   pub nameLines : (d h text : List ℕ) → StoredName (w .store) d h text ↔ HasName (w .ledger .book) d h text
@@ -180,40 +189,46 @@ pub record Kept (σ p q r : ℕ) (w : State) : Type 0 where
   -- "every handle in an OK reply has a line"
   pub handleLined : (x : Request) → Lent x → (h : List ℕ) → isOk (replyTo (w .store) x) ≡ true → Carries x (replyTo (w .store) x) h
       → (kind : ℕ) × HasLine (step w x .ledger .book) h kind
+  -- ---- 3. PATHS
   -- each live object has exactly one path of stored names from the root, of at most live objects less one steps, in the store
   pub storedPath : (o : ℕ) → o < objects (w .store) → isLive (w .store) o ≡ true → (ns : List ℕ)
       × StoredPath (w .store) o ns × ((ms : List ℕ) → StoredPath (w .store) o ms → ms ≡ ns) × (suc (length ns) ≤ liveObjects (w .store))
   -- "A path leads from line to line, each in the directory before; the root's is empty.": and in the book
   pub bookPath : (h : List ℕ) (kind : ℕ) → HasLine (w .ledger .book) h kind → (ls : List Line)
       × BookPath (w .ledger .book) h ls × ((ks : List Line) → BookPath (w .ledger .book) h ks → ks ≡ ls) × (suc (length ls) ≤ liveObjects (w .store))
+  -- ---- 4. PLACES, FREE BLOCKS, OBJECTS AND NAMES
   -- "A place is one of a live file's ceil(size/512) blocks, size as GETATTR answers.": no block serves two places
   pub onePlace : (i j k l : ℕ) → i < objects (w .store) → j < objects (w .store)
       → isRegular (w .store) i ≡ true → isRegular (w .store) j ≡ true
       → k < need (sizeOf (w .store) i) → l < need (sizeOf (w .store) j)
       → getD (objectAt (w .store) i .blocks) k 0 ≡ getD (objectAt (w .store) j .blocks) l 0 → (i ≡ j) × (k ≡ l)
+  -- the size that GETATTR answers for a live file is that of its record
   pub sizes : (x : Request) (h : Part) → Asks x (Call.Getattr h) → HasLine (w .ledger .book) (cut (x .call) h) REGULAR
       → shownSize (replyTo (w .store) x) ≡ sizeOf (w .store) (objectIn (cut (x .call) h))
   -- "Free blocks are R less the places, FSSTAT's free bytes 512 times that"
   pub placesFit : placesIn (w .store) (w .ledger .book) ≤ r
   pub freeBytes : (x : Request) (h : Part) (kind : ℕ) → Asks x (Call.Fsstat h) → HasLine (w .ledger .book) (cut (x .call) h) kind
       → (isOk (replyTo (w .store) x) ≡ true) × (shownFree (replyTo (w .store) x) ≡ 512 * blocksLeft r (w .store) (w .ledger))
+      × (shownFreeAgain (replyTo (w .store) x) ≡ 512 * blocksLeft r (w .store) (w .ledger))
   -- "available objects P less the live ones and the records whose handle of generation 4,294,967,294 was removed"
   pub objectsFit : length (w .ledger .book) + spentRecords σ p (w .ledger) ≤ p
   pub available : (x : Request) (h : Part) (kind : ℕ) → Asks x (Call.Fsstat h) → HasLine (w .ledger .book) (cut (x .call) h) kind
-      → shownAvailable (replyTo (w .store) x) ≡ objectsLeft σ p (w .ledger)
+      → (shownAvailable (replyTo (w .store) x) ≡ objectsLeft σ p (w .ledger)) × (shownAvailableAgain (replyTo (w .store) x) ≡ objectsLeft σ p (w .ledger))
   -- "free names Q less the lines with a name"
   pub namesFit : namedLines (w .ledger .book) ≤ q
   pub freeNames : freeNameCount (w .store) ≡ namesLeft q (w .ledger)
+  -- ---- 5. HANDLES
   -- "Where no earlier check refuses, GETATTR answers a live handle OK with its type."
   pub live : (x : Request) (h : Part) (kind : ℕ) → Asks x (Call.Getattr h) → HasLine (w .ledger .book) (cut (x .call) h) kind
       → (isOk (replyTo (w .store) x) ≡ true) × (shownKind (replyTo (w .store) x) ≡ kind)
   -- once its line is gone GETATTR answers STALE after any further calls: "its object is live until no line has it, then removed"
   pub stale : (g : List ℕ) → IsRemoved (w .ledger) g → (xs : List Request) → AllLent xs
-      → (x : Request) (h : Part) → Asks x (Call.Getattr h) → cut (x .call) h ≡ g → statusIn (replyTo (run w xs .store) x) ≡ STALE
+      → (x : Request) (h : Part) → Asks x (Call.Getattr h) → cut (x .call) h ≡ g → isStatus STALE (replyTo (run w xs .store) x) ≡ true
   -- it never has another object's line again
   pub neverAgain : (g : List ℕ) → IsRemoved (w .ledger) g → (xs : List Request) → AllLent xs → (kind : ℕ) → HasLine (run w xs .ledger .book) g kind → ⊥
   -- and keeps its type while it has one
   pub sameKind : (g : List ℕ) (i j : ℕ) → HasLine (w .ledger .book) g i → (xs : List Request) → AllLent xs → HasLine (run w xs .ledger .book) g j → i ≡ j
+  -- ---- 6. ROOM
   -- "The earlier checks are those these papers name; a call that passes them, asks for room and has it is answered OK.": and NOSPC is answered
   -- exactly when the room is missing. SETATTR:
   pub setattrRoom : (x : Request) (h : Part) (a : Settable) (g : Guard) (o : ℕ) → Asks x (Call.Setattr h a g)
@@ -227,6 +242,9 @@ pub record Kept (σ p q r : ℕ) (w : State) : Type 0 where
       → 0 < n → offset + min n mostBytes ≤ 8192
       → AnswersRoom (replyTo (w .store) x)
       (BlocksMissing r (w .store) (w .ledger) (sizeOf (w .store) o) (grown (w .store) o offset (min n mostBytes)))
+  -- WRITE of 0 bytes asks for no room:
+  pub writeNothing : (x : Request) (h : Part) (offset : ℕ) (bytes : Part) (o : ℕ) → Asks x (Call.Write h offset 0 bytes)
+      → reachRegular (w .store) (cut (x .call) h) ≡ passed o → 0 ≡ length (cut (x .call) bytes) → isOk (replyTo (w .store) x) ≡ true
   -- CREATE of a new file, UNCHECKED or GUARDED:
   pub createRoom : (x : Request) (target : NameIn) (manner : How) (a : Settable) (d : ℕ) → Asks x (Call.Create target manner)
       → (manner ≡ How.Unchecked a) ⊎ (manner ≡ How.Guarded a)

@@ -1,22 +1,19 @@
 // The entries of a directory in a reply.
-ghost use mathlib.Core.Path.{_≡_};
 ghost use mathlib.Core.List.{[], _∷_};
 ghost use Prim.Native.Nat.{_+_, _<_, _≤_};
 ghost use lib.ListN.{length, take};
 ghost use Rattle.spec.specs.Bytes.{part, padding};
-ghost use Rattle.spec.specs.Image.{names, nameStart};
-ghost use Rattle.spec.specs.Room.{isIn};
+ghost use Rattle.spec.specs.Image.{names};
 ghost use Rattle.spec.specs.Replies.{entryBytes, entriesBytes};
 ghost use Rattle.spec.specs.Procedures.Listing.{entries, entriesAbove};
 ghost use Rattle.image.specs.Shaped.{Shaped, SoundNames};
 ghost use Rattle.xdr.specs.Wrote.{Wrote};
 ghost use Rattle.replies.specs.Writable.{Listable};
 ghost use Rattle.replies.specs.Entries.{entry, dots, entryIn, namedEntries, Sent};
+use find::name::is_in;
 use image::counts::name_count;
 use image::counts::name_start;
-use image::name::is_used_name;
 use image::name::name_child;
-use image::name::name_directory;
 use image::name::name_length;
 use kinds::numbers::NameNumber;
 use kinds::numbers::ObjectNumber;
@@ -29,7 +26,7 @@ pub struct Place {
     pub left: usize,
 }
 
-// entry3, after the word that says that it follows; the name is the len bytes of src from `from`.
+// An entry: the word 1, fileid, name and cookie. The name is the len bytes of src from `from`; `number` is the entry's cookie.
 fn put_entry(
     reply: &mut [u8],
     at: usize,
@@ -51,7 +48,7 @@ fn put_entry(
     put_words(reply, end, &cookie)
 }
 
-// One entry, if it is above the cookie and one more is sent.
+// One entry, if its number is above the cookie of the call and one more is sent.
 fn put_above(
     reply: &mut [u8],
     p: Place,
@@ -82,7 +79,7 @@ fn put_above(
     }
 }
 
-// "." and "..", as far as they are above the cookie.
+// "." and "..", as far as they are above the cookie of the call.
 fn put_dots(
     reply: &mut [u8],
     p: Place,
@@ -100,18 +97,6 @@ fn put_dots(
     put_above(reply, q, parent.0 as u32 + 1, &text, 0, 2, 2, cookie)
 }
 
-// Whether a name record is used, and its name is in a directory.
-fn is_in(store: &[u8], directory: ObjectNumber, n: NameNumber) -> bool
-    requires { ⌜ nameStart (now store) (n .0) + 44 ≤ length (now store) ⌝ }
-    ensures { λ r. ⌜ r ≡ isIn (now (store .entry)) (directory .0) (n .0) ⌝ }
-{
-    let found = name_directory(store, n);
-    if found.0 != directory.0 {
-        return false;
-    }
-    is_used_name(store, n)
-}
-
 // The entry of one name record, if it is in the directory and above the cookie.
 fn put_name(
     reply: &mut [u8],
@@ -127,7 +112,7 @@ fn put_name(
     requires { ⌜ p .at + length (entriesBytes (take (p .left) (entriesAbove cookie (entryIn (now store) (directory .0) (n .0))))) ≤ length (now reply) ⌝ }
     ensures { λ q. ⌜ Sent (entriesAbove cookie (entryIn (now (store .entry)) (directory .0) (n .0))) (now (reply .entry)) (now (reply .exit)) p q ⌝ }
 {
-    if !is_in(store, directory, n) {
+    if !is_in(store, n, directory) {
         return p;
     }
     let fileid = name_child(store, n).0 as u32 + 1;

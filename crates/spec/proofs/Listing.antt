@@ -1,7 +1,7 @@
 -- The entries of a listing and their bytes, over lists joined. Assumes nothing.
 use mathlib.Core.Path.{_≡_, refl, sym, ap, _∙_}
 use mathlib.Core.Bool.{Bool, true, false, cond}
-use mathlib.Core.List.{List, [], _∷_, _++_, map, append-assoc}
+use mathlib.Core.List.{List, [], _∷_, _++_, map, map-append, append-assoc}
 use Prim.Native.Nat.{ℕ, zero, suc, _+_, _-_, _*_, _≤_, _<_}
 use native.Mathlib.Omega.{arith}
 use native.Mathlib.Numerals.{add-one}
@@ -43,10 +43,6 @@ pub taken-bytes : (n : ℕ) (xs ys : List Entry) → entriesBytes (take n (xs ++
 taken-bytes n xs ys = ap entriesBytes (take-both n xs ys) ∙ bytes-append (take n xs) (take (n - length xs) ys)
 
 -- ---- what the numbers that pass give, one more and all that follow
-map-append : {A B : Type 0} (f : A → B) (xs ys : List A) → map f (xs ++ ys) ≡ map f xs ++ map f ys
-map-append f [] ys = refl
-map-append f (x ∷ xs) ys = ap (λ (l : List _). f x ∷ l) (map-append f xs ys)
-
 module _ {A : Type 0} (f : ℕ → A) (p : ℕ → Bool) where
   pub passing-more : (n : ℕ) → map f (passing (n + 1) p) ≡ map f (passing n p) ++ map f (cond (p n) (n ∷ []) [])
   unfolding passing

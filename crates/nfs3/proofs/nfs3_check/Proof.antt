@@ -3,29 +3,21 @@ use Rattle.nfs3.proofs.Answered.{answer-bad, answer-good}
 use borrow.Author.Needs.{needs}
 use Rattle.nfs3.proofs.nfs3_check.Statement.{statement}
 use Rattle.nfs3.proofs.nfs3_check.Tie as tie
-use Rattle.nfs3.proofs.nfs3_check.Reads as reads
-use Rattle.nfs3.proofs.nfs3_check.Lts as lts
-use Rattle.fsck.proofs.check.check_store.Reads as check-store-reads
 
--- src/lib.rt:16:9
 check-store-requires : tie.Need-check-store-requires
 check-store-requires c κs = search needs
 
--- src/lib.rt:18:23
 enum-told : tie.Need-enum-told
 enum-told c = search needs
 
--- src/lib.rt:22:27
 enum-told-2 : tie.Need-enum-told-2
 enum-told-2 c = search needs
 
--- src/lib.rt:10:1
 returns : tie.Need-returns
 returns c =
     let s = c .before .before .before .before .before .before .args .store .now in
     answer-bad s (sym (c .enum-told .given .1) ∙ c .before .before .check-store .ensures .is)
 
--- src/lib.rt:10:1
 returns-2 : tie.Need-returns-2
 returns-2 c =
     let s = c .before .before .before .before .before .before .args .store .now in

@@ -28,4 +28,5 @@ returns : tie.Need-returns
 returns c = andThen (andWords _ _ (c .before .before .before .before .before .before .before .before .before .before .before .before .put-failed .ensures) (rw (c .before .before .before .before .before .before .before .before .before .flag .ensures) at (c .before .before .before .before .before .before .put-words .ensures))) (c .before .before .put-file-bytes .ensures)
 
 pub put-got-bytes-spec : {M : Type 1} → statement M
-put-got-bytes-spec = tie.close (tie.spec put-failed-requires cast-t15 flag-requires slice-aggregate-put-words put-words-requires put-file-bytes-requires same-length returns)
+put-got-bytes-spec =
+    tie.close (tie.spec put-failed-requires cast-t15 flag-requires slice-aggregate-put-words put-words-requires put-file-bytes-requires same-length returns)

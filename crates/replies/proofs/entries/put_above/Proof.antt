@@ -8,15 +8,18 @@ use Rattle.replies.proofs.entries.put_above.Statement.{statement}
 use Rattle.replies.proofs.entries.put_above.Tie as tie
 
 returns : tie.Need-returns
-returns c = let a = c .before .before .before .args in
+returns c =
+    let a = c .before .before .before .args in
     rw (above-low (a .cookie) (entry (a .fileid) (part (a .src .now) (a .from) (a .len)) (a .number)) (c .if1 .taken)) (sent-none (a .reply .now) (a .p) (omega arith))
 
 returns-2 : tie.Need-returns-2
-returns-2 c = let a = c .before .before .before .before .args in
+returns-2 c =
+    let a = c .before .before .before .before .args in
     sent-full _ (a .reply .now) (a .p) (c .if2 .taken) (omega arith)
 
 put-entry-requires : tie.Need-put-entry-requires
-put-entry-requires c κs = let a = c .before .before .before .before .before .args in
+put-entry-requires c κs =
+    let a = c .before .before .before .before .before .args in
     let e = one-cost (a .p) (a .cookie) (entry (a .fileid) (part (a .src .now) (a .from) (a .len)) (a .number)) (c .before .before .if1 .left) (omega arith) in
     let l = part-length (a .src .now) (a .from) (a .len) (omega arith) in
     (omega arith, (omega arith, omega (arith, rw l at e)))
@@ -28,7 +31,8 @@ same-length : tie.Need-same-length
 same-length c = search needs
 
 returns-3 : tie.Need-returns-3
-returns-3 c = let a = c .before .before .before .before .before .before .before .before .args in
+returns-3 c =
+    let a = c .before .before .before .before .before .before .before .before .args in
     rw (above-high (a .cookie) (entry (a .fileid) (part (a .src .now) (a .from) (a .len)) (a .number)) (c .before .before .before .before .before .if1 .left)) (sent-one (entry (a .fileid) (part (a .src .now) (a .from) (a .len)) (a .number)) (a .p) (omega arith) (c .before .before .put-entry .ensures))
 
 pub put-above-spec : {M : Type 1} → statement M

@@ -8,7 +8,8 @@ use Rattle.replies.proofs.entries.put_entries.Statement.{statement}
 use Rattle.replies.proofs.entries.put_entries.Tie as tie
 
 put-dots-requires : tie.Need-put-dots-requires
-put-dots-requires c κs = let a = c .before .before .before .args in
+put-dots-requires c κs =
+    let a = c .before .before .before .args in
     let g = c .before .before .before .pre .0 in (
       omega (arith, g .directory, g .shaped .few-objects),
       (
@@ -18,7 +19,8 @@ put-dots-requires c κs = let a = c .before .before .before .args in
     )
 
 put-names-requires : tie.Need-put-names-requires
-put-names-requires c κs = let a = c .before .before .before .before .before .before .before .args in
+put-names-requires c κs =
+    let a = c .before .before .before .before .before .before .before .args in
     let g = c .before .before .before .before .before .before .before .pre .0 in
     (g .shaped, (g .names, rest-room (entriesAbove (a .cookie) (dots (a .directory .0) (a .parent .0))) (entriesAbove (a .cookie) (namedEntries (a .store .now) (a .directory .0) (names (a .store .now)))) (c .before .before .before .put-dots .ensures) (rw (above-entries (a .store .now) (a .cookie) (a .directory .0) (a .parent .0) (g .parent)) at (c .before .before .before .before .before .before .before .pre .1))))
 
@@ -26,7 +28,8 @@ same-length : tie.Need-same-length
 same-length c = search needs
 
 returns : tie.Need-returns
-returns c = let a = c .before .before .before .before .before .before .before .before .before .before .args in
+returns c =
+    let a = c .before .before .before .before .before .before .before .before .before .before .args in
     let g = c .before .before .before .before .before .before .before .before .before .before .pre .0 in
     rw (above-entries (a .store .now) (a .cookie) (a .directory .0) (a .parent .0) (g .parent)) (sent-append (entriesAbove (a .cookie) (dots (a .directory .0) (a .parent .0))) (entriesAbove (a .cookie) (namedEntries (a .store .now) (a .directory .0) (names (a .store .now)))) (c .before .before .before .before .before .before .put-dots .ensures) (c .before .before .put-names .ensures) .wrote)
 

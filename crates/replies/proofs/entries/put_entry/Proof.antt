@@ -29,7 +29,8 @@ same-length c = search needs
 
 returns : tie.Need-returns
 unfolding entryBytes
-returns c = let a = c .before .before .before .before .before .before .before .before .before .before .before .before .before .before .before .before .args in
+returns c =
+    let a = c .before .before .before .before .before .before .before .before .before .before .before .before .before .before .before .before .args in
     let n = a .len + padding (a .len) in
     let e : 24 + n ≡ 12 + (4 + a .len + padding (a .len)) + 8 = omega arith in
     rw (e, hyper-small (a .fileid) (omega arith), hyper-small (a .number) (omega arith))

@@ -29,14 +29,16 @@ part-put-words-end : tie.Need-part-put-words-end
 part-put-words-end c = omega (arith, small (c .before .before .before .before .before .before))
 
 put-words-requires : tie.Need-put-words-requires
-put-words-requires c κs = let n = c .before .before .before .before .before .before .before .zero-words .result in
+put-words-requires c κs =
+    let n = c .before .before .before .before .before .before .before .zero-words .result in
     omega (arith, small (c .before .before .before .before .before .before .before), length-take {A = ℕ} (n - 0) (0 ∷ 0 ∷ 0 ∷ 0 ∷ []))
 
 same-length : tie.Need-same-length
 same-length c = search needs
 
 returns : tie.Need-returns
-returns c = let z = c .before .before .before .before .before .before .before .before .before .before in
+returns c =
+    let z = c .before .before .before .before .before .before .before .before .before .before in
     let n = z .zero-words .result in
     let e : n - 0 ≡ n = omega arith in
     let last = rw (e, take-zeros n 4 (small z), length-replicate, z .zero-words .ensures) at (c .before .before .put-words .ensures) in

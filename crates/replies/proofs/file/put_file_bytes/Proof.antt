@@ -30,10 +30,12 @@ same-length c = search needs
 
 returns : tie.Need-returns
 unfolding opaqueBytes
-returns c = let a = c .before .before .before .before .before .before .before .before .before .before .before .before .before .before .before .args in
+returns c =
+    let a = c .before .before .before .before .before .before .before .before .before .before .before .before .before .before .before .args in
     let l = readFile-length (a .store .now) (a .o .0) (a .offset) (a .n) in
     let z = wrote-over (c .before .before .clear-bytes .ensures) (length-replicate (c .before .before .before .before .padding .result) 0) (omega arith) in
     rw (l, ← c .before .before .before .before .padding .ensures) (andThen (andThen (c .before .before .before .before .before .before .before .before .before .before .before .put-word .ensures) (c .before .before .before .before .before .before .before .put-runs .ensures)) z)
 
 pub put-file-bytes-spec : {M : Type 1} → statement M
-put-file-bytes-spec = tie.close (tie.spec cast-put-word put-word-requires put-runs-requires padding-requires clear-bytes-requires add-result same-length returns)
+put-file-bytes-spec =
+    tie.close (tie.spec cast-put-word put-word-requires put-runs-requires padding-requires clear-bytes-requires add-result same-length returns)

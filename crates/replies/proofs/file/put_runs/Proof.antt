@@ -20,11 +20,13 @@ abbrev μ-loop : tie.MeasureT-loop
 μ-loop reply₀ at store o offset n done₀ next₀ reply done next = n - done
 
 loop-holds : tie.Need-loop-holds Inv-loop μ-loop
-loop-holds c = let a = c .before .before .args in
+loop-holds c =
+    let a = c .before .before .args in
     (omega arith, rw (readFile-none (a .store .now) (a .o .0) (a .offset)) (wrote-none (a .reply .now) (a .at) (omega arith)), refl)
 
 add-i : tie.Need-add-i Inv-loop μ-loop
-add-i c = let f = c .before .before .before .before .pre .0 in
+add-i c =
+    let f = c .before .before .before .before .pre .0 in
     omega (arith, f .left, f .file .size)
 
 sub-run-length : tie.Need-sub-run-length Inv-loop μ-loop
@@ -34,14 +36,16 @@ run-length-requires : tie.Need-run-length-requires Inv-loop μ-loop
 run-length-requires c κs = search needs
 
 byte-at-requires : tie.Need-byte-at-requires Inv-loop μ-loop
-byte-at-requires c κs = let a = c .before .before .before .before .before .args in
+byte-at-requires c κs =
+    let a = c .before .before .before .before .before .args in
     let l = c .before .before .loop in
     let f = c .before .before .before .before .before .pre .0 in
     let h : a .offset + l .done < sizeOf (a .store .now) (a .o .0) = omega (arith, f .left) in
     (f .file .start, (omega (arith, f .file .size), omega (arith, run-in (a .store .now) (a .o .0) (a .offset + l .done) 1 (f .file) h (omega arith))))
 
 put-bytes-requires : tie.Need-put-bytes-requires Inv-loop μ-loop
-put-bytes-requires c κs = let a = c .before .before .before .before .before .before .before .args in
+put-bytes-requires c κs =
+    let a = c .before .before .before .before .before .before .before .args in
     let l = c .before .before .before .before .loop in
     let f = c .before .before .before .before .before .before .before .pre .0 in
     let h : a .offset + l .done < sizeOf (a .store .now) (a .o .0) = omega (arith, f .left) in
@@ -55,7 +59,8 @@ loop-less : tie.Need-loop-less Inv-loop μ-loop
 loop-less c = omega (arith, c .before .before .before .before .before .run-length .ensures)
 
 loop-again : tie.Need-loop-again Inv-loop μ-loop
-loop-again c = let a = c .before .before .before .before .before .before .before .before .before .before .args in
+loop-again c =
+    let a = c .before .before .before .before .before .before .before .before .before .before .args in
     let l = c .before .before .before .before .before .before .before .loop in
     let f = c .before .before .before .before .before .before .before .before .before .before .pre .0 in
     let h : a .offset + l .done < sizeOf (a .store .now) (a .o .0) = omega (arith, f .left) in
@@ -71,9 +76,11 @@ same-length : tie.Need-same-length Inv-loop μ-loop
 same-length c = c .before .loop .inv .2
 
 returns : tie.Need-returns Inv-loop μ-loop
-returns c = let a = c .before .before .before .before .args in
+returns c =
+    let a = c .before .before .before .before .args in
     let e : c .before .loop .done ≡ a .n = omega arith in
     rw e at (c .before .loop .inv .1)
 
 pub put-runs-spec : {M : Type 1} → statement M
-put-runs-spec = tie.close (tie.spec Inv-loop μ-loop loop-holds add-i sub-run-length run-length-requires byte-at-requires put-bytes-requires add-done loop-less loop-again same-length returns)
+put-runs-spec =
+    tie.close (tie.spec Inv-loop μ-loop loop-holds add-i sub-run-length run-length-requires byte-at-requires put-bytes-requires add-done loop-less loop-again same-length returns)

@@ -108,7 +108,8 @@ same-length c = search needs
 
 returns : tie.Need-returns
 unfolding accepted resultBytes
-returns c = let a = c .before .before .before .before .before .before .before .before .args in
+returns c =
+    let a = c .before .before .before .before .before .before .before .before .args in
     rw (c .enum-told .given .1) (sized _ (andThen (c .before .before .before .before .put-accepted .ensures) (wrote-none _ (c .before .before .before .before .put-accepted .result) (omega arith))))
 
 same-length-2 : tie.Need-same-length-2
@@ -217,4 +218,5 @@ unfolding accepted resultBytes
 returns-16 c = rw (c .before .before .before .before .before .r15 .given .1) (sized _ (andThen (c .before .before .before .before .before .before .before .before .before .put-accepted .ensures) (c .before .before .put-committed .ensures)))
 
 pub put-result-spec : {M : Type 1} → statement M
-put-result-spec = tie.close (tie.spec put-accepted-requires enum-told enum-known-r put-dead-requires enum-known-r-2 put-failed-requires enum-known-r-3 put-changed-requires enum-known-r-4 put-renamed-requires enum-known-r-5 put-got-attributes-requires enum-known-r-6 put-found-requires enum-known-r-7 put-granted-requires enum-known-r-8 put-got-bytes-requires enum-known-r-9 put-wrote-requires enum-known-r-10 put-created-requires enum-known-r-11 put-listed-requires enum-known-r-12 put-got-room-requires enum-known-r-13 put-got-limits-requires enum-known-r-14 put-got-naming-requires enum-known-r-15 put-committed-requires same-length returns same-length-2 returns-2 same-length-3 returns-3 same-length-4 returns-4 same-length-5 returns-5 same-length-6 returns-6 same-length-7 returns-7 same-length-8 returns-8 same-length-9 returns-9 same-length-10 returns-10 same-length-11 returns-11 same-length-12 returns-12 same-length-13 returns-13 same-length-14 returns-14 same-length-15 returns-15 same-length-16 returns-16)
+put-result-spec =
+    tie.close (tie.spec put-accepted-requires enum-told enum-known-r put-dead-requires enum-known-r-2 put-failed-requires enum-known-r-3 put-changed-requires enum-known-r-4 put-renamed-requires enum-known-r-5 put-got-attributes-requires enum-known-r-6 put-found-requires enum-known-r-7 put-granted-requires enum-known-r-8 put-got-bytes-requires enum-known-r-9 put-wrote-requires enum-known-r-10 put-created-requires enum-known-r-11 put-listed-requires enum-known-r-12 put-got-room-requires enum-known-r-13 put-got-limits-requires enum-known-r-14 put-got-naming-requires enum-known-r-15 put-committed-requires same-length returns same-length-2 returns-2 same-length-3 returns-3 same-length-4 returns-4 same-length-5 returns-5 same-length-6 returns-6 same-length-7 returns-7 same-length-8 returns-8 same-length-9 returns-9 same-length-10 returns-10 same-length-11 returns-11 same-length-12 returns-12 same-length-13 returns-13 same-length-14 returns-14 same-length-15 returns-15 same-length-16 returns-16)

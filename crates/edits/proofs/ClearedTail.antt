@@ -1,0 +1,20 @@
+-- The tail of a file's last block lies in the store. Assumes nothing.
+use Prim.Native.Nat.{ℕ, _+_, _-_, _/_, _%_, _≤_, _<_}
+use mathlib.Core.Logic.{_≢_}
+use mathlib.Core.Path.{_≡_}
+use native.Mathlib.Omega.{arith}
+use lib.ListN.{length}
+use Rattle.kinds.specs.Numbers.{REGULAR}
+use Rattle.spec.specs.Image.{Store, objects, blocks, objectAt}
+use Rattle.spec.specs.Room.{sizeOf, byteAt}
+use Rattle.spec.proofs.GoodRecords.{GoodRecords, live-at}
+use Rattle.spec.proofs.Valid.{live-size}
+
+pub tail-fits : (s : Store) (o start : ℕ) → GoodRecords s → o < objects s → objectAt s o .kind ≡ REGULAR → start ≤ sizeOf s o → start % 512 ≢ 0
+    → (start < 8192) × (byteAt s o start + (512 - start % 512) ≤ length s)
+unfolding byteAt sizeOf
+tail-fits s o start g l k h d =
+    let v = live-at s g o l (omega arith) in
+    let r = v .held (start / 512) (omega arith) in
+    let w = g .sound .shaped in
+    (omega (arith, live-size (blocks s) (objectAt s o) v), omega arith)

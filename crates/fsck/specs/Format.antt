@@ -1,0 +1,27 @@
+-- Format's answer, and what it leaves.
+use Prim.Native.Nat.{ℕ, _-_}
+use mathlib.Core.Path.{_≡_}
+use mathlib.Core.Bool.{cond}
+use mathlib.Core.List.{List}
+use lib.Dec.{eqb, ltb}
+use lib.ListN.{length}
+use Rattle.kinds.specs.Objects.{rootObject}
+use Rattle.kinds.specs.declared.object.Time.{Time}
+use Rattle.spec.specs.Bytes.{overlay, zeros, bytesOf}
+use Rattle.spec.specs.Image.{Store, putObject}
+use Rattle.spec.specs.Check.{goodCounts, imageLength}
+use Rattle.spec.specs.Serve.{Formatted}
+
+-- 3, then 6, then 0
+unfoldable pub answerFor : ℕ → ℕ → ℕ → ℕ → ℕ → ℕ
+answerFor length p q r nanoseconds = cond (ltb nanoseconds 1000000000) (cond (goodCounts p q r) (cond (eqb length (imageLength p q r)) 0 6) 6) 3
+
+-- the volume, the number of objects and the root, and all else zero
+unfoldable pub frontOf : Store → ℕ → ℕ → Time → Store
+frontOf s stamp p clock =
+    overlay (putObject (overlay (overlay (overlay s 0 (bytesOf 4 1)) 4 (bytesOf 4 stamp)) 8 (bytesOf 4 p)) 0 (rootObject clock)) 92 (zeros (length s - 92))
+
+-- a number and a buffer are what format gives
+pub record Leaves (f : Formatted) (number : ℕ) (store : List ℕ) : Type 0 where
+  pub answers : number ≡ f .number
+  pub leaves : store ≡ f .store

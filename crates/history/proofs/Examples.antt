@@ -1,0 +1,43 @@
+-- The book over bytes, by computation: a file is made, a request is refused, the file is renamed and removed, and its handle is stale.
+use Prim.Native.Nat.{ℕ}
+use mathlib.Core.Path.{_≡_, refl}
+use mathlib.Core.List.{List, [], _∷_}
+use Rattle.spec.proofs.Setting.{context, space, fresh, getattrCall, createCall, removeCall, renameCall, nameA, nameB, computing}
+use Rattle.history.specs.Book.{Line, asRoot, under, handleBytes, firstLedger, someAt, add, strikeLines, strike, moveLine, moveLines, move, asked, statusIn, isOk, noted, note}
+use Rattle.history.specs.Run.{Request, State, replyTo, step, run}
+
+-- a request with this call, and one whose reply space is too short
+abbrev request : List ℕ → Request
+request call = record { call = call; context = context; space = space }
+
+abbrev refusedRequest : Request
+refusedRequest = record { call = createCall nameA; context = context; space = [] }
+
+-- a store of stamp 9 with two objects and one name
+abbrev start : State
+start = record { store = fresh 2 1 0; ledger = firstLedger 9 }
+
+abbrev root : List ℕ
+root = handleBytes 9 0 0
+
+abbrev file : List ℕ
+file = handleBytes 9 1 0
+
+abbrev rootLine : Line
+rootLine = record { handle = root; kind = 2; standing = asRoot }
+
+abbrev fileLine : List ℕ → Line
+fileLine name = record { handle = file; kind = 1; standing = under root name }
+
+abbrev removed : State
+removed = run start (request (createCall nameA) ∷ request (removeCall nameA) ∷ [])
+
+pub record Examples : Type 0 where
+  pub made : run start (refusedRequest ∷ request (createCall nameA) ∷ []) .ledger .book ≡ fileLine nameA ∷ rootLine ∷ []
+  pub renamed : run start (request (createCall nameA) ∷ request (renameCall 0 nameA 0 nameB) ∷ []) .ledger .book ≡ fileLine nameB ∷ rootLine ∷ []
+  pub struck : removed .ledger ≡ record { book = rootLine ∷ []; given = file ∷ root ∷ [] }
+  pub stale : statusIn (replyTo (removed .store) (request (getattrCall 1))) ≡ 70
+
+pub examples : Examples
+unfolding computing someAt add strikeLines strike moveLine moveLines move asked isOk noted note replyTo step run
+examples = record { made = refl; renamed = refl; struck = refl; stale = refl }

@@ -1,0 +1,44 @@
+use borrow.Author.Needs.{needs}
+use Rattle.spec.specs.Procedures.{cut}
+use Rattle.spec.specs.Procedures.Names.{lookup}
+use Rattle.reads.proofs.Found.{looked-below}
+use Rattle.reads.proofs.lookup.lookup.Statement.{statement}
+use Rattle.reads.proofs.lookup.lookup.Tie as tie
+
+check-lookup-requires : tie.Need-check-lookup-requires
+check-lookup-requires c κs = search needs
+
+enum-known-looked : tie.Need-enum-known-looked
+enum-known-looked c = search needs
+
+found-in-requires : tie.Need-found-in-requires
+found-in-requires c κs = let st = c .before .before .before .before .before .before .before in
+    let a = st .args in
+    let b = looked-below (a .store .now) (st .pre .0) (cut (a .call .now) (a .p .directory)) (cut (a .call .now) (a .p .name)) _ _ _ (c .before .looked .given .1) (c .before .before .before .check-lookup .ensures) in
+    (st .pre .0, (b .0, b .1))
+
+enum-known-looked-2 : tie.Need-enum-known-looked-2
+enum-known-looked-2 c = search needs
+
+fail-showing-requires : tie.Need-fail-showing-requires
+fail-showing-requires c κs = search needs
+
+returns : tie.Need-returns
+unfolding lookup
+returns c = rw (← c .before .before .before .before .check-lookup .ensures, c .before .before .looked .given .1) (c .found-in .ensures)
+
+returns-2 : tie.Need-returns-2
+unfolding lookup
+returns-2 c = rw (← c .before .before .before .before .check-lookup .ensures, c .before .before .looked2 .given .1) (c .fail-showing .ensures)
+
+pub lookup-spec : {M : Type 1} → statement M
+lookup-spec =
+    tie.close
+    (tie.spec
+    check-lookup-requires
+    enum-known-looked
+    found-in-requires
+    enum-known-looked-2
+    fail-showing-requires
+    returns
+    returns-2)

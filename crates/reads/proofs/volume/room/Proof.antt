@@ -1,0 +1,54 @@
+use native.Mathlib.Omega.{arith}
+use borrow.Author.Needs.{needs}
+use Rattle.reads.proofs.Few.{free-few, available-few}
+use Rattle.reads.proofs.volume.room.Statement.{statement}
+use Rattle.reads.proofs.volume.room.Tie as tie
+
+block-count-requires : tie.Need-block-count-requires
+block-count-requires c κs = search needs
+
+mul-total : tie.Need-mul-total
+mul-total c = search needs
+
+mul-unused : tie.Need-mul-unused
+mul-unused c = omega (arith, free-few (c .before .before .args .store .now))
+
+object-count-requires : tie.Need-object-count-requires
+object-count-requires c κs = search needs
+
+available-count-requires : tie.Need-available-count-requires
+available-count-requires c κs = search needs
+
+attributes-requires : tie.Need-attributes-requires
+attributes-requires c κs = search needs
+
+cast-t10 : tie.Need-cast-t10
+cast-t10 c = search needs
+
+cast-t11 : tie.Need-cast-t11
+cast-t11 c = omega (arith, free-few (c .before .before .before .before .before .args .store .now))
+
+cast-t12 : tie.Need-cast-t12
+cast-t12 c = search needs
+
+cast-t13 : tie.Need-cast-t13
+cast-t13 c = omega (arith, available-few (c .before .before .before .before .before .args .store .now))
+
+returns : tie.Need-returns
+returns c = rw (c .attributes .ensures, ← c .before .available-count .ensures, ← c .before .before .object-count .ensures, ← c .before .before .before .block-count .ensures, ← c .before .before .before .before .before .pre .1 .1)
+
+pub room-spec : {M : Type 1} → statement M
+room-spec =
+    tie.close
+    (tie.spec
+    block-count-requires
+    mul-total
+    mul-unused
+    object-count-requires
+    available-count-requires
+    attributes-requires
+    cast-t10
+    cast-t11
+    cast-t12
+    cast-t13
+    returns)

@@ -1,0 +1,31 @@
+-- Parts of the procedures' definitions, and what an answer of the code stands for.
+use Prim.Native.Nat.{ℕ, _*_}
+use mathlib.Core.List.{List}
+use Rattle.spec.specs.Checked.{Checked, _>>=_, _>>_, refused, passed}
+use Rattle.spec.specs.Handles.{handleOf, checkName, attributes}
+use Rattle.spec.specs.Image.{Store, blockLength, objects, blocks}
+use Rattle.spec.specs.Procedures.Names.{lookIn}
+use Rattle.spec.specs.Results.{Result, found, gotRoom}
+use Rattle.spec.specs.Room.{freeBlockCount, availableCount}
+use Rattle.reads.specs.declared.lookup.Looked.{Looked}
+use Rattle.reads.specs.declared.lookup.Looked.the-variants as Looked
+
+-- FSSTAT, of an object that was reached
+abbrev pub roomOf : Store → ℕ → Result
+roomOf s o = gotRoom (attributes s o) (blockLength * blocks s) (blockLength * freeBlockCount s) (objects s) (availableCount s)
+
+-- LOOKUP, of the directory and the object that was found
+abbrev pub foundOf : Store → ℕ → ℕ → Result
+foundOf s d o = found (handleOf s o) (attributes s o) (attributes s d)
+
+-- LOOKUP's checks once the directory is known
+abbrev pub checkIn : Store → ℕ → List ℕ → Checked (ℕ × ℕ)
+checkIn s d text = do
+  checkName text
+  o ← lookIn s d text
+  passed (d, o)
+
+-- the directory and the object, or the status
+abbrev pub lookedOf : Looked → Checked (ℕ × ℕ)
+lookedOf (Looked.At d o) = passed (d .0, o .0)
+lookedOf (Looked.Refused status) = refused (status .0)

@@ -1,0 +1,80 @@
+// FSSTAT, FSINFO and PATHCONF.
+ghost use mathlib.Core.Path.{_≡_};
+ghost use Prim.Native.Nat.{_+_, _≤_, _<_};
+ghost use lib.ListN.{length};
+ghost use Rattle.spec.specs.Image.{objects};
+ghost use Rattle.spec.specs.Procedures.{cut};
+ghost use Rattle.spec.specs.Procedures.Volume.{fsstat, fsinfo, pathconf};
+ghost use Rattle.spec.specs.Room.{freeBlockCount};
+ghost use Rattle.spec.proofs.GoodRecords.{GoodRecords};
+ghost use Rattle.results.specs.Meaning.{resultOf};
+ghost use Rattle.reads.specs.Parts.{roomOf};
+use files::failure::fail_showing;
+use files::handle::Reached;
+use files::handle::reach;
+use files::shown::attributes;
+use find::object::available_count;
+use image::counts::block_count;
+use image::counts::object_count;
+use kinds::call::Part;
+use kinds::numbers::Limit;
+use kinds::numbers::ObjectNumber;
+use results::Reply;
+
+// The room of a store with so many free blocks.
+fn room(store: &[u8], o: ObjectNumber, free: usize) -> Reply
+    requires { ⌜ GoodRecords (now store) ⌝ }
+    requires { ⌜ o .0 < objects (now store) ⌝ }
+    requires { ⌜ free ≡ freeBlockCount (now store) ⌝ }
+    ensures { λ r. ⌜ resultOf (now (store .entry)) r ≡ roomOf (now (store .entry)) (o .0) ⌝ }
+{
+    let total = Limit::BLOCK_BYTES * block_count(store);
+    let unused = Limit::BLOCK_BYTES * free;
+    let all = object_count(store);
+    let available = available_count(store);
+    let shown = attributes(store, o);
+    Reply::GotRoom(
+        shown,
+        total as u32,
+        unused as u32,
+        all as u32,
+        available as u32,
+    )
+}
+
+pub fn fsstat(store: &[u8], call: &[u8], h: Part, free: usize) -> Reply
+    requires { ⌜ GoodRecords (now store) ⌝ }
+    requires { ⌜ h .start + h .length ≤ length (now call) ⌝ }
+    requires { ⌜ free ≡ freeBlockCount (now store) ⌝ }
+    ensures { λ r. ⌜ resultOf (now (store .entry)) r ≡ fsstat (now (store .entry)) (cut (now (call .entry)) h) .result ⌝ }
+{
+    let answer = reach(store, call, h);
+    match answer {
+        Reached::At(o) => room(store, o, free),
+        Reached::Refused(status) => fail_showing(store, call, h, status),
+    }
+}
+
+pub fn fsinfo(store: &[u8], call: &[u8], h: Part) -> Reply
+    requires { ⌜ GoodRecords (now store) ⌝ }
+    requires { ⌜ h .start + h .length ≤ length (now call) ⌝ }
+    ensures { λ r. ⌜ resultOf (now (store .entry)) r ≡ fsinfo (now (store .entry)) (cut (now (call .entry)) h) .result ⌝ }
+{
+    let answer = reach(store, call, h);
+    match answer {
+        Reached::At(o) => Reply::GotLimits(attributes(store, o)),
+        Reached::Refused(status) => fail_showing(store, call, h, status),
+    }
+}
+
+pub fn pathconf(store: &[u8], call: &[u8], h: Part) -> Reply
+    requires { ⌜ GoodRecords (now store) ⌝ }
+    requires { ⌜ h .start + h .length ≤ length (now call) ⌝ }
+    ensures { λ r. ⌜ resultOf (now (store .entry)) r ≡ pathconf (now (store .entry)) (cut (now (call .entry)) h) .result ⌝ }
+{
+    let answer = reach(store, call, h);
+    match answer {
+        Reached::At(o) => Reply::GotNaming(attributes(store, o)),
+        Reached::Refused(status) => fail_showing(store, call, h, status),
+    }
+}
