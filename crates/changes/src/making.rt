@@ -10,8 +10,12 @@ ghost use Rattle.spec.specs.Procedures.Attributes.{isGiven, sizeSet, badAttribu
 ghost use Rattle.spec.specs.Procedures.Names as names;
 ghost use Rattle.spec.specs.Procedures.Names.{roomForNew, isNew, checkExisting, checkAttributed, checkHow, checkCreate, checkMkdir};
 ghost use Rattle.spec.proofs.GoodRecords.{GoodRecords};
-ghost use Rattle.files.specs.Meaning.{reachedOf, textOf};
-ghost use Rattle.changes.specs.Meaning.{NewName, roomOf, targetOf, createOf, mkdirOf, statusOf};
+ghost use Rattle.files.specs.Meaning.{textOf};
+ghost use Rattle.changes.specs.Meaning.{NewName, targetOf, createOf, mkdirOf};
+use crate::answers::reached_status;
+use crate::answers::room_status;
+use crate::answers::target_status;
+use crate::answers::text_status;
 use crate::room::RoomChecked;
 use crate::room::lacks_room_for_size;
 use crate::room::room_for_new;
@@ -57,43 +61,6 @@ pub enum CreateChecked {
 pub enum MkdirChecked {
     At(ObjectNumber, ObjectNumber, NameNumber),
     Refused(Status),
-}
-
-// The status of a refusal.
-fn reached_status(answer: Reached) -> Status
-    ensures { λ r. ⌜ r .0 ≡ statusOf (reachedOf answer) ⌝ }
-{
-    match answer {
-        Reached::At(_) => Status::OK,
-        Reached::Refused(status) => status,
-    }
-}
-
-fn text_status(answer: TextChecked) -> Status
-    ensures { λ r. ⌜ r .0 ≡ statusOf (textOf answer) ⌝ }
-{
-    match answer {
-        TextChecked::Good => Status::OK,
-        TextChecked::Refused(status) => status,
-    }
-}
-
-fn room_status(answer: RoomChecked) -> Status
-    ensures { λ r. ⌜ r .0 ≡ statusOf (roomOf answer) ⌝ }
-{
-    match answer {
-        RoomChecked::At(_, _) => Status::OK,
-        RoomChecked::Refused(status) => status,
-    }
-}
-
-fn target_status(answer: TargetChecked) -> Status
-    ensures { λ r. ⌜ r .0 ≡ statusOf (targetOf answer) ⌝ }
-{
-    match answer {
-        TargetChecked::At(_) => Status::OK,
-        TargetChecked::Refused(status) => status,
-    }
 }
 
 // A name to be made: a bad name's status, EXIST for "." and "..", then INVAL for attributes that are not valid.
