@@ -81,7 +81,8 @@ pub fn write(
     let Reached::At(o) = answer else {
         return fail_changing(store, call, h, reached_status(answer));
     };
-    let n = transferred(count as usize);
+    let wanted = count as usize;
+    let n = transferred(wanted);
     if n == 0 {
         let same = unchanged(store, o);
         return Reply::Wrote(same, 0, context.verifier);
@@ -98,5 +99,6 @@ pub fn write(
         n,
     );
     let shown = change_from(earlier, store, o);
-    Reply::Wrote(shown, n as u32, context.verifier)
+    let written = n as u32;
+    Reply::Wrote(shown, written, context.verifier)
 }

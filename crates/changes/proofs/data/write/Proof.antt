@@ -94,8 +94,8 @@ change-from-requires c κs =
     let l = written-left (st .args .call .now) (st .args .bytes) (c .before .before .before .before .before .before .before .before .transferred .result) (st .args .store .now) (st .args .context) (st .pre .0 .valid) (st .pre .0 .bytes) (st .pre .0 .clock) (λ k. c .before .before .before .before .before .before .before .before .before .before .before .before .before .before .shared-slice-known .given k .fits) (st .args .h) (st .args .offset) (st .args .count) _ e (c .before .before .before .before .before .before .before .before .transferred .ensures) (c .before .before .before .before .before .before .before .if1 .left) few (st .pre .1 .1) in
     (rw (c .before .before .before .write-edit .ensures) (l .good), rw (c .before .before .before .write-edit .ensures, l .shape .objects) (p .reached .below))
 
-cast-t32 : tie.Need-cast-t32
-cast-t32 c = search needs
+cast-written : tie.Need-cast-written
+cast-written c = search needs
 
 same-length-3 : tie.Need-same-length-3
 same-length-3 c = search needs
@@ -134,6 +134,6 @@ write-spec =
     before-requires
     write-edit-requires
     change-from-requires
-    cast-t32
+    cast-written
     same-length-3
     returns-3)
