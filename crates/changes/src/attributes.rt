@@ -1,9 +1,8 @@
 // SETATTR.
 ghost use mathlib.Core.Path.{_≡_};
 ghost use mathlib.Core.Bool.{cond};
-ghost use Prim.Native.Nat.{_+_, _≤_, _<_};
+ghost use Prim.Native.Nat.{_+_, _≤_};
 ghost use lib.ListN.{length};
-ghost use Rattle.spec.specs.Image.{objects};
 ghost use Rattle.spec.specs.Procedures.{cut};
 ghost use Rattle.spec.specs.Procedures.Attributes.{isGiven, orServer, sizeTouches, resizeTo, setattrEdit, setattr};
 ghost use Rattle.spec.proofs.GoodRecords.{GoodRecords};
@@ -97,6 +96,7 @@ fn setattr_edit(store: &mut [u8], used: &[u8; 1024], context: Context, o: Object
     set_attributes(store, clock, o, size_touches(a));
 }
 
+// SETATTR: the object as it was and as it is, or the status of the check that failed.
 pub fn setattr(
     store: &mut [u8],
     used: &[u8; 1024],

@@ -1,6 +1,6 @@
 // WRITE.
 ghost use mathlib.Core.Path.{_≡_};
-ghost use Prim.Native.Nat.{_+_, _≤_, _<_, max};
+ghost use Prim.Native.Nat.{_+_, _≤_, max};
 ghost use lib.ListN.{length};
 ghost use Rattle.spec.specs.Bytes.{part};
 ghost use Rattle.spec.specs.Procedures.{cut};
@@ -61,6 +61,7 @@ fn write_edit(
     set_attributes(store, clock, o, mtime_and_ctime());
 }
 
+// WRITE: the file as it was and as it is, the bytes written and the verifier, or the status of the check that failed.
 pub fn write(
     store: &mut [u8],
     used: &[u8; 1024],

@@ -136,6 +136,7 @@ fn make_new(
     Reply::Created(handle_of(store, o), attributes(store, o), shown)
 }
 
+// MKDIR: the new directory and the change of the one that it is in, or the status of the check that failed.
 pub fn mkdir(
     store: &mut [u8],
     used: &[u8; 1024],
@@ -204,6 +205,7 @@ fn settable_of(manner: How) -> Settable
     }
 }
 
+// CREATE: the file and the change of its directory, or the status of the check that failed.
 pub fn create(
     store: &mut [u8],
     used: &[u8; 1024],
