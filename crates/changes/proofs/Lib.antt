@@ -1,0 +1,4 @@
+pub mod Told
+pub mod Edited
+pub mod Made
+pub mod Makable

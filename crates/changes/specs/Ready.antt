@@ -1,0 +1,54 @@
+-- What the calls that change the store ask of it.
+use Prim.Native.Nat.{ℕ, _+_, _-_, _≤_, _<_}
+use mathlib.Core.Path.{_≡_}
+use mathlib.Core.Bool.{true}
+use mathlib.Core.Logic.{_⊎_}
+use mathlib.Core.List.{List}
+use Rattle.kinds.specs.Numbers.{REGULAR, DIRECTORY}
+use Rattle.kinds.specs.declared.object.Context.{Context}
+use Rattle.kinds.specs.declared.call.SetSize.{SetSize}
+use Rattle.kinds.specs.declared.call.Settable.{Settable}
+use Rattle.spec.specs.Image.{Store, objects, objectAt}
+use Rattle.spec.specs.Room.{sizeOf, need, freeBlockCount}
+use Rattle.spec.specs.Procedures.Attributes.{isGiven, sizeSet}
+use Rattle.spec.specs.Procedures.Data.{grown}
+use Rattle.spec.proofs.GoodRecords.{GoodClock}
+use Rattle.spec.proofs.Range.{Below}
+use Rattle.spec.proofs.Passed.{NewRoom}
+use Rattle.spec.proofs.SetAttributes.{FitsSettable, Allowed}
+use Rattle.spec.proofs.Valid.{GoodName, Valid}
+use Rattle.find.specs.Blocks.{UsedMap}
+
+-- a valid store of bytes, the map of its used blocks, the number of its free blocks, and a good clock
+pub record Ready (s : Store) (used : List ℕ) (free : ℕ) (c : Context) : Type 0 where
+  pub valid : Valid s
+  pub bytes : Below 256 s
+  pub map : UsedMap s used
+  pub count : free ≡ freeBlockCount s
+  pub clock : GoodClock (c .clock)
+
+-- an object that may get the size, where one is given
+pub record Sizable (s : Store) (o : ℕ) (x : SetSize) : Type 0 where
+  pub below : o < objects s
+  pub regular : isGiven x ≡ true → objectAt s o .kind ≡ REGULAR
+  pub small : sizeSet x 0 ≤ 8192
+  pub room : need (sizeSet x (sizeOf s o)) - need (sizeOf s o) ≤ freeBlockCount s
+
+-- a file that may get n bytes at an offset
+pub record Writable (s : Store) (o offset n : ℕ) : Type 0 where
+  pub below : o < objects s
+  pub regular : objectAt s o .kind ≡ REGULAR
+  pub fits : offset + n ≤ 8192
+  pub room : need (grown s o offset n) - need (sizeOf s o) ≤ freeBlockCount s
+
+-- a new object o of a type, named `text` in directory d by record n
+pub record Makable (s : Store) (c : Context) (kind o n d : ℕ) (text : List ℕ) (a : Settable) : Type 0 where
+  pub clock : GoodClock (c .clock)
+  pub either : (kind ≡ REGULAR) ⊎ (kind ≡ DIRECTORY)
+  pub sized : isGiven (a .size) ≡ true → kind ≡ REGULAR
+  pub room : NewRoom s (sizeSet (a .size) 0) o n
+  pub below : d < objects s
+  pub directory : objectAt s d .kind ≡ DIRECTORY
+  pub good : GoodName text
+  pub fits : FitsSettable a
+  pub allowed : Allowed a

@@ -1,0 +1,236 @@
+// CREATE and MKDIR.
+ghost use mathlib.Core.Path.{_≡_};
+ghost use Prim.Native.Nat.{_+_, _≤_, _<_};
+ghost use lib.ListN.{length};
+ghost use Rattle.spec.specs.Image.{objects};
+ghost use Rattle.spec.specs.Procedures.{cut};
+ghost use Rattle.spec.specs.Procedures.Names.{newObject, newEdit, createdIn, existingEdit, settableOf, create, mkdir};
+ghost use Rattle.spec.proofs.ArgumentRange.{FitsHow};
+ghost use Rattle.spec.proofs.GoodRecords.{GoodRecords, GoodClock};
+ghost use Rattle.spec.proofs.SetAttributes.{FitsSettable};
+ghost use Rattle.find.specs.Blocks.{UsedMap};
+ghost use Rattle.results.specs.Meaning.{Does};
+ghost use Rattle.changes.specs.Ready.{Ready, Sizable, Makable};
+use crate::answers::create_status;
+use crate::answers::mkdir_status;
+use crate::attributes::resize_to;
+use crate::making::CreateChecked;
+use crate::making::MkdirChecked;
+use crate::making::Target;
+use crate::making::check_create;
+use crate::making::check_mkdir;
+use edits::attributes::mtime_and_ctime;
+use edits::attributes::only_ctime;
+use edits::attributes::set_attributes;
+use edits::attributes::with_attributes;
+use edits::naming::create_object;
+use edits::size::resize;
+use files::failure::fail_changing;
+use files::handle::handle_of;
+use files::shown::attributes;
+use files::shown::before;
+use files::shown::change_from;
+use kinds::call::How;
+use kinds::call::NameIn;
+use kinds::call::Part;
+use kinds::call::SetSize;
+use kinds::call::Settable;
+use kinds::numbers::Kind;
+use kinds::numbers::Limit;
+use kinds::numbers::NameNumber;
+use kinds::numbers::ObjectNumber;
+use kinds::object::Context;
+use kinds::object::Object;
+use kinds::object::Time;
+use results::Reply;
+
+// A new object: attributes that are not given are 0, times that are not given the clock.
+fn new_object(clock: Time, kind: u32, a: Settable) -> Object
+    ensures { λ r. ⌜ r ≡ newObject clock kind a ⌝ }
+{
+    let v = Object {
+        kind,
+        generation: 0,
+        mode: 0,
+        uid: 0,
+        gid: 0,
+        size: 0,
+        atime: clock,
+        mtime: clock,
+        ctime: clock,
+        blocks: [Limit::UNUSED_BLOCK; 16],
+    };
+    with_attributes(clock, a, v)
+}
+
+// What CREATE and MKDIR do to the store for a new object.
+fn new_edit(
+    store: &mut [u8],
+    used: &[u8; 1024],
+    context: Context,
+    kind: u32,
+    o: ObjectNumber,
+    n: NameNumber,
+    d: ObjectNumber,
+    call: &[u8],
+    name: Part,
+    a: Settable,
+)
+    requires { ⌜ GoodRecords (now store) ⌝ }
+    requires { ⌜ UsedMap (now store) (now used) ⌝ }
+    requires { ⌜ name .start + name .length ≤ length (now call) ⌝ }
+    requires { ⌜ Makable (now store) context kind (o .0) (n .0) (d .0) (cut (now call) name) a ⌝ }
+    ensures { λ _. ⌜ now (store .exit) ≡ newEdit (now (store .entry)) context kind (o .0) (n .0) (d .0) (cut (now (call .entry)) name) a ⌝ }
+{
+    let clock = context.clock;
+    let v = new_object(clock, kind, a);
+    create_object(store, o, n, v, d, call, name);
+    let size = a.size;
+    resize_to(store, used, o, size);
+    set_attributes(store, clock, d, mtime_and_ctime());
+}
+
+// What CREATE does to the store for a file that has the name: it obeys the size.
+fn existing_edit(
+    store: &mut [u8],
+    used: &[u8; 1024],
+    context: Context,
+    o: ObjectNumber,
+    size: SetSize,
+)
+    requires { ⌜ GoodRecords (now store) ⌝ }
+    requires { ⌜ UsedMap (now store) (now used) ⌝ }
+    requires { ⌜ Sizable (now store) (o .0) size ⌝ }
+    ensures { λ _. ⌜ now (store .exit) ≡ existingEdit (now (store .entry)) context (o .0) size ⌝ }
+{
+    let SetSize::To(n) = size else {
+        return;
+    };
+    resize(store, used, o, n as usize);
+    let clock = context.clock;
+    set_attributes(store, clock, o, mtime_and_ctime());
+}
+
+// Makes a new object in a directory, and shows it.
+fn make_new(
+    store: &mut [u8],
+    used: &[u8; 1024],
+    context: Context,
+    kind: u32,
+    o: ObjectNumber,
+    n: NameNumber,
+    d: ObjectNumber,
+    call: &[u8],
+    name: Part,
+    a: Settable,
+) -> Reply
+    requires { ⌜ GoodRecords (now store) ⌝ }
+    requires { ⌜ UsedMap (now store) (now used) ⌝ }
+    requires { ⌜ name .start + name .length ≤ length (now call) ⌝ }
+    requires { ⌜ Makable (now store) context kind (o .0) (n .0) (d .0) (cut (now call) name) a ⌝ }
+    ensures { λ r. ⌜ Does (createdIn (now (store .entry)) (newEdit (now (store .entry)) context kind (o .0) (n .0) (d .0) (cut (now (call .entry)) name) a) (d .0) (o .0)) r (now (store .exit)) ⌝ }
+{
+    let earlier = before(store, d);
+    new_edit(store, used, context, kind, o, n, d, call, name, a);
+    let shown = change_from(earlier, store, d);
+    Reply::Created(handle_of(store, o), attributes(store, o), shown)
+}
+
+// MKDIR: the new directory and the change of the one that it is in, or the status of the check that failed.
+pub fn mkdir(
+    store: &mut [u8],
+    used: &[u8; 1024],
+    free: usize,
+    context: Context,
+    call: &[u8],
+    place: NameIn,
+    a: Settable,
+) -> Reply
+    requires { ⌜ Ready (now store) (now used) free context ⌝ }
+    requires { ⌜ FitsSettable a ⌝ }
+    requires { ⌜ place .directory .start + place .directory .length ≤ length (now call) ⌝ }
+    requires { ⌜ place .name .start + place .name .length ≤ length (now call) ⌝ }
+    ensures { λ r. ⌜ Does (mkdir (now (store .entry)) context (cut (now (call .entry)) (place .directory)) (cut (now (call .entry)) (place .name)) a) r (now (store .exit)) ⌝ }
+{
+    let answer = check_mkdir(store, free, call, place, a);
+    let MkdirChecked::At(d, o, n) = answer else {
+        let directory = place.directory;
+        return fail_changing(store, call, directory, mkdir_status(answer));
+    };
+    let name = place.name;
+    make_new(
+        store,
+        used,
+        context,
+        Kind::DIRECTORY,
+        o,
+        n,
+        d,
+        call,
+        name,
+        a,
+    )
+}
+
+// Gives the file that has the name the size, where one is given, and shows it.
+fn obey_size(
+    store: &mut [u8],
+    used: &[u8; 1024],
+    context: Context,
+    d: ObjectNumber,
+    o: ObjectNumber,
+    size: SetSize,
+) -> Reply
+    requires { ⌜ GoodRecords (now store) ⌝ }
+    requires { ⌜ UsedMap (now store) (now used) ⌝ }
+    requires { ⌜ GoodClock (context .clock) ⌝ }
+    requires { ⌜ d .0 < objects (now store) ⌝ }
+    requires { ⌜ Sizable (now store) (o .0) size ⌝ }
+    ensures { λ r. ⌜ Does (createdIn (now (store .entry)) (existingEdit (now (store .entry)) context (o .0) size) (d .0) (o .0)) r (now (store .exit)) ⌝ }
+{
+    let earlier = before(store, d);
+    existing_edit(store, used, context, o, size);
+    let shown = change_from(earlier, store, d);
+    Reply::Created(handle_of(store, o), attributes(store, o), shown)
+}
+
+// The attributes that CREATE sets.
+fn settable_of(manner: How) -> Settable
+    ensures { λ r. ⌜ r ≡ settableOf manner ⌝ }
+{
+    match manner {
+        How::Unchecked(a) => a,
+        How::Guarded(a) => a,
+        How::Exclusive(_) => only_ctime(),
+    }
+}
+
+// CREATE: the file and the change of its directory, or the status of the check that failed.
+pub fn create(
+    store: &mut [u8],
+    used: &[u8; 1024],
+    free: usize,
+    context: Context,
+    call: &[u8],
+    place: NameIn,
+    manner: How,
+) -> Reply
+    requires { ⌜ Ready (now store) (now used) free context ⌝ }
+    requires { ⌜ FitsHow manner ⌝ }
+    requires { ⌜ place .directory .start + place .directory .length ≤ length (now call) ⌝ }
+    requires { ⌜ place .name .start + place .name .length ≤ length (now call) ⌝ }
+    ensures { λ r. ⌜ Does (create (now (store .entry)) context (cut (now (call .entry)) (place .directory)) (cut (now (call .entry)) (place .name)) manner) r (now (store .exit)) ⌝ }
+{
+    let answer = check_create(store, free, call, place, manner);
+    let CreateChecked::At(d, t) = answer else {
+        let directory = place.directory;
+        return fail_changing(store, call, directory, create_status(answer));
+    };
+    let a = settable_of(manner);
+    let name = place.name;
+    let size = a.size;
+    match t {
+        Target::New(o, n) => make_new(store, used, context, Kind::REGULAR, o, n, d, call, name, a),
+        Target::Existing(o) => obey_size(store, used, context, d, o, size),
+    }
+}

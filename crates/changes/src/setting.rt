@@ -1,0 +1,115 @@
+// The checks of SETATTR and WRITE.
+ghost use mathlib.Core.Path.{_≡_};
+ghost use mathlib.Core.Bool.{_&&_};
+ghost use Prim.Native.Nat.{_+_, _<_, _≤_};
+ghost use lib.ListN.{length};
+ghost use Rattle.spec.specs.Image.{objects};
+ghost use Rattle.spec.specs.Room.{isDirectory, freeBlockCount};
+ghost use Rattle.spec.specs.Procedures.{cut};
+ghost use Rattle.spec.specs.Procedures.Attributes.{isGiven, checkSetattr};
+ghost use Rattle.spec.specs.Procedures.Data.{checkWrite};
+ghost use Rattle.spec.proofs.GoodRecords.{GoodRecords};
+ghost use Rattle.files.specs.Meaning.{reachedOf};
+use crate::room::is_past_end;
+use crate::room::lacks_room_for_bytes;
+use crate::room::lacks_room_for_size;
+use crate::room::transferred;
+use crate::settable::bad_attributes;
+use crate::settable::differs;
+use crate::settable::is_given;
+use files::handle::Reached;
+use files::handle::reach;
+use files::handle::reach_regular;
+use image::object::is_directory;
+use image::object::load_object;
+use kinds::call::Guard;
+use kinds::call::Part;
+use kinds::call::SetSize;
+use kinds::call::Settable;
+use kinds::numbers::ObjectNumber;
+use kinds::numbers::Status;
+
+// Whether a size is given for a directory.
+fn sizes_directory(store: &[u8], o: ObjectNumber, size: SetSize) -> bool
+    requires { ⌜ GoodRecords (now store) ⌝ }
+    requires { ⌜ o .0 < objects (now store) ⌝ }
+    ensures { λ r. ⌜ r ≡ isGiven size && isDirectory (now (store .entry)) (o .0) ⌝ }
+{
+    if is_given(size) {
+        return is_directory(store, o);
+    }
+    false
+}
+
+// The object that SETATTR may change, or the status.
+pub fn check_setattr(
+    store: &[u8],
+    free: usize,
+    call: &[u8],
+    h: Part,
+    a: Settable,
+    g: Guard,
+) -> Reached
+    requires { ⌜ GoodRecords (now store) ⌝ }
+    requires { ⌜ free ≡ freeBlockCount (now store) ⌝ }
+    requires { ⌜ h .start + h .length ≤ length (now call) ⌝ }
+    ensures { λ r. ⌜ reachedOf r ≡ checkSetattr (now (store .entry)) (cut (now (call .entry)) h) a g ⌝ }
+{
+    let answer = reach(store, call, h);
+    let Reached::At(o) = answer else {
+        return answer;
+    };
+    let v = load_object(store, o);
+    let ctime = v.ctime;
+    if differs(g, ctime) {
+        return Reached::Refused(Status::NOT_SYNC);
+    }
+    if bad_attributes(a) {
+        return Reached::Refused(Status::INVAL);
+    }
+    let size = a.size;
+    if sizes_directory(store, o, size) {
+        return Reached::Refused(Status::INVAL);
+    }
+    if lacks_room_for_size(store, free, o, size) {
+        return Reached::Refused(Status::NOSPC);
+    }
+    Reached::At(o)
+}
+
+// The file that WRITE may change, or the status.
+pub fn check_write(
+    store: &[u8],
+    free: usize,
+    call: &[u8],
+    h: Part,
+    offset: u64,
+    count: u32,
+    bytes: Part,
+) -> Reached
+    requires { ⌜ GoodRecords (now store) ⌝ }
+    requires { ⌜ free ≡ freeBlockCount (now store) ⌝ }
+    requires { ⌜ h .start + h .length ≤ length (now call) ⌝ }
+    requires { ⌜ bytes .start + bytes .length ≤ length (now call) ⌝ }
+    ensures { λ r. ⌜ reachedOf r ≡ checkWrite (now (store .entry)) (cut (now (call .entry)) h) offset count (cut (now (call .entry)) bytes) ⌝ }
+{
+    let answer = reach_regular(store, call, h);
+    let Reached::At(o) = answer else {
+        return answer;
+    };
+    let wanted = count as usize;
+    if wanted != bytes.length {
+        return Reached::Refused(Status::INVAL);
+    }
+    if wanted == 0 {
+        return Reached::At(o);
+    }
+    let n = transferred(wanted);
+    if is_past_end(offset, n) {
+        return Reached::Refused(Status::FBIG);
+    }
+    if lacks_room_for_bytes(store, free, o, offset as usize, n) {
+        return Reached::Refused(Status::NOSPC);
+    }
+    Reached::At(o)
+}
