@@ -85,8 +85,7 @@ pub fn write(
     let wanted = count as usize;
     let n = transferred(wanted);
     if n == 0 {
-        let same = unchanged(store, o);
-        return Reply::Wrote(same, 0, context.verifier);
+        return Reply::Wrote(unchanged(store, o), 0, context.verifier);
     }
     let earlier = before(store, o);
     write_edit(
@@ -99,7 +98,6 @@ pub fn write(
         bytes.start,
         n,
     );
-    let shown = change_from(earlier, store, o);
     let written = n as u32;
-    Reply::Wrote(shown, written, context.verifier)
+    Reply::Wrote(change_from(earlier, store, o), written, context.verifier)
 }

@@ -85,6 +85,9 @@ write-edit-requires c κs =
     let z = write-writable (st .args .store .now) (cut (st .args .call .now) (st .args .h)) (st .args .offset) (st .args .count) (cut (st .args .call .now) (st .args .bytes)) _ (c .before .before .before .before .transferred .result) p (c .before .before .before .before .transferred .ensures) (c .before .before .before .if1 .left) in
     (g, (st .pre .0 .map, (z, omega (arith, st .pre .1 .1))))
 
+cast-written : tie.Need-cast-written
+cast-written c = search needs
+
 change-from-requires : tie.Need-change-from-requires
 change-from-requires c κs =
     let st = c .before .before .before .before .before .before .before .before .before .before .before .before .before .before .before .before in
@@ -93,9 +96,6 @@ change-from-requires c κs =
     let few = few-moved (st .args .call .now) (st .args .bytes) (c .before .before .before .before .before .before .before .before .transferred .result) (st .args .count) (st .pre .1 .1) (p .counted) (c .before .before .before .before .before .before .before .before .transferred .ensures) in
     let l = written-left (st .args .call .now) (st .args .bytes) (c .before .before .before .before .before .before .before .before .transferred .result) (st .args .store .now) (st .args .context) (st .pre .0 .valid) (st .pre .0 .bytes) (st .pre .0 .clock) (λ k. c .before .before .before .before .before .before .before .before .before .before .before .before .before .before .shared-slice-known .given k .fits) (st .args .h) (st .args .offset) (st .args .count) _ e (c .before .before .before .before .before .before .before .before .transferred .ensures) (c .before .before .before .before .before .before .before .if1 .left) few (st .pre .1 .1) in
     (rw (c .before .before .before .write-edit .ensures) (l .good), rw (c .before .before .before .write-edit .ensures, l .shape .objects) (p .reached .below))
-
-cast-written : tie.Need-cast-written
-cast-written c = search needs
 
 same-length-3 : tie.Need-same-length-3
 same-length-3 c = search needs
@@ -133,7 +133,7 @@ write-spec =
     returns-2
     before-requires
     write-edit-requires
-    change-from-requires
     cast-written
+    change-from-requires
     same-length-3
     returns-3)
