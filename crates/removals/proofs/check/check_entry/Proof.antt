@@ -44,7 +44,6 @@ find-name-requires c κs =
 enum-known-n : tie.Need-enum-known-n
 enum-known-n c = search needs
 
--- /work/wt-removals/target/rlib/kinds.rlib/interface/lang/src/numbers.rt:7:28
 enum-told-2 : tie.Need-enum-told-2
 enum-told-2 c = search needs
 

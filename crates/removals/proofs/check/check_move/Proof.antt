@@ -54,7 +54,6 @@ find-name-requires c κs =
 enum-known-n : tie.Need-enum-known-n
 enum-known-n c = search needs
 
--- /work/wt-removals/target/rlib/kinds.rlib/interface/lang/src/numbers.rt:7:28
 enum-told-3 : tie.Need-enum-told-3
 enum-told-3 c = search needs
 
