@@ -1,8 +1,8 @@
 use borrow.Author.Tests.{eq-eqb, ne-eqb}
 use borrow.Author.Needs.{needs}
 use Rattle.spec.specs.Arguments.{how}
-use Rattle.args.proofs.types.how.Statement.{statement}
-use Rattle.args.proofs.types.how.Tie as tie
+use Rattle.argument_types.proofs.types.how.Statement.{statement}
+use Rattle.argument_types.proofs.types.how.Tie as tie
 
 choice-requires : tie.Need-choice-requires
 choice-requires c κs = search needs

@@ -1,7 +1,7 @@
 use borrow.Author.Needs.{needs}
 use Rattle.spec.specs.Arguments.{settable}
-use Rattle.args.proofs.types.settable.Statement.{statement}
-use Rattle.args.proofs.types.settable.Tie as tie
+use Rattle.argument_types.proofs.types.settable.Statement.{statement}
+use Rattle.argument_types.proofs.types.settable.Tie as tie
 
 set-number-requires : tie.Need-set-number-requires
 set-number-requires c κs = search needs

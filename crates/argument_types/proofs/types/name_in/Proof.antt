@@ -1,7 +1,7 @@
 use borrow.Author.Needs.{needs}
 use Rattle.spec.specs.Arguments.{nameIn}
-use Rattle.args.proofs.types.name_in.Statement.{statement}
-use Rattle.args.proofs.types.name_in.Tie as tie
+use Rattle.argument_types.proofs.types.name_in.Statement.{statement}
+use Rattle.argument_types.proofs.types.name_in.Tie as tie
 
 handle-requires : tie.Need-handle-requires
 handle-requires c κs = search needs

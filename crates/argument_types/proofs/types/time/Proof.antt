@@ -1,7 +1,7 @@
 use borrow.Author.Needs.{needs}
 use Rattle.spec.specs.Arguments.{time}
-use Rattle.args.proofs.types.time.Statement.{statement}
-use Rattle.args.proofs.types.time.Tie as tie
+use Rattle.argument_types.proofs.types.time.Statement.{statement}
+use Rattle.argument_types.proofs.types.time.Tie as tie
 
 word-requires : tie.Need-word-requires
 word-requires c κs = search needs

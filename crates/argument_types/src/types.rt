@@ -2,7 +2,7 @@
 ghost use mathlib.Core.Path.{_≡_};
 ghost use Rattle.kinds.specs.Reading.{partOf};
 ghost use Rattle.spec.specs.Arguments.{handle, unbounded, nameIn, time, setNumber, setSize, setTime, settable, guard, how};
-ghost use Rattle.args.specs.Reading.{nameInOf, timeOf, setNumberOf, setSizeOf, setTimeOf, settableOf, guardOf, howOf};
+ghost use Rattle.argument_types.specs.Reading.{nameInOf, timeOf, setNumberOf, setSizeOf, setTimeOf, settableOf, guardOf, howOf};
 use crate::reading::GuardRead;
 use crate::reading::HowRead;
 use crate::reading::NameInRead;
