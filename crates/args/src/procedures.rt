@@ -3,6 +3,7 @@ ghost use mathlib.Core.Path.{_≡_};
 ghost use Rattle.spec.specs.Arguments.{handle, nameIn, only, whole, setattrArguments, accessArguments, readArguments, writeArguments, createArguments, mkdirArguments, renameArguments, readdirArguments, commitArguments};
 ghost use Rattle.spec.specs.Xdr.{done};
 ghost use Rattle.args.specs.Reading.{argumentsOf};
+use crate::reading::ArgumentsRead;
 use argument_types::reading::GuardRead;
 use argument_types::reading::HowRead;
 use argument_types::reading::NameInRead;
@@ -13,7 +14,6 @@ use argument_types::types::how;
 use argument_types::types::name_in;
 use argument_types::types::settable;
 use argument_types::types::unbounded;
-use crate::reading::ArgumentsRead;
 use kinds::call::Arguments;
 use kinds::call::Cursor;
 use kinds::reading::LongRead;
@@ -225,7 +225,11 @@ pub fn readdir(s: &[u8], c: Cursor) -> ArgumentsRead
     let WordRead::Got(count, c4) = answer else {
         return ArgumentsRead::Bad(answer.place());
     };
-    finish(s, c4, Arguments::Readdir(directory, cookie, verifier, count))
+    finish(
+        s,
+        c4,
+        Arguments::Readdir(directory, cookie, verifier, count),
+    )
 }
 
 // FSSTAT3args.
