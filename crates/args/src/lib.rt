@@ -10,11 +10,13 @@ use crate::reading::ArgumentsRead;
 use kinds::call::Arguments;
 use kinds::call::Cursor;
 use kinds::numbers::Procedure;
+use reader::Reader;
 
 // The arguments of a procedure, 0 to 21, which end the call. Those of the five that are not served stay unread.
-pub fn arguments(s: &[u8], c: Cursor, procedure: u32) -> ArgumentsRead
-    ensures { λ r. ⌜ argumentsOf r ≡ arguments procedure (now (s .entry)) (c .at) ⌝ }
+fn arguments_at(s: &[u8], at: usize, procedure: u32) -> ArgumentsRead
+    ensures { λ r. ⌜ argumentsOf r ≡ arguments procedure (now (s .entry)) at ⌝ }
 {
+    let c = Cursor { at };
     match procedure {
         Procedure::NULL => procedures::finish(s, c, Arguments::Null),
         Procedure::GETATTR => procedures::getattr(s, c),
@@ -35,4 +37,26 @@ pub fn arguments(s: &[u8], c: Cursor, procedure: u32) -> ArgumentsRead
         Procedure::COMMIT => procedures::commit(s, c),
         _ => ArgumentsRead::Got(Arguments::Unserved, c),
     }
+}
+
+// The arguments at a reader's place.
+pub fn next_arguments<'a>(r: Reader<'a>, procedure: u32) -> ArgumentsRead
+    ensures { λ t. ⌜ argumentsOf t ≡ arguments procedure (now (r .entry .call)) (r .entry .at) ⌝ }
+{
+    arguments_at(r.call, r.at, procedure)
+}
+
+// The arguments at a place of a call, by a reader that is made there.
+pub fn arguments_of(call: &[u8], at: usize, procedure: u32) -> ArgumentsRead
+    ensures { λ t. ⌜ argumentsOf t ≡ arguments procedure (now (call .entry)) at ⌝ }
+{
+    next_arguments(reader::new(call, at), procedure)
+}
+
+// The arguments at a cursor.
+pub fn arguments(s: &[u8], c: Cursor, procedure: u32) -> ArgumentsRead
+    ensures { λ r. ⌜ argumentsOf r ≡ arguments procedure (now (s .entry)) (c .at) ⌝ }
+{
+    let at = c.at;
+    arguments_of(s, at, procedure)
 }
