@@ -4,6 +4,7 @@ ghost use mathlib.Core.Path.{_≡_};
 ghost use Rattle.kinds.specs.Reading.{partOf};
 ghost use Rattle.spec.specs.Xdr.{bytes};
 use kinds::call::Cursor;
+use kinds::call::Part;
 use kinds::reading::PartRead;
 
 pub struct Reader<'a> {
@@ -25,11 +26,23 @@ pub fn place<'a>(r: Reader<'a>) -> usize
     r.at
 }
 
-// The n bytes at a place of a call.
+// The n bytes at a place of a call, or that place where they do not all stand in it.
 fn field_at(call: &[u8], at: usize, n: usize) -> PartRead
     ensures { λ r. ⌜ partOf r ≡ bytes n (now (call .entry)) at ⌝ }
 {
-    xdr::read::bytes(call, Cursor { at }, n)
+    if call.len() < at {
+        return PartRead::Bad(at);
+    }
+    if call.len() - at < n {
+        return PartRead::Bad(at);
+    }
+    PartRead::Got(
+        Part {
+            start: at,
+            length: n,
+        },
+        Cursor { at: at + n },
+    )
 }
 
 // The next field: n bytes at its place.
@@ -39,7 +52,7 @@ pub fn field<'a>(r: Reader<'a>, n: usize) -> PartRead
     field_at(r.call, r.at, n)
 }
 
-// The next field of a reader that is made at a place of a call.
+// The field at a place of a call, by a reader that is made there.
 pub fn field_of(call: &[u8], at: usize, n: usize) -> PartRead
     ensures { λ t. ⌜ partOf t ≡ bytes n (now (call .entry)) at ⌝ }
 {
