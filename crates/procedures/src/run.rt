@@ -1,5 +1,4 @@
 // The procedure of each kind of arguments.
-ghost use Prim.Native.Nat.{ℕ};
 ghost use lib.ListN.{length};
 ghost use Rattle.spec.specs.Procedures.{act};
 ghost use Rattle.spec.proofs.Arguments.{Within};
@@ -44,19 +43,21 @@ pub fn run(
     match a {
         Arguments::Null => Reply::Null,
         Arguments::Getattr(h) => getattr(store, call, h),
-        Arguments::Setattr(h, s, g) => setattr(store, used, free, context, call, h, s, g),
+        Arguments::Setattr(h, set, g) => setattr(store, used, free, context, call, h, set, g),
         Arguments::Lookup(p) => lookup(store, call, p),
         Arguments::Access(h, bits) => access(store, call, h, bits),
         Arguments::Read(h, offset, count) => read(store, call, h, offset, count),
-        Arguments::Write(h, offset, count, b) => {
-            write(store, used, free, context, call, h, offset, count, b)
+        Arguments::Write(h, offset, count, bytes) => {
+            write(store, used, free, context, call, h, offset, count, bytes)
         }
         Arguments::Create(p, manner) => create(store, used, free, context, call, p, manner),
-        Arguments::Mkdir(p, s) => mkdir(store, used, free, context, call, p, s),
+        Arguments::Mkdir(p, set) => mkdir(store, used, free, context, call, p, set),
         Arguments::Remove(p) => remove(store, context, call, p),
         Arguments::Rmdir(p) => rmdir(store, context, call, p),
         Arguments::Rename(p, q) => rename(store, context, call, p, q),
-        Arguments::Readdir(h, cookie, v, count) => readdir(store, call, h, cookie, v, count),
+        Arguments::Readdir(h, cookie, verifier, count) => {
+            readdir(store, call, h, cookie, verifier, count)
+        }
         Arguments::Fsstat(h) => fsstat(store, call, h, free),
         Arguments::Fsinfo(h) => fsinfo(store, call, h),
         Arguments::Pathconf(h) => pathconf(store, call, h),
