@@ -1,4 +1,3 @@
 pub mod Files
 pub mod Runs
 pub mod Sizes
-pub mod Writable

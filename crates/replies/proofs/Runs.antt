@@ -18,7 +18,9 @@ use Rattle.spec.specs.Procedures.Listing.{entryOf, dotEntries, entries, entries
 use Rattle.spec.specs.Replies.{entryBytes, entriesBytes}
 use Rattle.spec.proofs.Count.{and-both, lowest-passes}
 use Rattle.spec.proofs.Listing.{above-append, taken-bytes, passing-more, passing-split, entry-length}
-use Rattle.image.specs.Shaped.{Shaped, SoundNames}
+use Rattle.spec.proofs.GoodKept.{used-of}
+use Rattle.spec.proofs.GoodRecords.{GoodRecords}
+use Rattle.spec.proofs.Valid.{UsedName, used-true}
 use Rattle.xdr.specs.Wrote.{Wrote}
 use Rattle.xdr.proofs.Wrote.{wrote-none, wrote-length, andThen, sized}
 use Rattle.replies.specs.declared.entries.Place.{Place}
@@ -108,16 +110,19 @@ module _ (s : Store) (cookie d : ℕ) where
       let e = ap above (passing-split (entryOf s) (isIn s d) (n + 1) m (omega arith)) ∙ above-append cookie (namedEntries s d (n + 1)) later ∙ ap (λ (es : List Entry). es ++ above later) (above-more n) in
       rest-room (above (namedEntries s d n)) (above (entryIn s d n)) a (front-room p (above (namedEntries s d n) ++ above (entryIn s d n)) (above later) r (rw e at h))
 
--- ---- the parent of an object is an object
-pub parent-below : (s : Store) (o : ℕ) → Shaped s → SoundNames s → parent s o < objects s
+-- ---- the objects of a used name record, and the parent of an object, are objects
+used-record : (s : Store) (n : ℕ) → GoodRecords s → n < names s → isUsedName s n ≡ true → UsedName s n
+used-record s n g l u = used-of s n (used-true s n u) (g .good-names n l)
+
+pub parent-below : (s : Store) (o : ℕ) → GoodRecords s → parent s o < objects s
 unfolding parent isNaming
-parent-below s o h f = from (lowest (names s) (isNaming s o)) refl
+parent-below s o g = from (lowest (names s) (isNaming s o)) refl
   where
     from : (found : Option ℕ) → lowest (names s) (isNaming s o) ≡ found → directoryOf s found < objects s
-    from none e = h .some-object
+    from none e = g .sound .shaped .some-object
     from (some n) e =
         let k = lowest-passes (isNaming s o) (names s) n e in
-        f .directory n (k .below) (and-both (isUsedName s n) (eqb (nameAt s n .child) o) (k .passes) .0)
+        used-record s n g (k .below) (and-both (isUsedName s n) (eqb (nameAt s n .child) o) (k .passes) .0) .directory
 
 -- ---- the entry of one name record
 module _ (s : Store) (d n : ℕ) where
@@ -127,10 +132,11 @@ module _ (s : Store) (d n : ℕ) where
   pub entryIn-present : isIn s d n ≡ true → entryIn s d n ≡ entryOf s n ∷ []
   entryIn-present e = rw e
 
-  pub child-below : Shaped s → SoundNames s → n < names s → isIn s d n ≡ true → nameAt s n .child < 64
+  pub child-below : GoodRecords s → n < names s → isIn s d n ≡ true → nameAt s n .child < 64
   unfolding isIn
-  child-below h f l e =
-      let c = f .child n l (and-both (isUsedName s n) (eqb (nameAt s n .directory) d) e .0) in
+  child-below g l e =
+      let h = g .sound .shaped in
+      let c = used-record s n g l (and-both (isUsedName s n) (eqb (nameAt s n .directory) d) e .0) .child in
       omega arith
 
 pub entry-of : (s : Store) (n c at len : ℕ) → c ≡ nameAt s n .child → at ≡ nameStart s n → len ≡ nameLength s n

@@ -10,8 +10,8 @@ ghost use Rattle.spec.specs.Edits.{readFile};
 ghost use Rattle.spec.specs.Procedures.Listing.{entries, entriesAbove};
 ghost use Rattle.spec.specs.Replies.{hyper, fattr3, postOp, wccData, wccOption, entriesBytes};
 ghost use Rattle.results.specs.Meaning.{handleBytes, changeOf};
+ghost use Rattle.results.specs.Writable.{Readable, Listable};
 ghost use Rattle.xdr.specs.Wrote.{Wrote};
-ghost use Rattle.replies.specs.Writable.{Readable, Listable};
 use crate::attributes::put_attributes;
 use crate::attributes::put_change;
 use crate::attributes::put_handle;
@@ -162,18 +162,17 @@ pub fn put_listed(
     a: Attributes,
     eof: bool,
     d: ObjectNumber,
-    parent: ObjectNumber,
     cookie: u64,
     n: usize,
 ) -> usize
-    requires { ⌜ Listable (now store) (d .0) (parent .0) cookie n ⌝ }
+    requires { ⌜ Listable (now store) (d .0) cookie n ⌝ }
     requires { ⌜ at + 4200 ≤ length (now reply) ⌝ }
     ensures { λ r. ⌜ Wrote (100 + length (entriesBytes (take n (entriesAbove cookie (entries (now (store .entry)) (d .0))))) + 8) (now (reply .entry)) (now (reply .exit)) at r (words (OK ∷ postOp a ++ hyper 0) ++ entriesBytes (take n (entriesAbove cookie (entries (now (store .entry)) (d .0)))) ++ words (0 ∷ bit eof ∷ [])) ⌝ }
 {
     let next = put_failed(reply, at, Status::OK, a);
     let zeros = [0u32, 0];
     let entries = put_words(reply, next, &zeros);
-    let behind = put_entries(reply, entries, store, d, parent, cookie, n);
+    let behind = put_entries(reply, entries, store, d, cookie, n);
     let ws = [0, flag(eof)];
     put_words(reply, behind, &ws)
 }

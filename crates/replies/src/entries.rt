@@ -6,11 +6,12 @@ ghost use Rattle.spec.specs.Bytes.{part, padding};
 ghost use Rattle.spec.specs.Image.{names};
 ghost use Rattle.spec.specs.Replies.{entryBytes, entriesBytes};
 ghost use Rattle.spec.specs.Procedures.Listing.{entries, entriesAbove};
-ghost use Rattle.image.specs.Shaped.{Shaped, SoundNames};
+ghost use Rattle.spec.proofs.GoodRecords.{GoodRecords};
+ghost use Rattle.results.specs.Writable.{Listable};
 ghost use Rattle.xdr.specs.Wrote.{Wrote};
-ghost use Rattle.replies.specs.Writable.{Listable};
 ghost use Rattle.replies.specs.Entries.{entry, dots, entryIn, namedEntries, Sent};
 use find::name::is_in;
+use find::name::parent_of;
 use image::counts::name_count;
 use image::counts::name_start;
 use image::name::name_child;
@@ -106,8 +107,7 @@ fn put_name(
     n: NameNumber,
     cookie: u64,
 ) -> Place
-    requires { ⌜ Shaped (now store) ⌝ }
-    requires { ⌜ SoundNames (now store) ⌝ }
+    requires { ⌜ GoodRecords (now store) ⌝ }
     requires { ⌜ n .0 < names (now store) ⌝ }
     requires { ⌜ p .at + length (entriesBytes (take (p .left) (entriesAbove cookie (entryIn (now store) (directory .0) (n .0))))) ≤ length (now reply) ⌝ }
     ensures { λ q. ⌜ Sent (entriesAbove cookie (entryIn (now (store .entry)) (directory .0) (n .0))) (now (reply .entry)) (now (reply .exit)) p q ⌝ }
@@ -130,8 +130,7 @@ fn put_names(
     directory: ObjectNumber,
     cookie: u64,
 ) -> Place
-    requires { ⌜ Shaped (now store) ⌝ }
-    requires { ⌜ SoundNames (now store) ⌝ }
+    requires { ⌜ GoodRecords (now store) ⌝ }
     requires { ⌜ p .at + length (entriesBytes (take (p .left) (entriesAbove cookie (namedEntries (now store) (directory .0) (names (now store)))))) ≤ length (now reply) ⌝ }
     ensures { λ q. ⌜ Sent (entriesAbove cookie (namedEntries (now (store .entry)) (directory .0) (names (now (store .entry))))) (now (reply .entry)) (now (reply .exit)) p q ⌝ }
 {
@@ -145,20 +144,20 @@ fn put_names(
     q
 }
 
-// The first `count` entries of a directory above the cookie; `parent` is the directory's.
+// The first `count` entries of a directory above the cookie.
 pub fn put_entries(
     reply: &mut [u8],
     at: usize,
     store: &[u8],
     directory: ObjectNumber,
-    parent: ObjectNumber,
     cookie: u64,
     count: usize,
 ) -> usize
-    requires { ⌜ Listable (now store) (directory .0) (parent .0) cookie count ⌝ }
+    requires { ⌜ Listable (now store) (directory .0) cookie count ⌝ }
     requires { ⌜ at + length (entriesBytes (take count (entriesAbove cookie (entries (now store) (directory .0))))) ≤ length (now reply) ⌝ }
     ensures { λ r. ⌜ Wrote (length (entriesBytes (take count (entriesAbove cookie (entries (now (store .entry)) (directory .0)))))) (now (reply .entry)) (now (reply .exit)) at r (entriesBytes (take count (entriesAbove cookie (entries (now (store .entry)) (directory .0))))) ⌝ }
 {
+    let parent = parent_of(store, directory);
     let start = Place { at, left: count };
     let behind = put_dots(reply, start, directory, parent, cookie);
     let end = put_names(reply, behind, store, directory, cookie);

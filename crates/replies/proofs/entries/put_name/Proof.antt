@@ -28,13 +28,13 @@ cast-fileid : tie.Need-cast-fileid
 cast-fileid c =
     let a = c .before .before .before .before .before .before .args in
     let yes = sym (c .before .before .before .is-in .ensures) ∙ not-false _ (c .before .before .if1 .left) in
-    omega (arith, c .before .name-child .ensures, child-below (a .store .now) (a .directory .0) (a .n .0) (c .before .before .before .before .before .before .pre .0) (c .before .before .before .before .before .before .pre .1 .0) (c .before .before .before .before .before .before .pre .1 .1 .0) yes)
+    omega (arith, c .before .name-child .ensures, child-below (a .store .now) (a .directory .0) (a .n .0) (c .before .before .before .before .before .before .pre .0) (c .before .before .before .before .before .before .pre .1 .0) yes)
 
 add-fileid : tie.Need-add-fileid
 add-fileid c =
     let a = c .before .before .before .before .before .before .args in
     let yes = sym (c .before .before .before .is-in .ensures) ∙ not-false _ (c .before .before .if1 .left) in
-    omega (arith, c .before .name-child .ensures, child-below (a .store .now) (a .directory .0) (a .n .0) (c .before .before .before .before .before .before .pre .0) (c .before .before .before .before .before .before .pre .1 .0) (c .before .before .before .before .before .before .pre .1 .1 .0) yes)
+    omega (arith, c .before .name-child .ensures, child-below (a .store .now) (a .directory .0) (a .n .0) (c .before .before .before .before .before .before .pre .0) (c .before .before .before .before .before .before .pre .1 .0) yes)
 
 name-start-requires : tie.Need-name-start-requires
 name-start-requires c κs = search needs
@@ -55,8 +55,8 @@ put-above-requires : tie.Need-put-above-requires
 put-above-requires c κs =
     let a = c .before .before .before .before .before .before .before .before .before .before .args in
     let yes = sym (c .before .before .before .before .before .before .before .is-in .ensures) ∙ not-false _ (c .before .before .before .before .before .before .if1 .left) in
-    let short = c .before .before .before .before .before .before .before .before .before .before .pre .1 .0 .short (a .n .0) (c .before .before .before .before .before .before .before .before .before .before .pre .1 .1 .0) in
-    let room = rw (entryIn-present (a .store .now) (a .directory .0) (a .n .0) yes) at (c .before .before .before .before .before .before .before .before .before .before .pre .1 .1 .1) in (
+    let short = c .before .before .before .before .before .before .before .before .before .before .pre .0 .sound .short (a .n .0) (c .before .before .before .before .before .before .before .before .before .before .pre .1 .0) in
+    let room = rw (entryIn-present (a .store .now) (a .directory .0) (a .n .0) yes) at (c .before .before .before .before .before .before .before .before .before .before .pre .1 .1) in (
       omega (arith, c .before .before .name-length .ensures),
       (
         omega (arith, c .before .before .before .name-start .ensures, c .before .before .name-length .ensures),

@@ -31,11 +31,8 @@ put-name-requires c κs =
     let l = c .before .before .loop in (
       c .before .before .before .before .before .before .pre .0,
       (
-        c .before .before .before .before .before .before .pre .1 .0,
-        (
-          omega (arith, c .before .before .before .name-count .ensures),
-          name-room (a .store .now) (a .cookie) (a .directory .0) (l .n) (names (a .store .now)) (omega (arith, c .before .before .before .name-count .ensures)) (l .inv .1) (c .before .before .before .before .before .before .pre .1 .1),
-        ),
+        omega (arith, c .before .before .before .name-count .ensures),
+        name-room (a .store .now) (a .cookie) (a .directory .0) (l .n) (names (a .store .now)) (omega (arith, c .before .before .before .name-count .ensures)) (l .inv .1) (c .before .before .before .before .before .before .pre .1),
       ),
     )
 

@@ -7,7 +7,7 @@ use Rattle.spec.specs.Room.{sizeOf}
 use Rattle.spec.proofs.FileBytes.{readFile-none, readFile-more}
 use Rattle.xdr.specs.Wrote.{Wrote}
 use Rattle.xdr.proofs.Wrote.{wrote-none, andThen}
-use Rattle.replies.proofs.Files.{run-in}
+use Rattle.replies.proofs.Files.{object-in, byte-few, run-in}
 use borrow.Author.Needs.{needs}
 use Rattle.replies.proofs.file.put_runs.Statement.{statement}
 use Rattle.replies.proofs.file.put_runs.Tie as tie
@@ -26,8 +26,11 @@ loop-holds c =
 
 add-i : tie.Need-add-i Inv-loop μ-loop
 add-i c =
+    let a = c .before .before .before .before .args in
+    let l = c .before .loop in
     let f = c .before .before .before .before .pre .0 in
-    omega (arith, f .left, f .file .size)
+    let h : a .offset + l .done < sizeOf (a .store .now) (a .o .0) = omega (arith, f .left) in
+    omega (arith, byte-few (a .store .now) (a .o .0) (a .offset + l .done) (f .good) (f .object) h)
 
 sub-run-length : tie.Need-sub-run-length Inv-loop μ-loop
 sub-run-length c = omega arith
@@ -40,8 +43,13 @@ byte-at-requires c κs =
     let a = c .before .before .before .before .before .args in
     let l = c .before .before .loop in
     let f = c .before .before .before .before .before .pre .0 in
-    let h : a .offset + l .done < sizeOf (a .store .now) (a .o .0) = omega (arith, f .left) in
-    (f .file .start, (omega (arith, f .file .size), omega (arith, run-in (a .store .now) (a .o .0) (a .offset + l .done) 1 (f .file) h (omega arith))))
+    let h : a .offset + l .done < sizeOf (a .store .now) (a .o .0) = omega (arith, f .left) in (
+      object-in (a .store .now) (a .o .0) 0 (f .good) (f .object),
+      (
+        byte-few (a .store .now) (a .o .0) (a .offset + l .done) (f .good) (f .object) h,
+        omega (arith, run-in (a .store .now) (a .o .0) (a .offset + l .done) (f .good) (f .object) 1 h (omega arith)),
+      ),
+    )
 
 put-bytes-requires : tie.Need-put-bytes-requires Inv-loop μ-loop
 put-bytes-requires c κs =
@@ -50,7 +58,7 @@ put-bytes-requires c κs =
     let f = c .before .before .before .before .before .before .before .pre .0 in
     let h : a .offset + l .done < sizeOf (a .store .now) (a .o .0) = omega (arith, f .left) in
     let n = c .before .before .run-length .result in
-    (omega (arith, c .before .before .run-length .ensures), omega (arith, c .before .byte-at .ensures, run-in (a .store .now) (a .o .0) (a .offset + l .done) n (f .file) h (omega (arith, c .before .before .run-length .ensures))))
+    (omega (arith, c .before .before .run-length .ensures), omega (arith, c .before .byte-at .ensures, run-in (a .store .now) (a .o .0) (a .offset + l .done) (f .good) (f .object) n h (omega (arith, c .before .before .run-length .ensures))))
 
 add-done : tie.Need-add-done Inv-loop μ-loop
 add-done c = omega (arith, c .before .before .before .before .before .run-length .ensures)
@@ -67,7 +75,7 @@ loop-again c =
     let n = c .before .before .before .before .before .run-length .result in
     let k : (a .offset + l .done) % 512 + n ≤ 512 = omega (arith, c .before .before .before .before .before .run-length .ensures) in (
       omega (arith, c .before .before .before .before .before .run-length .ensures),
-      rw (readFile-more (a .store .now) (a .o .0) (a .offset) (l .done) n k (run-in (a .store .now) (a .o .0) (a .offset + l .done) n (f .file) h k))
+      rw (readFile-more (a .store .now) (a .o .0) (a .offset) (l .done) n k (run-in (a .store .now) (a .o .0) (a .offset + l .done) (f .good) (f .object) n h k))
           (andThen (l .inv .1) (rw (c .before .before .before .before .byte-at .ensures) at (c .before .before .put-bytes .ensures))),
       omega arith,
     )
