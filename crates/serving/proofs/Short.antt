@@ -22,7 +22,8 @@ use Rattle.results.specs.Writable.{Writable}
 use Rattle.results.specs.declared.HandleChange.{HandleChange}
 use Rattle.results.specs.declared.Reply.{Reply}
 use Rattle.results.specs.declared.Reply.the-variants as Reply
-use Rattle.replies.proofs.Sizes.{change-small, zeroWords-small}
+use Rattle.bodies.proofs.Sizes.{change-small}
+use Rattle.fields.proofs.ZeroWords.{zeroWords-small}
 
 -- the head of an accepted reply is 24 bytes
 accepted-length : (xid stat : ℕ) (body : List ℕ) → length (accepted xid stat body) ≡ 24 + length body
