@@ -11,14 +11,7 @@ ghost use Rattle.spec.proofs.SetAttributes.{FitsSettable};
 ghost use Rattle.find.specs.Blocks.{UsedMap};
 ghost use Rattle.results.specs.Meaning.{Does};
 ghost use Rattle.changes.specs.Ready.{Ready, Sizable, Makable};
-use crate::answers::create_status;
-use crate::answers::mkdir_status;
 use crate::attributes::resize_to;
-use crate::making::CreateChecked;
-use crate::making::MkdirChecked;
-use crate::making::Target;
-use crate::making::check_create;
-use crate::making::check_mkdir;
 use edits::attributes::mtime_and_ctime;
 use edits::attributes::only_ctime;
 use edits::attributes::set_attributes;
@@ -42,6 +35,13 @@ use kinds::numbers::ObjectNumber;
 use kinds::object::Context;
 use kinds::object::Object;
 use kinds::object::Time;
+use making::answers::create_status;
+use making::answers::mkdir_status;
+use making::checks::CreateChecked;
+use making::checks::MkdirChecked;
+use making::checks::Target;
+use making::checks::check_create;
+use making::checks::check_mkdir;
 use results::Reply;
 
 // A new object: attributes that are not given are 0, times that are not given the clock.
