@@ -11,7 +11,6 @@ ghost use Rattle.find.specs.Blocks.{UsedMap};
 ghost use Rattle.results.specs.Meaning.{Does};
 ghost use Rattle.changes.specs.Ready.{Ready, Sizable};
 use crate::setting::check_setattr;
-use edits::attributes::set_attributes;
 use edits::size::resize;
 use files::failure::fail_changing;
 use files::handle::Reached;
@@ -26,6 +25,7 @@ use kinds::numbers::ObjectNumber;
 use kinds::numbers::Status;
 use kinds::object::Context;
 use making::answers::reached_status;
+use metadata::set_attributes;
 use results::Reply;
 use settable::is_given;
 

@@ -12,11 +12,6 @@ ghost use Rattle.find.specs.Blocks.{UsedMap};
 ghost use Rattle.results.specs.Meaning.{Does};
 ghost use Rattle.changes.specs.Ready.{Ready, Sizable, Makable};
 use crate::attributes::resize_to;
-use edits::attributes::mtime_and_ctime;
-use edits::attributes::only_ctime;
-use edits::attributes::set_attributes;
-use edits::attributes::with_attributes;
-use edits::naming::create_object;
 use edits::size::resize;
 use files::failure::fail_changing;
 use files::handle::handle_of;
@@ -42,6 +37,11 @@ use making::checks::MkdirChecked;
 use making::checks::Target;
 use making::checks::check_create;
 use making::checks::check_mkdir;
+use metadata::mtime_and_ctime;
+use metadata::only_ctime;
+use metadata::set_attributes;
+use metadata::with_attributes;
+use naming::create_object;
 use results::Reply;
 
 // A new object: attributes that are not given are 0, times that are not given the clock.

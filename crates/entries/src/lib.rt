@@ -9,17 +9,17 @@ ghost use Rattle.spec.specs.Procedures.Names.{touchDirectory};
 ghost use Rattle.spec.specs.Procedures.Removal.{renameEdit};
 ghost use Rattle.spec.proofs.GoodRecords.{GoodRecords};
 ghost use Rattle.entries.specs.Records.{RemovableAt, MovableAt};
-use edits::attributes::mtime_and_ctime;
-use edits::attributes::only_ctime;
-use edits::attributes::set_attributes;
-use edits::naming::move_name;
-use edits::naming::remove_object;
 use image::name::name_child;
 use kinds::call::Part;
 use kinds::numbers::NameNumber;
 use kinds::numbers::ObjectNumber;
 use kinds::object::Context;
 use kinds::object::Time;
+use metadata::mtime_and_ctime;
+use metadata::only_ctime;
+use metadata::set_attributes;
+use naming::move_name;
+use naming::remove_object;
 
 // Sets a directory's mtime and ctime.
 fn touch_directory(store: &mut [u8], clock: Time, d: ObjectNumber)

@@ -1,7 +1,7 @@
 use borrow.Author.Needs.{needs}
 use Rattle.spec.specs.Edits.{withAttributes}
-use Rattle.edits.proofs.attributes.with_attributes.Statement.{statement}
-use Rattle.edits.proofs.attributes.with_attributes.Tie as tie
+use Rattle.metadata.proofs.with_attributes.Statement.{statement}
+use Rattle.metadata.proofs.with_attributes.Tie as tie
 
 number-set-requires : tie.Need-number-set-requires
 number-set-requires c κs = search needs

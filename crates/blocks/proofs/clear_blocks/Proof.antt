@@ -5,9 +5,9 @@ use borrow.Author.Needs.{needs}
 use lib.ListN.{length}
 use Rattle.spec.specs.Bytes.{part}
 use Rattle.spec.specs.Edits.{clearBlocks}
-use Rattle.edits.proofs.ClearedBlocks.{cleared-shape, next-fits, cleared-next}
-use Rattle.edits.proofs.size.clear_blocks.Statement.{statement}
-use Rattle.edits.proofs.size.clear_blocks.Tie as tie
+use Rattle.blocks.proofs.ClearedBlocks.{cleared-shape, next-fits, cleared-next}
+use Rattle.blocks.proofs.clear_blocks.Statement.{statement}
+use Rattle.blocks.proofs.clear_blocks.Tie as tie
 
 abbrev Inv-loop : tie.InvT-loop
 Inv-loop store₀ start end numbers k₀ store k =

@@ -2,8 +2,8 @@ use native.Mathlib.Omega.{arith}
 use borrow.Author.Needs.{needs}
 use Rattle.spec.specs.Edits.{moveName}
 use Rattle.spec.proofs.RecordRange.{nameAt-fits}
-use Rattle.edits.proofs.naming.move_name.Statement.{statement}
-use Rattle.edits.proofs.naming.move_name.Tie as tie
+use Rattle.naming.proofs.move_name.Statement.{statement}
+use Rattle.naming.proofs.move_name.Tie as tie
 
 name-child-requires : tie.Need-name-child-requires
 name-child-requires c κs = search needs

@@ -1,7 +1,7 @@
 use borrow.Author.Needs.{needs}
 use Rattle.spec.specs.Edits.{setAttributes}
-use Rattle.edits.proofs.attributes.set_attributes.Statement.{statement}
-use Rattle.edits.proofs.attributes.set_attributes.Tie as tie
+use Rattle.metadata.proofs.set_attributes.Statement.{statement}
+use Rattle.metadata.proofs.set_attributes.Tie as tie
 
 load-object-requires : tie.Need-load-object-requires
 load-object-requires c κs = search needs

@@ -3,9 +3,9 @@ use native.Mathlib.Omega.{arith}
 use borrow.Author.Needs.{needs}
 use Rattle.spec.proofs.GoodRecords.{used-at}
 use Rattle.spec.proofs.Valid.{live-size}
-use Rattle.edits.proofs.RemovedObject.{Removing, child-below, child-record, child-range, freed-shape, removed}
-use Rattle.edits.proofs.naming.remove_object.Statement.{statement}
-use Rattle.edits.proofs.naming.remove_object.Tie as tie
+use Rattle.naming.proofs.RemovedObject.{Removing, child-below, child-record, child-range, freed-shape, removed}
+use Rattle.naming.proofs.remove_object.Statement.{statement}
+use Rattle.naming.proofs.remove_object.Tie as tie
 
 -- what is known once the record of the named object is read
 removing : (c : tie.After-load-object) → let o = c .before .before in let a = o .before .before .before .args in

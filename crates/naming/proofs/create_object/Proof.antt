@@ -3,8 +3,8 @@ use borrow.Author.Needs.{needs}
 use Rattle.spec.specs.Edits.{createObject}
 use Rattle.spec.proofs.Shape.{SameShape}
 use Rattle.spec.proofs.Writes.{object-written}
-use Rattle.edits.proofs.naming.create_object.Statement.{statement}
-use Rattle.edits.proofs.naming.create_object.Tie as tie
+use Rattle.naming.proofs.create_object.Statement.{statement}
+use Rattle.naming.proofs.create_object.Tie as tie
 
 generation-of-requires : tie.Need-generation-of-requires
 generation-of-requires c κs = search needs

@@ -1,7 +1,7 @@
 use mathlib.Core.Path.{refl}
 use Rattle.spec.specs.Edits.{withGeneration}
-use Rattle.edits.proofs.naming.with_generation.Statement.{statement}
-use Rattle.edits.proofs.naming.with_generation.Tie as tie
+use Rattle.naming.proofs.with_generation.Statement.{statement}
+use Rattle.naming.proofs.with_generation.Tie as tie
 
 returns : tie.Need-returns
 unfolding withGeneration

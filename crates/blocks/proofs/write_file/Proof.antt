@@ -4,9 +4,9 @@ use native.Mathlib.Omega.{arith}
 use borrow.Author.Needs.{needs}
 use Rattle.spec.specs.Bytes.{part}
 use Rattle.spec.specs.Edits.{writeThrough, writeFile}
-use Rattle.edits.proofs.WrittenFile.{Writing, offset-low, written-shape, next-place, written-more}
-use Rattle.edits.proofs.bytes.write_file.Statement.{statement}
-use Rattle.edits.proofs.bytes.write_file.Tie as tie
+use Rattle.blocks.proofs.WrittenFile.{Writing, offset-low, written-shape, next-place, written-more}
+use Rattle.blocks.proofs.write_file.Statement.{statement}
+use Rattle.blocks.proofs.write_file.Tie as tie
 
 abbrev Inv-loop : tie.InvT-loop
 Inv-loop store₀ o offset call start n done₀ store done =

@@ -7,9 +7,9 @@ use lib.ListN.{length}
 use Rattle.spec.specs.Room.{byteAt}
 use Rattle.spec.specs.Bytes.{overlay, zeros}
 use Rattle.spec.specs.Edits.{clearTail}
-use Rattle.edits.proofs.ClearedTail.{tail-fits}
-use Rattle.edits.proofs.size.clear_tail.Statement.{statement}
-use Rattle.edits.proofs.size.clear_tail.Tie as tie
+use Rattle.blocks.proofs.ClearedTail.{tail-fits}
+use Rattle.blocks.proofs.clear_tail.Statement.{statement}
+use Rattle.blocks.proofs.clear_tail.Tie as tie
 
 tail : (c : tie.Else1) → let a = c .before .before .args in
     (a .start < 8192) × (byteAt (a .store .now) (a .o .0) (a .start) + (512 - a .start % 512) ≤ length (a .store .now))

@@ -1,4 +1,4 @@
-// The first edit: an object's attributes and times.
+// The first edit of the store: an object's attributes and times.
 ghost use mathlib.Core.Path.{_≡_};
 ghost use Prim.Native.Nat.{_+_, _≤_};
 ghost use lib.ListN.{length};

@@ -1,4 +1,4 @@
-// Objects with their names: the third, fourth and fifth edit.
+// Objects with their names: the third, fourth and fifth edit of the store.
 ghost use mathlib.Core.Path.{_≡_};
 ghost use Prim.Native.Nat.{_+_, _≤_, _<_};
 ghost use lib.ListN.{length};
@@ -7,8 +7,8 @@ ghost use Rattle.spec.specs.Edits.{withGeneration, createObject, removeObject, 
 ghost use Rattle.spec.specs.Procedures.{cut};
 ghost use Rattle.spec.proofs.GoodRecords.{GoodRecords};
 ghost use Rattle.spec.proofs.Valid.{Used};
-use crate::size::clear_blocks;
-use crate::size::need;
+use blocks::clear_blocks;
+use blocks::need;
 use image::name::clear_name;
 use image::name::name_child;
 use image::name::save_name;
