@@ -12,7 +12,7 @@ same-length : tie.Need-same-length
 same-length c = search needs
 
 returns : tie.Need-returns
-returns c = cc
+returns c = rw (c .before .before .touch-directory .ensures, c .before .before .before .before .before .before .remove-object .ensures)
 
 pub remove-edit-spec : {M : Type 1} → statement M
 remove-edit-spec = tie.close (tie.spec remove-object-requires touch-directory-requires same-length returns)

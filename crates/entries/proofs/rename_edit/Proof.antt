@@ -32,7 +32,15 @@ same-length c = search needs
 
 returns : tie.Need-returns
 unfolding renameEdit
-returns c = cc
+returns c =
+    rw (
+      c .before .before .touch-directory2 .ensures,
+      c .before .before .before .before .before .before .touch-directory .ensures,
+      c .before .before .before .before .before .before .before .before .before .before .set-attributes .ensures,
+      c .before .before .before .before .before .before .before .before .before .before .before .only-ctime .ensures,
+      c .before .before .before .before .before .before .before .before .before .before .before .before .before .before .before .move-name .ensures,
+      c .before .before .before .before .before .before .before .before .before .before .before .before .before .before .before .before .before .name-child .ensures,
+    )
 
 pub rename-edit-spec : {M : Type 1} → statement M
 rename-edit-spec =
