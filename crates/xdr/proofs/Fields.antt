@@ -6,7 +6,7 @@ use mathlib.Core.Path.{_≡_, refl}
 use borrow.Author.Tests.{leb-true}
 use lib.ListN.{length}
 use lib.Dec.{leb}
-use Rattle.kinds.specs.Reading.{Read, got, bad}
+use Rattle.kinds.specs.Reading.{got}
 use Rattle.kinds.specs.declared.call.Part.{Part}
 use Rattle.spec.specs.Bytes.{beAt}
 use Rattle.spec.specs.Xdr.{bind, only-if, number, bytes}
