@@ -1,6 +1,6 @@
 use borrow.Author.Needs.{needs}
-use Rattle.making.proofs.checks.check_how.Statement.{statement}
-use Rattle.making.proofs.checks.check_how.Tie as tie
+use Rattle.creating.proofs.check_how.Statement.{statement}
+use Rattle.creating.proofs.check_how.Tie as tie
 
 enum-known-manner : tie.Need-enum-known-manner
 enum-known-manner c = search needs

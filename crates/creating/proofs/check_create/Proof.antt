@@ -1,7 +1,7 @@
 use borrow.Author.Needs.{needs}
 use Rattle.spec.specs.Procedures.Names.{checkCreate}
-use Rattle.making.proofs.checks.check_create.Statement.{statement}
-use Rattle.making.proofs.checks.check_create.Tie as tie
+use Rattle.creating.proofs.check_create.Statement.{statement}
+use Rattle.creating.proofs.check_create.Tie as tie
 
 reach-directory-requires : tie.Need-reach-directory-requires
 reach-directory-requires c κs = search needs
