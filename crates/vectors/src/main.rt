@@ -1,8 +1,9 @@
-// Runs the calls of the file `vectors`, which an independent program wrote, through the entries of the library. Prints a line for each run,
-// a line for each difference, and the counts.
+// Runs the calls of the file `vectors` through the entries of the library, and prints a line for each run, a line for each thing that
+// differs, and the counts. `data/vectors` and `stdout` are what the independent program in `peer` wrote (`peer/README.md`).
 mod buffers;
 mod counts;
 mod file;
+mod replay;
 mod report;
 mod steps;
 
@@ -13,6 +14,6 @@ fn main() {
         os::fail(path);
         return;
     }
-    steps::replay(fd);
+    replay::replay(fd);
     libc::close(fd);
 }

@@ -53,10 +53,12 @@ pub fn print_total(counts: Counts) {
     print_differences(counts.differences);
 }
 
+// The last line of a file that is cut or has an unknown kind of record.
 pub fn print_broken() {
     text(b"the file is not a vector file\n");
 }
 
+// The start of a line on a difference.
 fn print_place(place: Place) {
     let kind = place.kind;
     numbered(b"run ", place.run as u64);

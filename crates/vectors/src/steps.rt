@@ -1,4 +1,4 @@
-// The replay: record by record, each step on the store of its run.
+// What each record does on the store of its run.
 ghost use Prim.Native.Nat.{_≤_};
 ghost use lib.ListN.{length};
 use crate::buffers::digest;
@@ -7,18 +7,12 @@ use crate::buffers::first_difference;
 use crate::buffers::first_other;
 use crate::counts::Counts;
 use crate::file::Kind;
-use crate::file::KindRead;
-use crate::file::head_length;
 use crate::file::hyper;
-use crate::file::read_kind;
 use crate::file::read_part;
 use crate::file::size;
 use crate::file::word;
 use crate::report::Place;
-use crate::report::print_broken;
 use crate::report::print_byte;
-use crate::report::print_run;
-use crate::report::print_total;
 use crate::report::same_answer;
 use crate::report::same_store;
 use kinds::numbers::Answer;
@@ -28,24 +22,18 @@ const STORE_BYTE: u8 = 0xA5;
 
 const REPLY_BYTE: u8 = 0x5A;
 
-// The run that is under way, the length of its store, what it has done, and what the runs before it did.
-struct Progress {
-    goes_on: bool,
-    run: u32,
-    length: usize,
-    own: Counts,
-    total: Counts,
-}
-
 // What a record was.
-enum Step {
+pub enum Step {
+    // A new run: its number, and the length of its store.
     Started(u32, usize),
     Did(Counts),
     Ended,
+    // The file ends too early, or is no vector file.
     Broken,
 }
 
-fn start(head: &[u8; 40], store: &mut [u8]) -> Step {
+// A new run, with a new store.
+pub fn start(head: &[u8; 40], store: &mut [u8]) -> Step {
     let length = size(head, 4);
     if length > store.len() {
         return Step::Broken;
@@ -54,6 +42,7 @@ fn start(head: &[u8; 40], store: &mut [u8]) -> Step {
     Step::Started(word(head, 0), length)
 }
 
+// Formats the store.
 fn format(head: &[u8; 40], place: Place, store: &mut [u8]) -> Step {
     let answer = nfs3::nfs3_format(
         store,
@@ -69,11 +58,13 @@ fn format(head: &[u8; 40], place: Place, store: &mut [u8]) -> Step {
     Step::Did(Counts::one(Kind::FORMAT, answered && stored))
 }
 
+// Checks the store.
 fn check(head: &[u8; 40], place: Place, store: &[u8]) -> Step {
     let answer = nfs3::nfs3_check(store);
     Step::Did(Counts::one(Kind::CHECK, same_answer(place, answer, word(head, 0), 0)))
 }
 
+// Writes bytes of the file into the store.
 fn patch(fd: i32, head: &[u8; 40], store: &mut [u8]) -> Step {
     let from = size(head, 0);
     if from > store.len() {
@@ -87,7 +78,7 @@ fn patch(fd: i32, head: &[u8; 40], store: &mut [u8]) -> Step {
 }
 
 // Reads the bytes of a call and of the wanted reply.
-fn read_call(fd: i32, head: &[u8; 40], call: &mut [u8], want: &mut [u8]) -> bool {
+pub fn read_call(fd: i32, head: &[u8; 40], call: &mut [u8], want: &mut [u8]) -> bool {
     if !read_part(fd, call, size(head, 20)) {
         return false;
     }
@@ -112,6 +103,7 @@ fn same_reply(place: Place, want: &[u8], n: usize, reply: &[u8]) -> bool
     true
 }
 
+// Compares the answer, the reply space and the store with what is wanted.
 fn judge(
     head: &[u8; 40],
     place: Place,
@@ -133,7 +125,8 @@ fn judge(
     Step::Did(Counts::one(Kind::CALL, answered && replied && stored))
 }
 
-fn call(
+// Sends a call.
+pub fn call(
     head: &[u8; 40],
     place: Place,
     store: &mut [u8],
@@ -161,153 +154,12 @@ fn call(
     judge(head, place, answer, store, want, reply)
 }
 
-// The place of the next step of this kind.
-fn place_of(kind: u32, progress: Progress) -> Place {
-    let own = progress.own;
-    let before = match kind {
-        Kind::FORMAT => own.formats,
-        Kind::CHECK => own.checks,
-        _ => own.calls,
-    };
-    Place {
-        run: progress.run,
-        kind,
-        number: std::num::wrapping_add_u64(before, 1),
-    }
-}
-
 // A record that works on the store of the run.
-fn act(fd: i32, kind: u32, head: &[u8; 40], place: Place, store: &mut [u8]) -> Step {
+pub fn act(fd: i32, kind: u32, head: &[u8; 40], place: Place, store: &mut [u8]) -> Step {
     match kind {
         Kind::FORMAT => format(head, place, store),
         Kind::PATCH => patch(fd, head, store),
         Kind::CHECK => check(head, place, store),
         _ => Step::Broken,
-    }
-}
-
-// A record other than a call.
-fn plain_step(fd: i32, kind: u32, head: &[u8; 40], progress: Progress, store: &mut [u8]) -> Step {
-    let length = progress.length;
-    if length > store.len() {
-        return Step::Broken;
-    }
-    match kind {
-        Kind::END => Step::Ended,
-        Kind::RUN => start(head, store),
-        _ => act(
-            fd,
-            kind,
-            head,
-            place_of(kind, progress),
-            &mut store[0..length],
-        ),
-    }
-}
-
-// A call.
-fn call_step(
-    fd: i32,
-    head: &[u8; 40],
-    progress: Progress,
-    store: &mut [u8],
-    bytes: &mut [u8],
-    want: &mut [u8],
-    reply: &mut [u8],
-) -> Step {
-    let length = progress.length;
-    if length > store.len() {
-        return Step::Broken;
-    }
-    if !read_call(fd, head, bytes, want) {
-        return Step::Broken;
-    }
-    call(
-        head,
-        place_of(Kind::CALL, progress),
-        &mut store[0..length],
-        bytes,
-        want,
-        reply,
-    )
-}
-
-// Reads one record and does what it says.
-fn one_record(
-    fd: i32,
-    progress: Progress,
-    store: &mut [u8; 535061],
-    bytes: &mut [u8; 10000],
-    want: &mut [u8; 4224],
-    reply: &mut [u8; 8192],
-) -> Step {
-    let read = read_kind(fd);
-    let KindRead::Got(kind) = read else {
-        return Step::Broken;
-    };
-    let mut head = [0u8; 40];
-    if !read_part(fd, &mut head, head_length(kind)) {
-        return Step::Broken;
-    }
-    if kind == Kind::CALL {
-        call_step(fd, &head, progress, store, bytes, want, reply)
-    } else {
-        plain_step(fd, kind, &head, progress, store)
-    }
-}
-
-// Prints the line of the run that is under way, if there is one; what has been done in all.
-fn close_run(progress: Progress) -> Counts {
-    let own = progress.own;
-    let total = progress.total;
-    if own.runs != 0 {
-        print_run(progress.run, own);
-    }
-    total.plus(own)
-}
-
-fn after(progress: Progress, step: Step) -> Progress {
-    let own = progress.own;
-    let mut next = progress;
-    match step {
-        Step::Started(run, length) => {
-            next.total = close_run(progress);
-            next.own = Counts::one(Kind::RUN, true);
-            next.run = run;
-            next.length = length;
-        }
-        Step::Did(counts) => {
-            next.own = own.plus(counts);
-        }
-        Step::Ended => {
-            print_total(close_run(progress));
-            next.goes_on = false;
-        }
-        Step::Broken => {
-            print_broken();
-            next.goes_on = false;
-        }
-    }
-    next
-}
-
-// Replays the file. The arrays are lent as slices below this function only.
-pub fn replay(fd: i32) {
-    let mut store = [0u8; 535061];
-    let mut bytes = [0u8; 10000];
-    let mut want = [0u8; 4224];
-    let mut reply = [0u8; 8192];
-    let mut progress = Progress {
-        goes_on: true,
-        run: 0,
-        length: 0,
-        own: Counts::NONE,
-        total: Counts::NONE,
-    };
-    let mut at: u64 = 0;
-    while at < 10000000 && progress.goes_on {
-        let done = one_record(fd, progress, &mut store, &mut bytes, &mut want, &mut reply);
-        progress = after(progress, done);
-        at += 1;
     }
 }

@@ -1,7 +1,7 @@
 use borrow.Author.Needs.{needs}
 use Prim.Native.Nat.{_≤_, _-_}
-use Rattle.vectors.proofs.steps.replay.Statement.{statement}
-use Rattle.vectors.proofs.steps.replay.Tie as tie
+use Rattle.vectors.proofs.replay.replay.Statement.{statement}
+use Rattle.vectors.proofs.replay.replay.Tie as tie
 
 abbrev Inv-loop : tie.InvT-loop
 Inv-loop fd store₀ bytes₀ want₀ reply₀ progress₀ at₀ store bytes want reply progress at = at ≤ 10000000
