@@ -1,12 +1,13 @@
--- The answers of the check and of format: a number, and length 0.
+-- What each entry answers, and what it leaves in the lent buffers.
 use Prim.Native.Nat.{ℕ}
 use mathlib.Core.Path.{_≡_}
 use mathlib.Core.List.{List}
+use Rattle.kinds.specs.declared.object.Context.{Context}
 use Rattle.kinds.specs.declared.object.Time.{Time}
-use Rattle.spec.specs.Serve.{Formatted}
+use Rattle.spec.specs.Serve.{Outcome, Formatted}
 use Rattle.kinds.specs.declared.numbers.Answer.{Answer}
 
--- "both of length 0"
+-- the answers of the check and of format: "both of length 0"
 abbrev pub answerOf : ℕ → Answer
 answerOf number = record { number = number; length = 0 }
 
@@ -18,3 +19,14 @@ timeOf seconds nanoseconds = record { seconds = seconds; nanoseconds = nanosecon
 pub record Formats (f : Formatted) (r : Answer) (store : List ℕ) : Type 0 where
   pub answers : r ≡ answerOf (f .number)
   pub leaves : store ≡ f .store
+
+-- a clock of two numbers, and a verifier
+abbrev pub contextOf : ℕ → ℕ → ℕ → Context
+contextOf seconds nanoseconds verifier = record { clock = timeOf seconds nanoseconds; verifier = verifier }
+
+-- an answer, a reply space and a store are what a call gives
+pub record Serves (o : Outcome) (r : Answer) (reply store : List ℕ) : Type 0 where
+  pub number : r .number ≡ o .number
+  pub length : r .length ≡ o .length
+  pub space : reply ≡ o .space
+  pub leaves : store ≡ o .store

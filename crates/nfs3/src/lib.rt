@@ -1,12 +1,47 @@
 // The entries that a C program calls.
 ghost use mathlib.Core.Path.{_≡_};
-ghost use Rattle.spec.specs.Serve.{check, format};
-ghost use Rattle.nfs3.specs.Answers.{answerOf, timeOf, Formats};
+ghost use Rattle.spec.specs.Serve.{serve, check, format};
+ghost use Rattle.nfs3.specs.Answers.{answerOf, timeOf, contextOf, Formats, Serves};
 use fsck::check::check_store;
 use fsck::format::format_store;
 use fsck::shape::Found;
 use kinds::numbers::Answer;
+use kinds::object::Context;
 use kinds::object::Time;
+use serving::opening::Opened;
+use serving::opening::open;
+use serving::responding::respond;
+
+// Answers a call: 2, 3, 4, 1 or 5, which change nothing, or 0 with the length of the reply.
+#[no_mangle]
+pub extern "C" fn nfs3_call(
+    call: &[u8],
+    store: &mut [u8],
+    reply: &mut [u8],
+    seconds: u32,
+    nanoseconds: u32,
+    verifier: u64,
+) -> Answer
+    ensures { λ r. ⌜ Serves (serve (now (call .entry)) (now (store .entry)) (now (reply .entry)) (contextOf seconds nanoseconds verifier)) r (now (reply .exit)) (now (store .exit)) ⌝ }
+{
+    let clock = Time {
+        seconds,
+        nanoseconds,
+    };
+    let context = Context { clock, verifier };
+    let mut used = [0u8; 1024];
+    let opened = open(call, store, reply, context, &mut used);
+    match opened {
+        Opened::Refused(number) => Answer { number, length: 0 },
+        Opened::Heard(h, c) => {
+            let length = respond(store, reply, &used, context, call, h, c);
+            Answer {
+                number: Answer::DONE,
+                length,
+            }
+        }
+    }
+}
 
 // Whether a store of any bytes passes the check: 0 or 1.
 #[no_mangle]

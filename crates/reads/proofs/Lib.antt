@@ -2,3 +2,4 @@ pub mod Found
 pub mod Few
 pub mod Runs
 pub mod Sent
+pub mod Writable

@@ -6,7 +6,7 @@ use mathlib.Core.List.{List, [], _∷_, _++_, map, map-append, append-assoc}
 use native.Mathlib.Nat.{add-zero}
 use native.Mathlib.Omega.{arith}
 use lib.Dec.{eqb, leb, ltb, eqb·zero-suc, eqb·suc-suc}
-use lib.ListN.{length, take}
+use lib.ListN.{length}
 use Rattle.spec.specs.Count.{passing}
 use Rattle.spec.specs.Image.{Store, nameAt}
 use Rattle.spec.specs.Procedures.Listing.{entryOf, dotEntries, entriesAbove, fitting}
@@ -123,10 +123,3 @@ run-fits given room k (e ∷ es) =
 
 pub start-fits : (given room : ℕ) (es : List Entry) (run : Run) → run ≡ runOf given (startRun room) es → Fits given room 0 es run
 start-fits given room es run e = rw e (run-fits given room 0 es)
-
-pub fitting-front : (room : ℕ) (es : List Entry) → fitting 24 room es ≡ take (length (fitting 24 room es)) es
-unfolding fitting
-fitting-front room [] = refl
-fitting-front room (e ∷ es) =
-    let price = cost (length (e .name)) in
-    by-bool (leb price room) (λ t. rw t (ap (λ (l : List Entry). e ∷ l) (fitting-front (room - price) es))) (λ t. rw t)

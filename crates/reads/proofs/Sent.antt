@@ -13,9 +13,10 @@ use Rattle.spec.specs.Handles.{attributes}
 use Rattle.spec.specs.Image.{Store}
 use Rattle.spec.specs.Procedures.Listing.{entries, entriesAbove, fitting, isNothing, checkListing}
 use Rattle.spec.specs.Results.{Entry, listed, failShowing}
+use Rattle.spec.proofs.Listing.{fitting-front}
 use Rattle.reads.specs.Run.{startRun, runOf, sentRun, listedIn}
 use Rattle.reads.specs.declared.listing.Run.{Run}
-use Rattle.reads.proofs.Runs.{start-fits, fitting-front}
+use Rattle.reads.proofs.Runs.{start-fits}
 
 nothing-test : (xs es : List Entry) → not (isNothing es) && isNothing xs ≡ not (eqb (length xs) (length es)) && eqb (length xs) 0
 nothing-test [] [] = refl
@@ -46,7 +47,7 @@ module _ (given limit : ℕ) (es : List Entry) (h : 104 ≤ limit) (run : Run) (
   pub listing-sent : run .full && eqb (run .count) 0 ≡ false → passed (take (run .count) above, not (run .full)) ≡ sentRun limit above
   unfolding checkListing
   listing-sent t =
-      let p : take (run .count) above ≡ fit = rw counted (sym (fitting-front (limit - 104) above)) in
+      let p : take (run .count) above ≡ fit = rw counted (sym (fitting-front 24 (limit - 104) above)) in
       let q : not (run .full) ≡ eqb (length fit) (length above) = rw ended (Bool·not-not (eqb (length fit) (length above))) in
       rw (le-ltb limit 104 h, test ∙ t, p, q)
 

@@ -7,6 +7,7 @@ ghost use Rattle.spec.specs.Procedures.{cut};
 ghost use Rattle.spec.specs.Procedures.Data.{readLength, readResult, read, commit};
 ghost use Rattle.spec.proofs.GoodRecords.{GoodRecords};
 ghost use Rattle.results.specs.Meaning.{resultOf};
+ghost use Rattle.results.specs.Writable.{Writable};
 use files::failure::fail_changing;
 use files::failure::fail_showing;
 use files::handle::Reached;
@@ -44,6 +45,7 @@ fn read_result(store: &[u8], o: ObjectNumber, offset: u64, count: u32) -> Reply
     requires { ⌜ GoodRecords (now store) ⌝ }
     requires { ⌜ o .0 < objects (now store) ⌝ }
     ensures { λ r. ⌜ resultOf (now (store .entry)) r ≡ readResult (now (store .entry)) (o .0) offset count ⌝ }
+    ensures { λ r. ⌜ Writable (now (store .entry)) r ⌝ }
 {
     let n = read_length(store, o, offset, count);
     let size = size_of(store, o) as u64;
@@ -56,6 +58,7 @@ pub fn read(store: &[u8], call: &[u8], h: Part, offset: u64, count: u32) -> Repl
     requires { ⌜ GoodRecords (now store) ⌝ }
     requires { ⌜ h .start + h .length ≤ length (now call) ⌝ }
     ensures { λ r. ⌜ resultOf (now (store .entry)) r ≡ read (now (store .entry)) (cut (now (call .entry)) h) offset count .result ⌝ }
+    ensures { λ r. ⌜ Writable (now (store .entry)) r ⌝ }
 {
     let answer = reach_regular(store, call, h);
     match answer {

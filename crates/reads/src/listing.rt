@@ -9,6 +9,7 @@ ghost use Rattle.spec.specs.Procedures.{cut};
 ghost use Rattle.spec.specs.Procedures.Listing.{entries, entriesAbove, readdir};
 ghost use Rattle.spec.proofs.GoodRecords.{GoodRecords};
 ghost use Rattle.results.specs.Meaning.{resultOf};
+ghost use Rattle.results.specs.Writable.{Writable};
 ghost use Rattle.reads.specs.Run.{cost, startRun, extended, extendedAt, runOf, listingOf, sentRun, readdirIn};
 use crate::data::least;
 use files::failure::fail_showing;
@@ -150,6 +151,7 @@ fn readdir_in(
     requires { ⌜ h .start + h .length ≤ length (now call) ⌝ }
     requires { ⌜ d .0 < objects (now store) ⌝ }
     ensures { λ r. ⌜ resultOf (now (store .entry)) r ≡ readdirIn (now (store .entry)) (cut (now (call .entry)) h) (d .0) cookie verifier count .result ⌝ }
+    ensures { λ r. ⌜ Writable (now (store .entry)) r ⌝ }
 {
     if verifier != 0 {
         return fail_showing(store, call, h, Status::BAD_COOKIE);
@@ -166,6 +168,7 @@ pub fn readdir(store: &[u8], call: &[u8], h: Part, cookie: u64, verifier: u64, c
     requires { ⌜ GoodRecords (now store) ⌝ }
     requires { ⌜ h .start + h .length ≤ length (now call) ⌝ }
     ensures { λ r. ⌜ resultOf (now (store .entry)) r ≡ readdir (now (store .entry)) (cut (now (call .entry)) h) cookie verifier count .result ⌝ }
+    ensures { λ r. ⌜ Writable (now (store .entry)) r ⌝ }
 {
     let answer = reach_directory(store, call, h);
     match answer {

@@ -6,24 +6,23 @@ ghost use Rattle.spec.specs.Bytes.{words};
 ghost use Rattle.spec.specs.Replies.{resultBytes};
 ghost use Rattle.spec.specs.Rpc.{accepted};
 ghost use Rattle.results.specs.Meaning.{resultOf};
+ghost use Rattle.results.specs.Writable.{Writable};
 ghost use Rattle.xdr.specs.Wrote.{Wrote};
-ghost use Rattle.replies.specs.Writable.{Writable};
-use crate::bodies::put_changed;
-use crate::bodies::put_committed;
-use crate::bodies::put_created;
-use crate::bodies::put_failed;
-use crate::bodies::put_found;
-use crate::bodies::put_got_attributes;
-use crate::bodies::put_got_bytes;
-use crate::bodies::put_got_limits;
-use crate::bodies::put_got_naming;
-use crate::bodies::put_got_room;
-use crate::bodies::put_granted;
-use crate::bodies::put_listed;
-use crate::bodies::put_renamed;
-use crate::bodies::put_wrote;
-use crate::failure::put_dead;
-use kinds::numbers::ObjectNumber;
+use bodies::put_changed;
+use bodies::put_committed;
+use bodies::put_created;
+use bodies::put_failed;
+use bodies::put_found;
+use bodies::put_got_attributes;
+use bodies::put_got_bytes;
+use bodies::put_got_limits;
+use bodies::put_got_naming;
+use bodies::put_got_room;
+use bodies::put_granted;
+use bodies::put_listed;
+use bodies::put_renamed;
+use bodies::put_wrote;
+use fields::failure::put_dead;
 use results::Reply;
 use xdr::write::put_words;
 
@@ -36,18 +35,11 @@ fn put_accepted(reply: &mut [u8], xid: u32) -> usize
     put_words(reply, 0, &ws)
 }
 
-// The reply to a procedure that gave r; `parent` is the parent of the directory that r lists.
-pub fn put_result(
-    reply: &mut [u8],
-    store: &[u8],
-    procedure: u32,
-    xid: u32,
-    r: Reply,
-    parent: ObjectNumber,
-) -> usize
+// The reply to a procedure that gave r.
+pub fn put_result(reply: &mut [u8], store: &[u8], procedure: u32, xid: u32, r: Reply) -> usize
     requires { ⌜ procedure ≤ 21 ⌝ }
     requires { ⌜ 4224 ≤ length (now reply) ⌝ }
-    requires { ⌜ Writable (now store) (parent .0) r ⌝ }
+    requires { ⌜ Writable (now store) r ⌝ }
     ensures { λ next. ⌜ Wrote (length (accepted xid 0 (resultBytes procedure (resultOf (now (store .entry)) r)))) (now (reply .entry)) (now (reply .exit)) 0 next (accepted xid 0 (resultBytes procedure (resultOf (now (store .entry)) r))) ⌝ }
 {
     let at = put_accepted(reply, xid);
@@ -66,7 +58,7 @@ pub fn put_result(
         Reply::Wrote(c, count, verifier) => put_wrote(reply, at, c, count, verifier),
         Reply::Created(h, a, d) => put_created(reply, at, h, a, d),
         Reply::Listed(a, eof, d, cookie, n) => {
-            put_listed(reply, at, store, a, eof, d, parent, cookie, n)
+            put_listed(reply, at, store, a, eof, d, cookie, n)
         }
         Reply::GotRoom(a, total, free, objects, available) => {
             put_got_room(reply, at, a, total, free, objects, available)

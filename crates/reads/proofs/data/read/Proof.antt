@@ -1,6 +1,7 @@
 use borrow.Author.Needs.{needs}
 use Rattle.spec.specs.Procedures.Data.{read}
 use Rattle.files.proofs.Reach.{regular-reached}
+use Rattle.reads.proofs.Writable.{failure-writable}
 use Rattle.reads.proofs.data.read.Statement.{statement}
 use Rattle.reads.proofs.data.read.Tie as tie
 
@@ -23,11 +24,17 @@ fail-showing-requires c κs = search needs
 
 returns : tie.Need-returns
 unfolding read
-returns c = rw (← c .before .before .before .before .reach-regular .ensures, c .before .before .answer .given .1) (c .read-result .ensures)
+returns c = (
+  rw (← c .before .before .before .before .reach-regular .ensures, c .before .before .answer .given .1) (c .read-result .ensures .0),
+  c .read-result .ensures .1,
+)
 
 returns-2 : tie.Need-returns-2
 unfolding read
-returns-2 c = rw (← c .before .before .before .before .reach-regular .ensures, c .before .before .answer2 .given .1) (c .fail-showing .ensures)
+returns-2 c = (
+  rw (← c .before .before .before .before .reach-regular .ensures, c .before .before .answer2 .given .1) (c .fail-showing .ensures),
+  failure-writable _ _ _ (c .fail-showing .result) (c .fail-showing .ensures),
+)
 
 pub read-spec : {M : Type 1} → statement M
 read-spec =

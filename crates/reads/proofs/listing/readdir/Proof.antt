@@ -1,6 +1,7 @@
 use borrow.Author.Needs.{needs}
 use Rattle.spec.specs.Procedures.Listing.{checkReaddir, readdir}
 use Rattle.files.proofs.Reach.{directory-reached}
+use Rattle.reads.proofs.Writable.{failure-writable}
 use Rattle.reads.proofs.listing.readdir.Statement.{statement}
 use Rattle.reads.proofs.listing.readdir.Tie as tie
 
@@ -23,11 +24,17 @@ fail-showing-requires c κs = search needs
 
 returns : tie.Need-returns
 unfolding checkReaddir readdir
-returns c = rw (← c .before .before .before .before .reach-directory .ensures, c .before .before .answer .given .1) (c .readdir-in .ensures)
+returns c = (
+  rw (← c .before .before .before .before .reach-directory .ensures, c .before .before .answer .given .1) (c .readdir-in .ensures .0),
+  c .readdir-in .ensures .1,
+)
 
 returns-2 : tie.Need-returns-2
 unfolding checkReaddir readdir
-returns-2 c = rw (← c .before .before .before .before .reach-directory .ensures, c .before .before .answer2 .given .1) (c .fail-showing .ensures)
+returns-2 c = (
+  rw (← c .before .before .before .before .reach-directory .ensures, c .before .before .answer2 .given .1) (c .fail-showing .ensures),
+  failure-writable _ _ _ (c .fail-showing .result) (c .fail-showing .ensures),
+)
 
 pub readdir-spec : {M : Type 1} → statement M
 readdir-spec = tie.close (tie.spec reach-directory-requires enum-known-answer readdir-in-requires enum-known-answer-2 fail-showing-requires returns returns-2)

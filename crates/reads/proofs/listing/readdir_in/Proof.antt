@@ -1,10 +1,13 @@
+use Prim.Native.Nat.{_≤_}
 use mathlib.Core.Path.{sym, ap, _∙_}
+use native.Mathlib.Omega.{arith}
 use borrow.Author.Needs.{needs}
 use borrow.Author.Tests.{eq-eqb, ne-eqb}
 use Rattle.spec.specs.Procedures.{cut}
 use Rattle.spec.specs.Procedures.Listing.{entries, entriesAbove, checkListing}
 use Rattle.reads.specs.Run.{listingOf}
 use Rattle.reads.proofs.Sent.{listed-sent, listed-refused}
+use Rattle.reads.proofs.Writable.{failure-writable, listable}
 use Rattle.reads.proofs.listing.readdir_in.Statement.{statement}
 use Rattle.reads.proofs.listing.readdir_in.Tie as tie
 
@@ -12,7 +15,10 @@ fail-showing-requires : tie.Need-fail-showing-requires
 fail-showing-requires c κs = search needs
 
 returns : tie.Need-returns
-returns c = rw (ne-eqb _ _ (c .before .if1 .taken)) (c .fail-showing .ensures)
+returns c = (
+  rw (ne-eqb _ _ (c .before .if1 .taken)) (c .fail-showing .ensures),
+  failure-writable _ _ _ (c .fail-showing .result) (c .fail-showing .ensures),
+)
 
 least-requires : tie.Need-least-requires
 least-requires c κs = search needs
@@ -34,16 +40,23 @@ fail-showing-requires-2 c κs = search needs
 
 returns-2 : tie.Need-returns-2
 returns-2 c =
-    let a = c .before .before .before .before .before .before .before .before .before .args in
+    let st = c .before .before .before .before .before .before .before .before .before in
+    let a = st .args in
     let h = cut (a .call .now) (a .h) in
     let es = entriesAbove (a .cookie) (entries (a .store .now) (a .d .0)) in
-    let e = sym (ap (listingOf es) (c .before .before .listing .given .1)) ∙ c .before .before .before .before .check-listing .ensures in
-    rw (
-      c .attributes .ensures,
-      eq-eqb _ _ (c .before .before .before .before .before .before .if1 .left),
-      ← c .before .before .before .before .before .least .ensures,
+    let limit = c .before .before .before .before .before .least .result in
+    let m : limit ≤ 4096 = omega (arith, c .before .before .before .before .before .least .ensures) in
+    let is = c .before .before .listing .given .1 in
+    let sent = c .before .before .before .before .check-listing .ensures in
+    let e = sym (ap (listingOf es) is) ∙ sent in (
+      rw (
+        c .attributes .ensures,
+        eq-eqb _ _ (c .before .before .before .before .before .before .if1 .left),
+        ← c .before .before .before .before .before .least .ensures,
+      )
+          (listed-sent (a .store .now) h (a .d .0) (a .cookie) (checkListing 104 24 limit es) _ _ e),
+      listable (a .store .now) (a .d .0) (a .cookie) limit _ _ _ (st .pre .0) (st .pre .1 .1) m is sent,
     )
-    (listed-sent (a .store .now) h (a .d .0) (a .cookie) (checkListing 104 24 (c .before .before .before .before .before .least .result) es) _ _ e)
 
 returns-3 : tie.Need-returns-3
 returns-3 c =
@@ -51,11 +64,14 @@ returns-3 c =
     let h = cut (a .call .now) (a .h) in
     let es = entriesAbove (a .cookie) (entries (a .store .now) (a .d .0)) in
     let e = sym (ap (listingOf es) (c .before .before .listing2 .given .1)) ∙ c .before .before .before .before .check-listing .ensures in
-    rw (
-      eq-eqb _ _ (c .before .before .before .before .before .before .if1 .left),
-      ← c .before .before .before .before .before .least .ensures,
+    let k = listed-refused (a .store .now) h (a .d .0) (a .cookie) (checkListing 104 24 (c .before .before .before .before .before .least .result) es) _ e in (
+      rw (
+        eq-eqb _ _ (c .before .before .before .before .before .before .if1 .left),
+        ← c .before .before .before .before .before .least .ensures,
+      )
+          (c .fail-showing2 .ensures ∙ k),
+      failure-writable _ _ _ (c .fail-showing2 .result) (c .fail-showing2 .ensures),
     )
-    (c .fail-showing2 .ensures ∙ listed-refused (a .store .now) h (a .d .0) (a .cookie) (checkListing 104 24 (c .before .before .before .before .before .least .result) es) _ e)
 
 pub readdir-in-spec : {M : Type 1} → statement M
 readdir-in-spec = tie.close (tie.spec fail-showing-requires returns least-requires check-listing-requires enum-known-listing attributes-requires enum-known-listing-2 fail-showing-requires-2 returns-2 returns-3)

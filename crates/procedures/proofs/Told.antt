@@ -1,0 +1,147 @@
+-- What the contract of each procedure gives of the run of its call. Assumes nothing.
+use Prim.Native.Nat.{ℕ}
+use mathlib.Core.List.{List}
+use mathlib.Core.Path.{_≡_, refl, sym, subst}
+use Rattle.kinds.specs.Numbers.{NOTSUPP}
+use Rattle.kinds.specs.declared.object.Context.{Context}
+use Rattle.kinds.specs.declared.call.Part.{Part}
+use Rattle.kinds.specs.declared.call.NameIn.{NameIn}
+use Rattle.kinds.specs.declared.call.Settable.{Settable}
+use Rattle.kinds.specs.declared.call.Guard.{Guard}
+use Rattle.kinds.specs.declared.call.How.{How}
+use Rattle.kinds.specs.declared.call.Arguments.{Arguments}
+use Rattle.kinds.specs.declared.call.Arguments.the-variants as Arguments
+use Rattle.spec.specs.Image.{Store}
+use Rattle.spec.specs.Procedures.{cut, act}
+use Rattle.spec.specs.Procedures.Attributes.{getattr, setattr, access}
+use Rattle.spec.specs.Procedures.Data.{read, write, commit}
+use Rattle.spec.specs.Procedures.Listing.{readdir}
+use Rattle.spec.specs.Procedures.Names.{lookup, create, mkdir}
+use Rattle.spec.specs.Procedures.Removal.{remove, rmdir, rename}
+use Rattle.spec.specs.Procedures.Volume.{fsstat, fsinfo, pathconf}
+use Rattle.spec.proofs.Error.{getattr-store, lookup-store, access-store, read-store, readdir-store, fsstat-store, fsinfo-store, pathconf-store, commit-store}
+use Rattle.spec.proofs.GoodRecords.{GoodRecords, valid-records}
+use Rattle.results.specs.declared.Reply.{Reply}
+use Rattle.results.specs.declared.Reply.the-variants as Reply
+use Rattle.results.specs.Meaning.{resultOf, Does}
+use Rattle.results.specs.Writable.{Writable}
+use Rattle.results.proofs.Plain.{Plain, plain-writable}
+use Rattle.changes.specs.Ready.{Ready}
+use Rattle.procedures.specs.Runs.{Runs}
+use Rattle.procedures.proofs.Plain.{getattr-plain, lookup-plain, access-plain, fsstat-plain, fsinfo-plain, pathconf-plain, commit-plain, setattr-plain, write-plain, create-plain, mkdir-plain, remove-plain, rmdir-plain, rename-plain}
+
+-- what every procedure asks of the store
+pub good : {s : Store} {used : List ℕ} {free : ℕ} {c : Context} → Ready s used free c → GoodRecords s
+good {s} h = valid-records s (h .valid) (h .bytes)
+
+module _ (s : Store) (c : Context) (call : List ℕ) (a : Arguments) where
+  -- by the variant of the arguments
+  told : (b : Arguments) (r : Reply) (t : Store) → a ≡ b → Runs (act s c call b) r t → Runs (act s c call a) r t
+  told b r t e h = subst (λ (x : Arguments). Runs (act s c call x) r t) (sym e) h
+
+  -- a procedure that only reads
+  reading : (b : Arguments) (r : Reply) → a ≡ b → resultOf s r ≡ act s c call b .result → act s c call b .store ≡ s → Writable s r
+      → Runs (act s c call a) r s
+  reading b r e k same w = told b r s e (record { does = record { result = k; store = sym same }; writable = w })
+
+  -- one with a plain result
+  plainly : (b : Arguments) (r : Reply) → a ≡ b → resultOf s r ≡ act s c call b .result → act s c call b .store ≡ s
+      → Plain (act s c call b .result) → Runs (act s c call a) r s
+  plainly b r e k same p = reading b r e k same (plain-writable s r (act s c call b .result) k p)
+
+  -- a procedure that changes the store
+  changing : (b : Arguments) (r : Reply) (t : Store) → a ≡ b → Does (act s c call b) r t → Plain (act s c call b .result)
+      → Runs (act s c call a) r t
+  changing b r t e h p = told b r t e (record { does = h; writable = plain-writable t r (act s c call b .result) (h .result) p })
+
+  pub told-null : a ≡ Arguments.Null → Runs (act s c call a) Reply.Null s
+  unfolding act
+  told-null e = reading Arguments.Null Reply.Null e refl refl tt
+
+  pub told-unserved : a ≡ Arguments.Unserved → Runs (act s c call a) (Reply.Dead (record { 0 = NOTSUPP })) s
+  unfolding act
+  told-unserved e = reading Arguments.Unserved (Reply.Dead (record { 0 = NOTSUPP })) e refl refl tt
+
+  pub told-getattr : (h : Part) (r : Reply) → a ≡ Arguments.Getattr h → resultOf s r ≡ getattr s (cut call h) .result → Runs (act s c call a) r s
+  unfolding act
+  told-getattr h r e k = plainly (Arguments.Getattr h) r e k (getattr-store s (cut call h)) (getattr-plain s (cut call h))
+
+  pub told-setattr : (h : Part) (x : Settable) (g : Guard) (r : Reply) (t : Store) → a ≡ Arguments.Setattr h x g
+      → Does (setattr s c (cut call h) x g) r t → Runs (act s c call a) r t
+  unfolding act
+  told-setattr h x g r t e k = changing (Arguments.Setattr h x g) r t e k (setattr-plain s c (cut call h) x g)
+
+  pub told-lookup : (p : NameIn) (r : Reply) → a ≡ Arguments.Lookup p
+      → resultOf s r ≡ lookup s (cut call (p .directory)) (cut call (p .name)) .result → Runs (act s c call a) r s
+  unfolding act
+  told-lookup p r e k =
+      plainly (Arguments.Lookup p) r e k (lookup-store s (cut call (p .directory)) (cut call (p .name)))
+      (lookup-plain s (cut call (p .directory)) (cut call (p .name)))
+
+  pub told-access : (h : Part) (bits : ℕ) (r : Reply) → a ≡ Arguments.Access h bits → resultOf s r ≡ access s (cut call h) bits .result
+      → Runs (act s c call a) r s
+  unfolding act
+  told-access h bits r e k = plainly (Arguments.Access h bits) r e k (access-store s (cut call h) bits) (access-plain s (cut call h) bits)
+
+  pub told-read : (h : Part) (offset count : ℕ) (r : Reply) → a ≡ Arguments.Read h offset count
+      → resultOf s r ≡ read s (cut call h) offset count .result → Writable s r → Runs (act s c call a) r s
+  unfolding act
+  told-read h offset count r e k w = reading (Arguments.Read h offset count) r e k (read-store s (cut call h) offset count) w
+
+  pub told-write : (h : Part) (offset count : ℕ) (bytes : Part) (r : Reply) (t : Store) → a ≡ Arguments.Write h offset count bytes
+      → Does (write s c (cut call h) offset count (cut call bytes)) r t → Runs (act s c call a) r t
+  unfolding act
+  told-write h offset count bytes r t e k =
+      changing (Arguments.Write h offset count bytes) r t e k (write-plain s c (cut call h) offset count (cut call bytes))
+
+  pub told-create : (p : NameIn) (manner : How) (r : Reply) (t : Store) → a ≡ Arguments.Create p manner
+      → Does (create s c (cut call (p .directory)) (cut call (p .name)) manner) r t → Runs (act s c call a) r t
+  unfolding act
+  told-create p manner r t e k =
+      changing (Arguments.Create p manner) r t e k (create-plain s c (cut call (p .directory)) (cut call (p .name)) manner)
+
+  pub told-mkdir : (p : NameIn) (x : Settable) (r : Reply) (t : Store) → a ≡ Arguments.Mkdir p x
+      → Does (mkdir s c (cut call (p .directory)) (cut call (p .name)) x) r t → Runs (act s c call a) r t
+  unfolding act
+  told-mkdir p x r t e k = changing (Arguments.Mkdir p x) r t e k (mkdir-plain s c (cut call (p .directory)) (cut call (p .name)) x)
+
+  pub told-remove : (p : NameIn) (r : Reply) (t : Store) → a ≡ Arguments.Remove p
+      → Does (remove s c (cut call (p .directory)) (cut call (p .name))) r t → Runs (act s c call a) r t
+  unfolding act
+  told-remove p r t e k = changing (Arguments.Remove p) r t e k (remove-plain s c (cut call (p .directory)) (cut call (p .name)))
+
+  pub told-rmdir : (p : NameIn) (r : Reply) (t : Store) → a ≡ Arguments.Rmdir p
+      → Does (rmdir s c (cut call (p .directory)) (cut call (p .name))) r t → Runs (act s c call a) r t
+  unfolding act
+  told-rmdir p r t e k = changing (Arguments.Rmdir p) r t e k (rmdir-plain s c (cut call (p .directory)) (cut call (p .name)))
+
+  pub told-rename : (p q : NameIn) (r : Reply) (t : Store) → a ≡ Arguments.Rename p q
+      → Does (rename s c (cut call (p .directory)) (cut call (p .name)) (cut call (q .directory)) (cut call (q .name))) r t
+      → Runs (act s c call a) r t
+  unfolding act
+  told-rename p q r t e k =
+      changing (Arguments.Rename p q) r t e k
+      (rename-plain s c (cut call (p .directory)) (cut call (p .name)) (cut call (q .directory)) (cut call (q .name)))
+
+  pub told-readdir : (h : Part) (cookie verifier count : ℕ) (r : Reply) → a ≡ Arguments.Readdir h cookie verifier count
+      → resultOf s r ≡ readdir s (cut call h) cookie verifier count .result → Writable s r → Runs (act s c call a) r s
+  unfolding act
+  told-readdir h cookie verifier count r e k w =
+      reading (Arguments.Readdir h cookie verifier count) r e k (readdir-store s (cut call h) cookie verifier count) w
+
+  pub told-fsstat : (h : Part) (r : Reply) → a ≡ Arguments.Fsstat h → resultOf s r ≡ fsstat s (cut call h) .result → Runs (act s c call a) r s
+  unfolding act
+  told-fsstat h r e k = plainly (Arguments.Fsstat h) r e k (fsstat-store s (cut call h)) (fsstat-plain s (cut call h))
+
+  pub told-fsinfo : (h : Part) (r : Reply) → a ≡ Arguments.Fsinfo h → resultOf s r ≡ fsinfo s (cut call h) .result → Runs (act s c call a) r s
+  unfolding act
+  told-fsinfo h r e k = plainly (Arguments.Fsinfo h) r e k (fsinfo-store s (cut call h)) (fsinfo-plain s (cut call h))
+
+  pub told-pathconf : (h : Part) (r : Reply) → a ≡ Arguments.Pathconf h → resultOf s r ≡ pathconf s (cut call h) .result
+      → Runs (act s c call a) r s
+  unfolding act
+  told-pathconf h r e k = plainly (Arguments.Pathconf h) r e k (pathconf-store s (cut call h)) (pathconf-plain s (cut call h))
+
+  pub told-commit : (h : Part) (r : Reply) → a ≡ Arguments.Commit h → resultOf s r ≡ commit s c (cut call h) .result → Runs (act s c call a) r s
+  unfolding act
+  told-commit h r e k = plainly (Arguments.Commit h) r e k (commit-store s (cut call h) c) (commit-plain s (cut call h) c)

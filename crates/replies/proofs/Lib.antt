@@ -1,4 +1,0 @@
-pub mod Files
-pub mod Runs
-pub mod Sizes
-pub mod Writable

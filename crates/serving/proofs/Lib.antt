@@ -1,0 +1,3 @@
+pub mod Opened
+pub mod Short
+pub mod Sent
