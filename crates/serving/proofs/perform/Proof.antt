@@ -5,8 +5,8 @@ use Rattle.args.specs.Reading.{argumentsOf}
 use Rattle.args.proofs.Within.{read-within}
 use Rattle.serving.proofs.Sent.{sends-kept}
 use borrow.Author.Needs.{needs}
-use Rattle.serving.proofs.responding.perform.Statement.{statement}
-use Rattle.serving.proofs.responding.perform.Tie as tie
+use Rattle.serving.proofs.perform.Statement.{statement}
+use Rattle.serving.proofs.perform.Tie as tie
 
 arguments-requires : tie.Need-arguments-requires
 arguments-requires c κs = search needs

@@ -1,7 +1,7 @@
 use Rattle.serving.proofs.Sent.{sends-kept}
 use borrow.Author.Needs.{needs}
-use Rattle.serving.proofs.responding.respond.Statement.{statement}
-use Rattle.serving.proofs.responding.respond.Tie as tie
+use Rattle.serving.proofs.respond.Statement.{statement}
+use Rattle.serving.proofs.respond.Tie as tie
 
 enum-known-h : tie.Need-enum-known-h
 enum-known-h c = search needs

@@ -1,11 +1,10 @@
-use mathlib.Core.Path.{_∙_}
 use native.Mathlib.Omega.{arith}
 use Rattle.rpc.specs.Meaning.{programOf}
 use Rattle.serving.proofs.Sent.{wrote-exact}
 use Rattle.serving.proofs.Short.{stopped-short}
 use borrow.Author.Needs.{needs}
-use Rattle.serving.proofs.responding.stop.Statement.{statement}
-use Rattle.serving.proofs.responding.stop.Tie as tie
+use Rattle.serving.proofs.stop.Statement.{statement}
+use Rattle.serving.proofs.stop.Tie as tie
 
 nfs-requires : tie.Need-nfs-requires
 nfs-requires c κs = search needs

@@ -1,7 +1,7 @@
 use Rattle.serving.proofs.Sent.{sends-kept, judged-runs, judged-stops, runs-few}
 use borrow.Author.Needs.{needs}
-use Rattle.serving.proofs.responding.answer.Statement.{statement}
-use Rattle.serving.proofs.responding.answer.Tie as tie
+use Rattle.serving.proofs.answer.Statement.{statement}
+use Rattle.serving.proofs.answer.Tie as tie
 
 nfs-requires : tie.Need-nfs-requires
 nfs-requires c κs = search needs

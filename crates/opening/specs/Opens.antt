@@ -9,8 +9,8 @@ use Rattle.spec.specs.Image.{Store}
 use Rattle.spec.specs.Room.{freeBlockCount}
 use Rattle.spec.specs.Serve.{refuse, send, respond, serve}
 use Rattle.changes.specs.Ready.{Ready}
-use Rattle.serving.specs.declared.opening.Opened.{Opened}
-use Rattle.serving.specs.declared.opening.Opened.the-variants as Opened
+use Rattle.opening.specs.declared.Opened.{Opened}
+use Rattle.opening.specs.declared.Opened.the-variants as Opened
 
 -- every test passed, and the call is answered by its header: what its procedure asks of the store, the map and the clock holds
 pub record Hears (call : List ℕ) (s : Store) (space : List ℕ) (c : Context) (used : List ℕ) (h : Header) (at : ℕ) : Type 0 where

@@ -2,8 +2,8 @@ use native.Mathlib.Omega.{arith}
 use Rattle.serving.proofs.Sent.{sends-done}
 use Rattle.serving.proofs.Short.{reply-short}
 use borrow.Author.Needs.{needs}
-use Rattle.serving.proofs.responding.finish.Statement.{statement}
-use Rattle.serving.proofs.responding.finish.Tie as tie
+use Rattle.serving.proofs.finish.Statement.{statement}
+use Rattle.serving.proofs.finish.Tie as tie
 
 free-block-count-requires : tie.Need-free-block-count-requires
 free-block-count-requires c κs = search needs

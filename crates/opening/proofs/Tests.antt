@@ -5,16 +5,16 @@ use mathlib.Core.List.{List}
 use Prim.Native.Nat.{ℕ, _≤_, _<_}
 use native.Mathlib.Omega.{arith}
 use lib.Dec.{eqb}
-use lib.ListN.{length, getD}
+use lib.ListN.{length}
 use borrow.Author.Tests.{lt-ltb, le-ltb, eqb-true, eqb-false}
-use Rattle.kinds.specs.Reading.{Read, got, bad}
+use Rattle.kinds.specs.Reading.{got, bad}
 use Rattle.kinds.specs.declared.call.Header.{Header}
 use Rattle.kinds.specs.declared.object.Context.{Context}
 use Rattle.spec.specs.Check.{goodTime, passes}
 use Rattle.spec.specs.Count.{bit}
 use Rattle.spec.specs.Header.{header}
 use Rattle.spec.specs.Image.{Store, blocks}
-use Rattle.spec.specs.Room.{isFreeBlock, freeBlockCount, uses}
+use Rattle.spec.specs.Room.{isFreeBlock, uses}
 use Rattle.spec.specs.Serve.{refuse, send, respond, serve}
 use Rattle.spec.proofs.Count.{by-bool}
 use Rattle.spec.proofs.GoodRecords.{GoodClock}
@@ -23,11 +23,9 @@ use Rattle.spec.proofs.Valid.{valid}
 use Rattle.fsck.specs.Checked as checked
 use Rattle.fsck.specs.Found.{countsOf, foundIf}
 use Rattle.fsck.specs.declared.shape.Counts.{Counts}
-use Rattle.fsck.specs.declared.shape.Found.{Found}
 use Rattle.fsck.specs.declared.shape.Found.the-variants.{Bad, Good}
 use Rattle.find.specs.Blocks.{UsedMap}
-use Rattle.changes.specs.Ready.{Ready}
-use Rattle.serving.specs.Opens.{Hears}
+use Rattle.opening.specs.Opens.{Hears}
 
 -- ---- the check
 good-bad : {A : Type 0} (k : Counts) → Good k ≡ Bad → A

@@ -1,5 +1,5 @@
 // The tests of a call before anything is written.
-ghost use Rattle.serving.specs.Opens.{Opens};
+ghost use Rattle.opening.specs.Opens.{Opens};
 use fsck::check::check_store;
 use fsck::shape::Found;
 use kinds::call::Cursor;

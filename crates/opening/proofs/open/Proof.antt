@@ -2,9 +2,9 @@ use mathlib.Core.Path.{sym, ap, _∙_}
 use native.Mathlib.Omega.{arith}
 use borrow.Author.Needs.{needs}
 use Rattle.rpc.specs.Meaning.{headerOf}
-use Rattle.serving.proofs.Opened.{fails, passed-check, small-space, bad-clock, long-call, bad-store, bad-header, hears}
-use Rattle.serving.proofs.opening.open.Statement.{statement}
-use Rattle.serving.proofs.opening.open.Tie as tie
+use Rattle.opening.proofs.Tests.{fails, passed-check, small-space, bad-clock, long-call, bad-store, bad-header, hears}
+use Rattle.opening.proofs.open.Statement.{statement}
+use Rattle.opening.proofs.open.Tie as tie
 
 returns : tie.Need-returns
 returns c =
