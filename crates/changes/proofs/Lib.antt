@@ -1,4 +1,3 @@
-pub mod Told
 pub mod Edited
 pub mod Made
 pub mod Makable

@@ -21,10 +21,10 @@ use Rattle.spec.proofs.Count.{true-false}
 use Rattle.spec.proofs.GoodRecords.{GoodRecords, GoodClock, used-at}
 use Rattle.spec.proofs.Passed.{CreatePassed, MkdirPassed, found-record}
 use Rattle.spec.proofs.SetAttributes.{FitsSettable, only-ctime-fits}
-use Rattle.changes.specs.Meaning.{madeOf}
+use Rattle.making.specs.Meaning.{madeOf}
 use Rattle.changes.specs.Ready.{Sizable, Makable}
-use Rattle.changes.specs.declared.making.Target.{Target}
-use Rattle.changes.specs.declared.making.Target.the-variants as Target
+use Rattle.making.specs.declared.checks.Target.{Target}
+use Rattle.making.specs.declared.checks.Target.the-variants as Target
 
 not-given : (x : SetSize) → isGiven x ≡ false → sizeSet x 0 ≡ 0
 not-given SetSize.Keep e = refl

@@ -1,5 +1,5 @@
 -- What the calls that change the store ask of it.
-use Prim.Native.Nat.{ℕ, _+_, _-_, _≤_, _<_}
+use Prim.Native.Nat.{ℕ, _-_, _≤_, _<_}
 use mathlib.Core.Path.{_≡_}
 use mathlib.Core.Bool.{true}
 use mathlib.Core.Logic.{_⊎_}
@@ -11,7 +11,6 @@ use Rattle.kinds.specs.declared.call.Settable.{Settable}
 use Rattle.spec.specs.Image.{Store, objects, objectAt}
 use Rattle.spec.specs.Room.{sizeOf, need, freeBlockCount}
 use Rattle.spec.specs.Procedures.Attributes.{isGiven, sizeSet}
-use Rattle.spec.specs.Procedures.Data.{grown}
 use Rattle.spec.proofs.GoodRecords.{GoodClock}
 use Rattle.spec.proofs.Range.{Below}
 use Rattle.spec.proofs.Passed.{NewRoom}
@@ -33,13 +32,6 @@ pub record Sizable (s : Store) (o : ℕ) (x : SetSize) : Type 0 where
   pub regular : isGiven x ≡ true → objectAt s o .kind ≡ REGULAR
   pub small : sizeSet x 0 ≤ 8192
   pub room : need (sizeSet x (sizeOf s o)) - need (sizeOf s o) ≤ freeBlockCount s
-
--- a file that may get n bytes at an offset
-pub record Writable (s : Store) (o offset n : ℕ) : Type 0 where
-  pub below : o < objects s
-  pub regular : objectAt s o .kind ≡ REGULAR
-  pub fits : offset + n ≤ 8192
-  pub room : need (grown s o offset n) - need (sizeOf s o) ≤ freeBlockCount s
 
 -- a new object o of a type, named `text` in directory d by record n
 pub record Makable (s : Store) (c : Context) (kind o n d : ℕ) (text : List ℕ) (a : Settable) : Type 0 where

@@ -10,10 +10,7 @@ ghost use Rattle.spec.proofs.SetAttributes.{FitsSettable};
 ghost use Rattle.find.specs.Blocks.{UsedMap};
 ghost use Rattle.results.specs.Meaning.{Does};
 ghost use Rattle.changes.specs.Ready.{Ready, Sizable};
-use crate::answers::reached_status;
-use crate::settable::is_given;
 use crate::setting::check_setattr;
-use edits::attributes::set_attributes;
 use edits::size::resize;
 use files::failure::fail_changing;
 use files::handle::Reached;
@@ -27,7 +24,10 @@ use kinds::call::Settable;
 use kinds::numbers::ObjectNumber;
 use kinds::numbers::Status;
 use kinds::object::Context;
+use making::answers::reached_status;
+use metadata::set_attributes;
 use results::Reply;
+use settable::is_given;
 
 // A time that the server sets where none is given.
 fn or_server(time: SetTime) -> SetTime

@@ -10,13 +10,6 @@ ghost use Rattle.spec.specs.Procedures.Attributes.{isGiven, checkSetattr};
 ghost use Rattle.spec.specs.Procedures.Data.{checkWrite};
 ghost use Rattle.spec.proofs.GoodRecords.{GoodRecords};
 ghost use Rattle.files.specs.Meaning.{reachedOf};
-use crate::room::is_past_end;
-use crate::room::lacks_room_for_bytes;
-use crate::room::lacks_room_for_size;
-use crate::room::transferred;
-use crate::settable::bad_attributes;
-use crate::settable::differs;
-use crate::settable::is_given;
 use files::handle::Reached;
 use files::handle::reach;
 use files::handle::reach_regular;
@@ -28,6 +21,13 @@ use kinds::call::SetSize;
 use kinds::call::Settable;
 use kinds::numbers::ObjectNumber;
 use kinds::numbers::Status;
+use room::is_past_end;
+use room::lacks_room_for_bytes;
+use room::lacks_room_for_size;
+use room::transferred;
+use settable::bad_attributes;
+use settable::differs;
+use settable::is_given;
 
 // Whether a size is given for a directory.
 fn sizes_directory(store: &[u8], o: ObjectNumber, size: SetSize) -> bool

@@ -1,6 +1,2 @@
-pub mod ClearedBlocks
-pub mod ClearedTail
-pub mod RemovedObject
 pub mod ResizedNumbers
 pub mod Resized
-pub mod WrittenFile

@@ -1,5 +1,2 @@
-// The edits of the store. Nothing else writes it.
-pub mod attributes; // an object's attributes and times
+// The edit of a file's size. With `metadata`, `blocks` and `naming` it is all that writes a store.
 pub mod size; // a file's size and its blocks
-pub mod naming; // objects with their names: created, removed, moved
-pub mod bytes; // the bytes of a file

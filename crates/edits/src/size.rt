@@ -1,74 +1,25 @@
-// The second edit: a file's size and its blocks.
+// The second edit of the store: a file's size and its blocks.
 ghost use mathlib.Core.Path.{_≡_};
 ghost use mathlib.Core.List.{_++_};
 ghost use Prim.Native.Nat.{_-_, _≤_, _<_};
 ghost use lib.ListN.{take};
 ghost use Rattle.kinds.specs.Numbers.{REGULAR};
-ghost use Rattle.spec.specs.Bytes.{part};
-ghost use Rattle.spec.specs.Image.{objects, blocks, objectAt};
+ghost use Rattle.spec.specs.Image.{objects, objectAt};
 ghost use Rattle.spec.specs.Room.{need, sizeOf, freeBlockCount};
-ghost use Rattle.spec.specs.Edits.{clearBlocks, clearTail, blockNumbers, resize};
-ghost use Rattle.spec.proofs.BlockLists.{InRange};
+ghost use Rattle.spec.specs.Edits.{blockNumbers, resize};
 ghost use Rattle.spec.proofs.GoodRecords.{GoodRecords};
-ghost use Rattle.spec.proofs.Kept.{Sound};
 ghost use Rattle.find.specs.Blocks.{UsedMap};
 ghost use Rattle.edits.specs.Sized.{sized};
+use blocks::clear_blocks;
+use blocks::clear_tail;
+use blocks::need;
 use find::block::free_blocks;
-use image::block::byte_at;
-use image::block::clear_block;
 use image::object::load_object;
 use image::object::save_object;
 use image::object::size_of;
-use kinds::numbers::BlockNumber;
 use kinds::numbers::Limit;
 use kinds::numbers::ObjectNumber;
 use kinds::object::Object;
-
-// How many blocks a size needs.
-pub fn need(size: usize) -> usize
-    requires { ⌜ size ≤ 8192 ⌝ }
-    ensures { λ r. ⌜ r ≡ need size ⌝ }
-{
-    (size + 511) / 512
-}
-
-// Zeroes the blocks from place `start` to place `end` of a list.
-pub fn clear_blocks(store: &mut [u8], numbers: [u16; 16], start: usize, end: usize)
-    requires { ⌜ Sound (now store) ⌝ }
-    requires { ⌜ start ≤ end ⌝ }
-    requires { ⌜ end ≤ 16 ⌝ }
-    requires { ⌜ InRange (blocks (now store)) (part numbers start (end - start)) ⌝ }
-    ensures { λ _. ⌜ now (store .exit) ≡ clearBlocks (now (store .entry)) (part numbers start (end - start)) ⌝ }
-{
-    let mut k = start;
-    while k < end {
-        clear_block(store, BlockNumber(numbers[k] as usize));
-        k += 1;
-    }
-}
-
-// Zeroes a file's bytes from `start` to `end`, as far as they lie in a block that has bytes before `start`.
-fn clear_tail(store: &mut [u8], o: ObjectNumber, start: usize, end: usize)
-    requires { ⌜ GoodRecords (now store) ⌝ }
-    requires { ⌜ o .0 < objects (now store) ⌝ }
-    requires { ⌜ objectAt (now store) (o .0) .kind ≡ REGULAR ⌝ }
-    requires { ⌜ start ≤ sizeOf (now store) (o .0) ⌝ }
-    requires { ⌜ start ≤ end ⌝ }
-    ensures { λ _. ⌜ now (store .exit) ≡ clearTail (now (store .entry)) (o .0) start end ⌝ }
-{
-    let inside = start % Limit::BLOCK_BYTES;
-    if inside == 0 {
-        return;
-    }
-    let at = byte_at(store, o, start);
-    let rest = Limit::BLOCK_BYTES - inside;
-    let asked = end - start;
-    if asked < rest {
-        wire::clear_bytes(store, at, asked);
-        return;
-    }
-    wire::clear_bytes(store, at, rest);
-}
 
 // The block numbers of a file that had `before` blocks and is to have `after`: the first of its own, then of the added ones, then 65535.
 fn resized_blocks(own: [u16; 16], added: [u16; 16], before: usize, after: usize) -> [u16; 16]

@@ -25,12 +25,13 @@ use Rattle.spec.proofs.Passed.{EntryPassed, remove-passed, rmdir-passed, rename
 use Rattle.spec.proofs.Range.{Below}
 use Rattle.spec.proofs.Valid.{Valid}
 use Rattle.files.specs.Meaning.{changeFrom}
-use Rattle.removals.specs.Acts.{RemovableAt, MovableAt}
-use Rattle.removals.specs.Meaning.{removableOf, renamableOf}
-use Rattle.removals.specs.declared.check.Removable.{Removable}
-use Rattle.removals.specs.declared.check.Removable.the-variants as Removable
-use Rattle.removals.specs.declared.check.Renamable.{Renamable}
-use Rattle.removals.specs.declared.check.Renamable.the-variants as Renamable
+use Rattle.entries.specs.Records.{RemovableAt, MovableAt}
+use Rattle.removable.specs.Meaning.{removableOf}
+use Rattle.renamable.specs.Meaning.{renamableOf}
+use Rattle.removable.specs.declared.Removable.{Removable}
+use Rattle.removable.specs.declared.Removable.the-variants as Removable
+use Rattle.renamable.specs.declared.Renamable.{Renamable}
+use Rattle.renamable.specs.declared.Renamable.the-variants as Renamable
 
 -- ---- after an edit
 -- the store u is t, which came from s

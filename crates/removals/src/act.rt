@@ -2,8 +2,7 @@
 ghost use mathlib.Core.Path.{_≡_};
 ghost use Prim.Native.Nat.{_+_, _≤_};
 ghost use lib.ListN.{length};
-ghost use Rattle.spec.specs.Edits.{setAttributes, mtimeAndCtime, removeObject};
-ghost use Rattle.spec.specs.Image.{objectStart};
+ghost use Rattle.spec.specs.Edits.{removeObject};
 ghost use Rattle.spec.specs.Procedures.{cut};
 ghost use Rattle.spec.specs.Procedures.Attributes.{edited};
 ghost use Rattle.spec.specs.Procedures.Names.{touchDirectory};
@@ -11,51 +10,36 @@ ghost use Rattle.spec.specs.Procedures.Removal.{remove, rmdir, renameEdit, fail
 ghost use Rattle.spec.proofs.GoodRecords.{GoodRecords, StillGood, GoodClock};
 ghost use Rattle.spec.proofs.Valid.{Valid};
 ghost use Rattle.results.specs.Meaning.{resultOf, Does};
-ghost use Rattle.removals.specs.Acts.{RemovableAt, MovableAt};
-use crate::check::Removable;
-use crate::check::Renamable;
-use crate::check::check_remove;
-use crate::check::check_rename;
-use crate::check::check_rmdir;
-use edits::attributes::mtime_and_ctime;
-use edits::attributes::only_ctime;
-use edits::attributes::set_attributes;
-use edits::naming::move_name;
-use edits::naming::remove_object;
+ghost use Rattle.entries.specs.Records.{RemovableAt, MovableAt};
+use entries::remove_edit;
+use entries::rename_edit;
 use files::failure::fail_changing;
 use files::failure::handle_change;
 use files::shown::before;
 use files::shown::change_from;
-use image::name::name_child;
 use kinds::call::NameIn;
 use kinds::call::Part;
 use kinds::numbers::NameNumber;
 use kinds::numbers::ObjectNumber;
 use kinds::numbers::Status;
 use kinds::object::Context;
-use kinds::object::Time;
+use removable::Removable;
+use removable::check_remove;
+use removable::check_rmdir;
+use renamable::Renamable;
+use renamable::check_rename;
 use results::HandleChange;
 use results::Reply;
 
-// Sets a directory's mtime and ctime.
-fn touch_directory(store: &mut [u8], clock: Time, d: ObjectNumber)
-    requires { ⌜ objectStart (d .0) + 80 ≤ length (now store) ⌝ }
-    ensures { λ _. ⌜ now (store .exit) ≡ setAttributes (now (store .entry)) clock (d .0) mtimeAndCtime ⌝ }
-{
-    set_attributes(store, clock, d, mtime_and_ctime());
-}
-
-// An object and its name are removed, and the directory's times are set.
+// The edit, and the directory's change.
 fn remove_entry(store: &mut [u8], context: Context, d: ObjectNumber, n: NameNumber) -> Reply
     requires { ⌜ GoodRecords (now store) ⌝ }
     requires { ⌜ RemovableAt (now store) (d .0) (n .0) ⌝ }
     requires { ⌜ StillGood (now store) (touchDirectory (removeObject (now store) (n .0)) context (d .0)) ⌝ }
     ensures { λ r. ⌜ Does (edited (now (store .entry)) (d .0) (touchDirectory (removeObject (now (store .entry)) (n .0)) context (d .0))) r (now (store .exit)) ⌝ }
 {
-    let clock = context.clock;
     let earlier = before(store, d);
-    remove_object(store, n);
-    touch_directory(store, clock, d);
+    remove_edit(store, context, d, n);
     let change = change_from(earlier, store, d);
     Reply::Changed(Status::OK, change)
 }
@@ -108,29 +92,6 @@ fn fail_renaming(store: &[u8], call: &[u8], source: Part, target: Part, status: 
         return Reply::Renamed(status, from, to);
     }
     Reply::Dead(status)
-}
-
-// The name record is rewritten in place; the object's ctime and both directories' times are set.
-fn rename_edit(
-    store: &mut [u8],
-    context: Context,
-    source: ObjectNumber,
-    target: ObjectNumber,
-    n: NameNumber,
-    call: &[u8],
-    name: Part,
-)
-    requires { ⌜ GoodRecords (now store) ⌝ }
-    requires { ⌜ MovableAt (now store) (source .0) (target .0) (n .0) (name .length) ⌝ }
-    requires { ⌜ name .start + name .length ≤ length (now call) ⌝ }
-    ensures { λ _. ⌜ now (store .exit) ≡ renameEdit (now (store .entry)) context (source .0) (target .0) (n .0) (cut (now (call .entry)) name) ⌝ }
-{
-    let clock = context.clock;
-    let child = name_child(store, n);
-    move_name(store, n, target, call, name);
-    set_attributes(store, clock, child, only_ctime());
-    touch_directory(store, clock, source);
-    touch_directory(store, clock, target);
 }
 
 // The edit, and both directories' changes.

@@ -1,6 +1,7 @@
 use borrow.Author.Needs.{needs}
 use Rattle.spec.specs.Procedures.Attributes.{setattrEdit}
-use Rattle.changes.proofs.Edited.{sized-still, record-inside}
+use Rattle.writing.proofs.Written.{record-inside}
+use Rattle.changes.proofs.Edited.{sized-still}
 use Rattle.changes.proofs.attributes.setattr_edit.Statement.{statement}
 use Rattle.changes.proofs.attributes.setattr_edit.Tie as tie
 

@@ -1,13 +1,11 @@
 use mathlib.Core.Path.{refl, sym, ap, _∙_}
-use native.Mathlib.Omega.{arith}
 use borrow.Author.Needs.{needs}
 use Rattle.spec.specs.Procedures.Data.{write}
 use Rattle.spec.specs.Procedures.{cut}
-use Rattle.spec.specs.Handles.{change}
 use Rattle.spec.proofs.GoodRecords.{valid-records}
 use Rattle.files.specs.Meaning.{reachedOf}
 use Rattle.spec.proofs.Passed.{write-passed}
-use Rattle.changes.proofs.Edited.{write-writable, moved-bytes, no-bytes, some-bytes, none-moved, few-moved, moved-length, written-left}
+use Rattle.changes.proofs.Edited.{few-moved, write-writable, write-left}
 use Rattle.changes.proofs.data.write.Statement.{statement}
 use Rattle.changes.proofs.data.write.Tie as tie
 
@@ -41,80 +39,25 @@ returns c =
     rw (← c .before .before .before .before .before .check-write .ensures, c .before .before .before .enum-told .given .1)
     (record { result = rw (c .fail-changing .ensures, c .before .reached-status .ensures, c .before .before .before .enum-told .given .1); store = refl })
 
-transferred-requires : tie.Need-transferred-requires
-transferred-requires c κs = search needs
-
-unchanged-requires : tie.Need-unchanged-requires
-unchanged-requires c κs =
-    let st = c .before .before .before .before .before .before .before .before .before .before in
-    let g = valid-records (st .args .store .now) (st .pre .0 .valid) (st .pre .0 .bytes) in
-    let e = sym (c .before .before .before .before .before .before .check-write .ensures) ∙ ap reachedOf (c .before .before .before .before .answer .given .1) in
-    let p = write-passed (st .args .store .now) (cut (st .args .call .now) (st .args .h)) (st .args .offset) (st .args .count) (cut (st .args .call .now) (st .args .bytes)) _ e in
-    (g, p .reached .below)
+write-checked-requires : tie.Need-write-checked-requires
+write-checked-requires c κs =
+    let st = c .before .before .before .before .before .before .before .before in
+    let s = st .args .store .now in
+    let call = st .args .call .now in
+    let bytes = st .args .bytes in
+    let g = valid-records s (st .pre .0 .valid) (st .pre .0 .bytes) in
+    let e = sym (c .before .before .before .before .check-write .ensures) ∙ ap reachedOf (c .before .before .answer .given .1) in
+    let p = write-passed s (cut call (st .args .h)) (st .args .offset) (st .args .count) (cut call bytes) _ e in
+    let few = few-moved call bytes (st .args .count) (st .pre .1 .1) (p .counted) in
+    let left = write-left s (st .args .context) (st .pre .0 .valid) (st .pre .0 .bytes) (st .pre .0 .clock) call (λ k. c .before .before .before .before .before .before .shared-slice-known .given k .fits) (st .args .h) (st .args .offset) (st .args .count) bytes _ e in
+    (g, (st .pre .0 .map, (p .reached .below, (record { some = write-writable s (cut call (st .args .h)) (st .args .offset) (st .args .count) (cut call bytes) _ p }, (st .pre .1 .1, (few, left))))))
 
 same-length-2 : tie.Need-same-length-2
 same-length-2 c = search needs
 
 returns-2 : tie.Need-returns-2
 unfolding write
-returns-2 c =
-    let st = c .before .before .before .before .before .before .before .before .before .before .before in
-    rw (
-      ← c .before .before .before .before .before .before .before .check-write .ensures,
-      c .before .before .before .before .before .answer .given .1,
-      ← c .before .before .before .transferred .ensures,
-      no-bytes _ _ _ _ _ (none-moved (st .args .call .now) (st .args .bytes) (c .before .before .before .transferred .result) (c .before .before .if1 .taken)),
-    )
-    (record { result = rw (c .unchanged .ensures); store = refl })
-
-before-requires : tie.Need-before-requires
-before-requires c κs =
-    let st = c .before .before .before .before .before .before .before .before .before .before in
-    let g = valid-records (st .args .store .now) (st .pre .0 .valid) (st .pre .0 .bytes) in
-    let e = sym (c .before .before .before .before .before .before .check-write .ensures) ∙ ap reachedOf (c .before .before .before .before .answer .given .1) in
-    let p = write-passed (st .args .store .now) (cut (st .args .call .now) (st .args .h)) (st .args .offset) (st .args .count) (cut (st .args .call .now) (st .args .bytes)) _ e in
-    (g, p .reached .below)
-
-write-edit-requires : tie.Need-write-edit-requires
-write-edit-requires c κs =
-    let st = c .before .before .before .before .before .before .before .before .before .before .before .before in
-    let g = valid-records (st .args .store .now) (st .pre .0 .valid) (st .pre .0 .bytes) in
-    let e = sym (c .before .before .before .before .before .before .before .before .check-write .ensures) ∙ ap reachedOf (c .before .before .before .before .before .before .answer .given .1) in
-    let p = write-passed (st .args .store .now) (cut (st .args .call .now) (st .args .h)) (st .args .offset) (st .args .count) (cut (st .args .call .now) (st .args .bytes)) _ e in
-    let few = few-moved (st .args .call .now) (st .args .bytes) (c .before .before .before .before .transferred .result) (st .args .count) (st .pre .1 .1) (p .counted) (c .before .before .before .before .transferred .ensures) in
-    let z = write-writable (st .args .store .now) (cut (st .args .call .now) (st .args .h)) (st .args .offset) (st .args .count) (cut (st .args .call .now) (st .args .bytes)) _ (c .before .before .before .before .transferred .result) p (c .before .before .before .before .transferred .ensures) (c .before .before .before .if1 .left) in
-    (g, (st .pre .0 .map, (z, omega (arith, st .pre .1 .1))))
-
-cast-written : tie.Need-cast-written
-cast-written c = search needs
-
-change-from-requires : tie.Need-change-from-requires
-change-from-requires c κs =
-    let st = c .before .before .before .before .before .before .before .before .before .before .before .before .before .before .before .before in
-    let e = sym (c .before .before .before .before .before .before .before .before .before .before .before .before .check-write .ensures) ∙ ap reachedOf (c .before .before .before .before .before .before .before .before .before .before .answer .given .1) in
-    let p = write-passed (st .args .store .now) (cut (st .args .call .now) (st .args .h)) (st .args .offset) (st .args .count) (cut (st .args .call .now) (st .args .bytes)) _ e in
-    let few = few-moved (st .args .call .now) (st .args .bytes) (c .before .before .before .before .before .before .before .before .transferred .result) (st .args .count) (st .pre .1 .1) (p .counted) (c .before .before .before .before .before .before .before .before .transferred .ensures) in
-    let l = written-left (st .args .call .now) (st .args .bytes) (c .before .before .before .before .before .before .before .before .transferred .result) (st .args .store .now) (st .args .context) (st .pre .0 .valid) (st .pre .0 .bytes) (st .pre .0 .clock) (λ k. c .before .before .before .before .before .before .before .before .before .before .before .before .before .before .shared-slice-known .given k .fits) (st .args .h) (st .args .offset) (st .args .count) _ e (c .before .before .before .before .before .before .before .before .transferred .ensures) (c .before .before .before .before .before .before .before .if1 .left) few (st .pre .1 .1) in
-    (rw (c .before .before .before .write-edit .ensures) (l .good), rw (c .before .before .before .write-edit .ensures, l .shape .objects) (p .reached .below))
-
-same-length-3 : tie.Need-same-length-3
-same-length-3 c = search needs
-
-returns-3 : tie.Need-returns-3
-unfolding write change
-returns-3 c =
-    let st = c .before .before .before .before .before .before .before .before .before .before .before .before .before .before .before .before .before in
-    let e = sym (c .before .before .before .before .before .before .before .before .before .before .before .before .before .check-write .ensures) ∙ ap reachedOf (c .before .before .before .before .before .before .before .before .before .before .before .answer .given .1) in
-    let p = write-passed (st .args .store .now) (cut (st .args .call .now) (st .args .h)) (st .args .offset) (st .args .count) (cut (st .args .call .now) (st .args .bytes)) _ e in
-    let few = few-moved (st .args .call .now) (st .args .bytes) (c .before .before .before .before .before .before .before .before .before .transferred .result) (st .args .count) (st .pre .1 .1) (p .counted) (c .before .before .before .before .before .before .before .before .before .transferred .ensures) in
-    rw (
-      ← c .before .before .before .before .before .before .before .before .before .before .before .before .before .check-write .ensures,
-      c .before .before .before .before .before .before .before .before .before .before .before .answer .given .1,
-      ← c .before .before .before .before .before .before .before .before .before .transferred .ensures,
-      moved-bytes (st .args .call .now) (st .args .bytes) (c .before .before .before .before .before .before .before .before .before .transferred .result) few,
-      some-bytes _ _ _ _ _ (c .before .before .before .before .before .before .before .before .before .transferred .result) (moved-length (st .args .call .now) (st .args .bytes) (c .before .before .before .before .before .before .before .before .before .transferred .result) (st .pre .1 .1) few) (c .before .before .before .before .before .before .before .before .if1 .left),
-    )
-    (record { result = rw (c .change-from .ensures, c .before .before .before .before .before .before .before2 .ensures, c .before .before .before .before .write-edit .ensures); store = c .before .before .before .before .write-edit .ensures })
+returns-2 c = rw (← c .before .before .before .before .before .before .before .check-write .ensures, c .before .before .before .before .before .answer .given .1) (c .before .before .write-checked .ensures)
 
 pub write-spec : {M : Type 1} → statement M
 write-spec =
@@ -127,13 +70,6 @@ write-spec =
     fail-changing-requires
     same-length
     returns
-    transferred-requires
-    unchanged-requires
+    write-checked-requires
     same-length-2
-    returns-2
-    before-requires
-    write-edit-requires
-    cast-written
-    change-from-requires
-    same-length-3
-    returns-3)
+    returns-2)

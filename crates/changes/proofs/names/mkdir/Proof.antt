@@ -4,7 +4,7 @@ use Rattle.spec.specs.Procedures.Names.{mkdir}
 use Rattle.spec.specs.Procedures.{cut}
 use Rattle.spec.proofs.GoodRecords.{valid-records}
 use Rattle.spec.proofs.Passed.{mkdir-passed}
-use Rattle.changes.specs.Meaning.{mkdirOf}
+use Rattle.making.specs.Meaning.{mkdirOf}
 use Rattle.changes.proofs.Makable.{mkdir-makable}
 use Rattle.changes.proofs.names.mkdir.Statement.{statement}
 use Rattle.changes.proofs.names.mkdir.Tie as tie

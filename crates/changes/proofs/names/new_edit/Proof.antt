@@ -7,7 +7,8 @@ use Rattle.spec.specs.Procedures.Names.{newEdit}
 use Rattle.spec.proofs.Bytes.{part-length}
 use Rattle.spec.proofs.RecordRange.{below-part}
 use Rattle.spec.proofs.GoodRecords.{still-trans}
-use Rattle.changes.proofs.Edited.{sized-still, record-inside}
+use Rattle.writing.proofs.Written.{record-inside}
+use Rattle.changes.proofs.Edited.{sized-still}
 use Rattle.changes.proofs.Made.{created, created-still, created-map, created-sizable}
 use Rattle.changes.proofs.names.new_edit.Statement.{statement}
 use Rattle.changes.proofs.names.new_edit.Tie as tie

@@ -4,7 +4,7 @@ use borrow.Author.Needs.{needs}
 use Rattle.spec.specs.Procedures.Attributes.{checkSetattr}
 use Rattle.spec.specs.Procedures.{cut}
 use Rattle.files.proofs.Reach.{object-reached}
-use Rattle.changes.proofs.Told.{valid-size}
+use Rattle.making.proofs.Told.{valid-size}
 use Rattle.changes.proofs.setting.check_setattr.Statement.{statement}
 use Rattle.changes.proofs.setting.check_setattr.Tie as tie
 

@@ -1,0 +1,3 @@
+pub mod ClearedBlocks
+pub mod ClearedTail
+pub mod WrittenFile

@@ -1,0 +1,66 @@
+// The status of each answer that is a refusal.
+ghost use mathlib.Core.Path.{_≡_};
+ghost use Rattle.files.specs.Meaning.{reachedOf, textOf};
+ghost use Rattle.room.specs.Meaning.{roomOf};
+ghost use Rattle.making.specs.Meaning.{targetOf, createOf, mkdirOf, statusOf};
+use crate::checks::CreateChecked;
+use crate::checks::MkdirChecked;
+use crate::checks::TargetChecked;
+use files::handle::Reached;
+use files::text::TextChecked;
+use kinds::numbers::Status;
+use room::RoomChecked;
+
+pub fn reached_status(answer: Reached) -> Status
+    ensures { λ r. ⌜ r .0 ≡ statusOf (reachedOf answer) ⌝ }
+{
+    match answer {
+        Reached::At(_) => Status::OK,
+        Reached::Refused(status) => status,
+    }
+}
+
+pub fn text_status(answer: TextChecked) -> Status
+    ensures { λ r. ⌜ r .0 ≡ statusOf (textOf answer) ⌝ }
+{
+    match answer {
+        TextChecked::Good => Status::OK,
+        TextChecked::Refused(status) => status,
+    }
+}
+
+pub fn room_status(answer: RoomChecked) -> Status
+    ensures { λ r. ⌜ r .0 ≡ statusOf (roomOf answer) ⌝ }
+{
+    match answer {
+        RoomChecked::At(_, _) => Status::OK,
+        RoomChecked::Refused(status) => status,
+    }
+}
+
+pub fn target_status(answer: TargetChecked) -> Status
+    ensures { λ r. ⌜ r .0 ≡ statusOf (targetOf answer) ⌝ }
+{
+    match answer {
+        TargetChecked::At(_) => Status::OK,
+        TargetChecked::Refused(status) => status,
+    }
+}
+
+pub fn create_status(answer: CreateChecked) -> Status
+    ensures { λ r. ⌜ r .0 ≡ statusOf (createOf answer) ⌝ }
+{
+    match answer {
+        CreateChecked::At(_, _) => Status::OK,
+        CreateChecked::Refused(status) => status,
+    }
+}
+
+pub fn mkdir_status(answer: MkdirChecked) -> Status
+    ensures { λ r. ⌜ r .0 ≡ statusOf (mkdirOf answer) ⌝ }
+{
+    match answer {
+        MkdirChecked::At(_, _, _) => Status::OK,
+        MkdirChecked::Refused(status) => status,
+    }
+}

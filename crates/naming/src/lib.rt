@@ -1,0 +1,82 @@
+// Objects with their names: the third, fourth and fifth edit of the store.
+ghost use mathlib.Core.Path.{_≡_};
+ghost use Prim.Native.Nat.{_+_, _≤_, _<_};
+ghost use lib.ListN.{length};
+ghost use Rattle.spec.specs.Image.{objects, names, nameAt};
+ghost use Rattle.spec.specs.Edits.{withGeneration, createObject, removeObject, moveName};
+ghost use Rattle.spec.specs.Procedures.{cut};
+ghost use Rattle.spec.proofs.GoodRecords.{GoodRecords};
+ghost use Rattle.spec.proofs.Valid.{Used};
+use blocks::clear_blocks;
+use blocks::need;
+use image::name::clear_name;
+use image::name::name_child;
+use image::name::save_name;
+use image::object::generation_of;
+use image::object::load_object;
+use image::object::save_object;
+use kinds::call::Part;
+use kinds::numbers::NameNumber;
+use kinds::numbers::ObjectNumber;
+use kinds::object::Object;
+
+// An object in a record that has been free: the record's generation stays.
+fn with_generation(generation: u32, v: Object) -> Object
+    ensures { λ r. ⌜ r ≡ withGeneration generation v ⌝ }
+{
+    let mut w = v;
+    w.generation = generation;
+    w
+}
+
+// Object v in the free record o, named by a part of the call in a directory, by the free name record n.
+pub fn create_object(
+    store: &mut [u8],
+    o: ObjectNumber,
+    n: NameNumber,
+    v: Object,
+    directory: ObjectNumber,
+    call: &[u8],
+    name: Part,
+)
+    requires { ⌜ GoodRecords (now store) ⌝ }
+    requires { ⌜ o .0 < objects (now store) ⌝ }
+    requires { ⌜ n .0 < names (now store) ⌝ }
+    requires { ⌜ directory .0 < objects (now store) ⌝ }
+    requires { ⌜ name .start + name .length ≤ length (now call) ⌝ }
+    requires { ⌜ name .length ≤ 32 ⌝ }
+    ensures { λ _. ⌜ now (store .exit) ≡ createObject (now (store .entry)) (o .0) (n .0) v (directory .0) (cut (now (call .entry)) name) ⌝ }
+{
+    let generation = generation_of(store, o);
+    save_object(store, o, with_generation(generation, v));
+    save_name(store, n, directory, o, call, name);
+}
+
+// The object that a used name record names, its blocks and the name record are free.
+pub fn remove_object(store: &mut [u8], n: NameNumber)
+    requires { ⌜ GoodRecords (now store) ⌝ }
+    requires { ⌜ n .0 < names (now store) ⌝ }
+    requires { ⌜ Used (now store) (n .0) ⌝ }
+    ensures { λ _. ⌜ now (store .exit) ≡ removeObject (now (store .entry)) (n .0) ⌝ }
+{
+    let o = name_child(store, n);
+    let v = load_object(store, o);
+    let blocks = v.blocks;
+    let held = need(v.size as usize);
+    clear_blocks(store, blocks, 0, held);
+    save_object(store, o, Object::free(v.generation + 1));
+    clear_name(store, n);
+}
+
+// The name record gets another directory and name.
+pub fn move_name(store: &mut [u8], n: NameNumber, directory: ObjectNumber, call: &[u8], name: Part)
+    requires { ⌜ GoodRecords (now store) ⌝ }
+    requires { ⌜ n .0 < names (now store) ⌝ }
+    requires { ⌜ directory .0 < objects (now store) ⌝ }
+    requires { ⌜ name .start + name .length ≤ length (now call) ⌝ }
+    requires { ⌜ name .length ≤ 32 ⌝ }
+    ensures { λ _. ⌜ now (store .exit) ≡ moveName (now (store .entry)) (n .0) (directory .0) (cut (now (call .entry)) name) ⌝ }
+{
+    let child = name_child(store, n);
+    save_name(store, n, directory, child, call, name);
+}

@@ -1,0 +1,28 @@
+use Prim.Native.Nat.{_-_}
+use mathlib.Core.Path.{sym}
+use native.Mathlib.Omega.{arith}
+use borrow.Author.Needs.{needs}
+use borrow.Author.Tests.{le-ltb}
+use Rattle.spec.specs.Room.{need}
+use Rattle.room.proofs.lacks_room.Statement.{statement}
+use Rattle.room.proofs.lacks_room.Tie as tie
+
+need-requires : tie.Need-need-requires
+need-requires c κs = search needs
+
+need-requires-2 : tie.Need-need-requires-2
+need-requires-2 c κs = search needs
+
+returns : tie.Need-returns
+returns c =
+    let st = c .before .before .before in
+    sym (le-ltb (st .args .free) (need (st .args .size) - need (st .args .old)) (omega arith))
+
+sub-result : tie.Need-sub-result
+sub-result c = search needs
+
+returns-2 : tie.Need-returns-2
+returns-2 c = rw (c .before .need2 .ensures, c .before .before .need .ensures)
+
+pub lacks-room-spec : {M : Type 1} → statement M
+lacks-room-spec = tie.close (tie.spec need-requires need-requires-2 returns sub-result returns-2)

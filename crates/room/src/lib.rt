@@ -1,0 +1,119 @@
+// Free blocks and records for what a call adds.
+ghost use mathlib.Core.Path.{_≡_};
+ghost use Prim.Native.Nat.{_+_, _-_, _<_, _≤_, min};
+ghost use lib.Dec.{ltb};
+ghost use Rattle.spec.specs.Image.{objects};
+ghost use Rattle.spec.specs.Room.{need, sizeOf, freeBlockCount};
+ghost use Rattle.spec.specs.Procedures.Attributes.{sizeSet, lacksRoom};
+ghost use Rattle.spec.specs.Procedures.Data.{mostBytes, grown};
+ghost use Rattle.spec.specs.Procedures.Names.{roomForNew};
+ghost use Rattle.spec.proofs.GoodRecords.{GoodRecords};
+ghost use Rattle.room.specs.Meaning.{roomOf};
+use files::shown::need;
+use find::found::FoundName;
+use find::found::FoundObject;
+use find::name::find_free_name;
+use find::object::find_available;
+use image::object::size_of;
+use kinds::call::SetSize;
+use kinds::numbers::Limit;
+use kinds::numbers::NameNumber;
+use kinds::numbers::ObjectNumber;
+use kinds::numbers::Status;
+use settable::size_set;
+
+// A free object record and a free name record, or the status.
+pub enum RoomChecked {
+    At(ObjectNumber, NameNumber),
+    Refused(Status),
+}
+
+// Whether growth from one size to another takes more blocks than are free.
+fn lacks_room(free: usize, old: usize, size: usize) -> bool
+    requires { ⌜ old ≤ 8192 ⌝ }
+    requires { ⌜ size ≤ 8192 ⌝ }
+    ensures { λ r. ⌜ r ≡ ltb free (need size - need old) ⌝ }
+{
+    let held = need(old);
+    let wanted = need(size);
+    if wanted <= held {
+        return false;
+    }
+    free < wanted - held
+}
+
+// Whether a file grows past the free blocks where it gets the size that is given.
+pub fn lacks_room_for_size(store: &[u8], free: usize, o: ObjectNumber, size: SetSize) -> bool
+    requires { ⌜ GoodRecords (now store) ⌝ }
+    requires { ⌜ free ≡ freeBlockCount (now store) ⌝ }
+    requires { ⌜ o .0 < objects (now store) ⌝ }
+    requires { ⌜ sizeSet size 0 ≤ 8192 ⌝ }
+    ensures { λ r. ⌜ r ≡ lacksRoom (now (store .entry)) (sizeOf (now (store .entry)) (o .0)) (sizeSet size (sizeOf (now (store .entry)) (o .0))) ⌝ }
+{
+    let old = size_of(store, o);
+    let wanted = size_set(size, old as u64);
+    lacks_room(free, old as usize, wanted as usize)
+}
+
+// The bytes that a WRITE moves.
+pub fn transferred(count: usize) -> usize
+    ensures { λ r. ⌜ r ≡ min count mostBytes ⌝ }
+{
+    if count <= Limit::TRANSFER {
+        return count;
+    }
+    Limit::TRANSFER
+}
+
+// Whether bytes at an offset reach past the end of the largest file. The offset is compared first, so that the sum fits.
+pub fn is_past_end(offset: u64, n: usize) -> bool
+    requires { ⌜ n ≤ 4096 ⌝ }
+    ensures { λ r. ⌜ r ≡ ltb 8192 (offset + n) ⌝ }
+{
+    if Limit::FILE < offset {
+        return true;
+    }
+    Limit::FILE < offset + n as u64
+}
+
+// Whether a file grows past the free blocks where bytes are written at an offset.
+pub fn lacks_room_for_bytes(
+    store: &[u8],
+    free: usize,
+    o: ObjectNumber,
+    offset: usize,
+    n: usize,
+) -> bool
+    requires { ⌜ GoodRecords (now store) ⌝ }
+    requires { ⌜ free ≡ freeBlockCount (now store) ⌝ }
+    requires { ⌜ o .0 < objects (now store) ⌝ }
+    requires { ⌜ offset + n ≤ 8192 ⌝ }
+    ensures { λ r. ⌜ r ≡ lacksRoom (now (store .entry)) (sizeOf (now (store .entry)) (o .0)) (grown (now (store .entry)) (o .0) offset n) ⌝ }
+{
+    let old = size_of(store, o) as usize;
+    if offset + n <= old {
+        return false;
+    }
+    lacks_room(free, old, offset + n)
+}
+
+// A record for a new object, one for its name, and blocks for its size; else NOSPC.
+pub fn room_for_new(store: &[u8], free: usize, size: usize) -> RoomChecked
+    requires { ⌜ GoodRecords (now store) ⌝ }
+    requires { ⌜ free ≡ freeBlockCount (now store) ⌝ }
+    requires { ⌜ size ≤ 8192 ⌝ }
+    ensures { λ r. ⌜ roomOf r ≡ roomForNew (now (store .entry)) size ⌝ }
+{
+    let object = find_available(store);
+    let FoundObject::At(o) = object else {
+        return RoomChecked::Refused(Status::NOSPC);
+    };
+    let record = find_free_name(store);
+    let FoundName::At(n) = record else {
+        return RoomChecked::Refused(Status::NOSPC);
+    };
+    if lacks_room(free, 0, size) {
+        return RoomChecked::Refused(Status::NOSPC);
+    }
+    RoomChecked::At(o, n)
+}

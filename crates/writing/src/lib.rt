@@ -1,0 +1,99 @@
+// What WRITE does to a file, and its reply.
+ghost use mathlib.Core.Path.{_≡_};
+ghost use Prim.Native.Nat.{_+_, _<_, _≤_, max, min};
+ghost use lib.ListN.{length, take};
+ghost use Rattle.spec.specs.Bytes.{part};
+ghost use Rattle.spec.specs.Image.{objects};
+ghost use Rattle.spec.specs.Procedures.{cut};
+ghost use Rattle.spec.specs.Procedures.Data.{mostBytes, writeEdit, writeStore, writeDone};
+ghost use Rattle.spec.proofs.GoodRecords.{GoodRecords, StillGood};
+ghost use Rattle.find.specs.Blocks.{UsedMap};
+ghost use Rattle.results.specs.Meaning.{Does};
+ghost use Rattle.writing.specs.Writable.{Writable, WritableSome};
+use blocks::write_file;
+use edits::size::resize;
+use files::shown::before;
+use files::shown::change_from;
+use files::shown::unchanged;
+use image::object::size_of;
+use kinds::call::Part;
+use kinds::numbers::ObjectNumber;
+use kinds::object::Context;
+use metadata::mtime_and_ctime;
+use metadata::set_attributes;
+use results::Reply;
+use room::transferred;
+
+// The larger of two numbers.
+fn larger(a: usize, b: usize) -> usize
+    ensures { λ r. ⌜ r ≡ max a b ⌝ }
+{
+    if a < b {
+        return b;
+    }
+    a
+}
+
+// What WRITE does to the store: n bytes of the call, from `start` on, at an offset of a file.
+fn write_edit(
+    store: &mut [u8],
+    used: &[u8; 1024],
+    context: Context,
+    o: ObjectNumber,
+    offset: usize,
+    call: &[u8],
+    start: usize,
+    n: usize,
+)
+    requires { ⌜ GoodRecords (now store) ⌝ }
+    requires { ⌜ UsedMap (now store) (now used) ⌝ }
+    requires { ⌜ Writable (now store) (o .0) offset n ⌝ }
+    requires { ⌜ start + n ≤ length (now call) ⌝ }
+    ensures { λ _. ⌜ now (store .exit) ≡ writeEdit (now (store .entry)) context (o .0) offset (part (now (call .entry)) start n) ⌝ }
+{
+    let old = size_of(store, o) as usize;
+    resize(store, used, o, larger(old, offset + n));
+    write_file(store, o, offset, call, start, n);
+    let clock = context.clock;
+    set_attributes(store, clock, o, mtime_and_ctime());
+}
+
+// Writes bytes of the call at an offset of a file that the checks passed: the file as it was and as it is, the bytes written and the verifier.
+pub fn write_checked(
+    store: &mut [u8],
+    used: &[u8; 1024],
+    context: Context,
+    o: ObjectNumber,
+    offset: u64,
+    call: &[u8],
+    count: u32,
+    bytes: Part,
+) -> Reply
+    requires { ⌜ GoodRecords (now store) ⌝ }
+    requires { ⌜ UsedMap (now store) (now used) ⌝ }
+    requires { ⌜ o .0 < objects (now store) ⌝ }
+    requires { ⌜ WritableSome (now store) (o .0) offset count ⌝ }
+    requires { ⌜ bytes .start + bytes .length ≤ length (now call) ⌝ }
+    requires { ⌜ min count mostBytes ≤ bytes .length ⌝ }
+    requires { ⌜ StillGood (now store) (writeStore (now store) context (o .0) offset (take (min count mostBytes) (cut (now call) bytes))) ⌝ }
+    ensures { λ r. ⌜ Does (writeDone (now (store .entry)) context (o .0) offset (take (min count mostBytes) (cut (now (call .entry)) bytes))) r (now (store .exit)) ⌝ }
+{
+    let wanted = count as usize;
+    let n = transferred(wanted);
+    if n == 0 {
+        return Reply::Wrote(unchanged(store, o), 0, context.verifier);
+    }
+    let earlier = before(store, o);
+    write_edit(
+        store,
+        used,
+        context,
+        o,
+        offset as usize,
+        call,
+        bytes.start,
+        n,
+    );
+    let written = n as u32;
+    Reply::Wrote(change_from(earlier, store, o), written, context.verifier)
+}
