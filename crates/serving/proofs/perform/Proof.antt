@@ -19,10 +19,19 @@ finish-requires c κs =
     let st = c .before .before .before .before .before .before .before .before .before in
     let a = st .args in
     let e = c .before .before .before .before .before .arguments .ensures in
-    let g = c .before .before .before .read .given .1 in
-    (st .pre .0, (st .pre .1 .0, (st .pre .1 .1,
-    (read-within (a .h .procedure) (a .call .now) (a .c .at) _ _ _ e g,
-    arguments-fit (a .h .procedure) (a .call .now) (λ i. c .before .before .before .before .before .before .shared-slice-known .given i .fits) (a .c .at) _ _ (sym e ∙ ap argumentsOf g)))))
+    let g = c .before .before .before .read .given .1 in (
+      st .pre .0,
+      (
+        st .pre .1 .0,
+        (
+          st .pre .1 .1,
+          (
+            read-within (a .h .procedure) (a .call .now) (a .c .at) _ _ _ e g,
+            arguments-fit (a .h .procedure) (a .call .now) (λ i. c .before .before .before .before .before .before .shared-slice-known .given i .fits) (a .c .at) _ _ (sym e ∙ ap argumentsOf g),
+          ),
+        ),
+      ),
+    )
 
 enum-told : tie.Need-enum-told
 enum-told c = search needs
