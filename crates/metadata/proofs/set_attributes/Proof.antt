@@ -17,7 +17,7 @@ same-length c = search needs
 
 returns : tie.Need-returns
 unfolding setAttributes
-returns c = cc
+returns c = rw (c .before .before .save-object .ensures, c .before .before .before .with-attributes .ensures, c .before .before .before .before .before .load-object .ensures)
 
 pub set-attributes-spec : {M : Type 1} → statement M
 set-attributes-spec =

@@ -26,7 +26,7 @@ cast-t13 c = search needs
 
 returns : tie.Need-returns
 unfolding attributes
-returns c = cc
+returns c = rw (c .stamp-of .ensures, c .before .used-bytes .ensures, c .before .before .shown-size .ensures, c .before .before .before .link-count .ensures, c .before .before .before .before .before .before .before .load-object .ensures)
 
 pub attributes-spec : {M : Type 1} → statement M
 attributes-spec =

@@ -11,7 +11,7 @@ shown-size-requires c κs = search needs
 
 returns : tie.Need-returns
 unfolding before
-returns c = cc
+returns c = rw (c .shown-size .ensures, c .before .before .before .load-object .ensures)
 
 pub before-spec : {M : Type 1} → statement M
 before-spec = tie.close (tie.spec load-object-requires shown-size-requires returns)
