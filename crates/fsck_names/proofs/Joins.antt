@@ -77,3 +77,8 @@ used-yes s n h = rw (ne-eqb (nameLength s n) 0 h)
 pub used-no : (s : Store) (n : ℕ) → nameLength s n ≡ 0 → isUsedName s n ≡ false
 unfolding isUsedName
 used-no s n h = rw (eq-eqb (nameLength s n) 0 h)
+
+-- where the length of a record stands
+pub length-at : (s : Store) (p n at : ℕ) → p ≡ objects s → at ≡ 16 + 80 * p + 44 * n → nameLength s n ≡ beAt s (at + 8) 4
+unfolding nameLength
+length-at s p n at e f = rw (f, e)

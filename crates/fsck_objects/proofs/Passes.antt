@@ -40,7 +40,7 @@ demands s e =
     record { shape = a .0; root = h .0; good = h .1; good-names = g .1; distinct = f .1; named = d .1; used = c .1; leads = b .1 }
 
 -- a store fails where passing would be absurd
-fails : (s : Store) → (Demands s → ⊥) → passes s ≡ false
+pub fails : (s : Store) → (Demands s → ⊥) → passes s ≡ false
 fails s f = by-bool (passes s) (λ t. absurd (f (demands s t))) (λ t. t)
 
 -- one demand of a number below a bound does not hold

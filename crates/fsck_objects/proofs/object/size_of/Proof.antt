@@ -1,8 +1,7 @@
-use native.Mathlib.Omega.{arith}
 use Rattle.spec.specs.Image.{objectAt, objectFrom}
 use borrow.Author.Needs.{needs}
-use Rattle.fsck_objects.proofs.object.need_of.Statement.{statement}
-use Rattle.fsck_objects.proofs.object.need_of.Tie as tie
+use Rattle.fsck_objects.proofs.object.size_of.Statement.{statement}
+use Rattle.fsck_objects.proofs.object.size_of.Tie as tie
 
 mul-get-u32 : tie.Need-mul-get-u32
 mul-get-u32 c = search needs
@@ -16,24 +15,16 @@ add-get-u32-2 c = search needs
 get-u32-requires : tie.Need-get-u32-requires
 get-u32-requires c κs = search needs
 
-cast-result : tie.Need-cast-result
-cast-result c = search needs
-
-add-result : tie.Need-add-result
-add-result c = search needs
-
 returns : tie.Need-returns
 unfolding objectAt objectFrom
-returns c = omega (arith, c .get-u32 .ensures)
+returns c = c .get-u32 .ensures
 
-pub need-of-spec : {M : Type 1} → statement M
-need-of-spec =
+pub size-of-spec : {M : Type 1} → statement M
+size-of-spec =
     tie.close
     (tie.spec
     mul-get-u32
     add-get-u32
     add-get-u32-2
     get-u32-requires
-    cast-result
-    add-result
     returns)
