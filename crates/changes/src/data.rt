@@ -1,6 +1,7 @@
 // WRITE.
 ghost use Prim.Native.Nat.{_+_, _≤_};
 ghost use lib.ListN.{length};
+ghost use Rattle.spec.specs.Room.{freeBlockCount};
 ghost use Rattle.spec.specs.Procedures.{cut};
 ghost use Rattle.spec.specs.Procedures.Data.{write};
 ghost use Rattle.results.specs.Meaning.{Does};
@@ -18,7 +19,6 @@ use writing::write_checked;
 pub fn write(
     store: &mut [u8],
     used: &[u8; 1024],
-    free: usize,
     context: Context,
     call: &[u8],
     h: Part,
@@ -26,12 +26,12 @@ pub fn write(
     count: u32,
     bytes: Part,
 ) -> Reply
-    requires { ⌜ Ready (now store) (now used) free context ⌝ }
+    requires { ⌜ Ready (now store) (now used) (freeBlockCount (now store)) context ⌝ }
     requires { ⌜ h .start + h .length ≤ length (now call) ⌝ }
     requires { ⌜ bytes .start + bytes .length ≤ length (now call) ⌝ }
     ensures { λ r. ⌜ Does (write (now (store .entry)) context (cut (now (call .entry)) h) offset count (cut (now (call .entry)) bytes)) r (now (store .exit)) ⌝ }
 {
-    let answer = check_write(store, free, call, h, offset, count, bytes);
+    let answer = check_write(store, used, call, h, offset, count, bytes);
     let Reached::At(o) = answer else {
         return fail_changing(store, call, h, reached_status(answer));
     };

@@ -9,6 +9,7 @@ ghost use Rattle.spec.specs.Procedures.{cut};
 ghost use Rattle.spec.specs.Procedures.Attributes.{isGiven, checkSetattr};
 ghost use Rattle.spec.specs.Procedures.Data.{checkWrite};
 ghost use Rattle.spec.proofs.GoodRecords.{GoodRecords};
+ghost use Rattle.find.specs.Blocks.{UsedMap};
 ghost use Rattle.files.specs.Meaning.{reachedOf};
 use files::handle::Reached;
 use files::handle::reach;
@@ -77,10 +78,10 @@ pub fn check_setattr(
     Reached::At(o)
 }
 
-// The file that WRITE may change, or the status.
+// The file that WRITE may change, or the status. The map says which blocks are used.
 pub fn check_write(
     store: &[u8],
-    free: usize,
+    used: &[u8; 1024],
     call: &[u8],
     h: Part,
     offset: u64,
@@ -88,7 +89,7 @@ pub fn check_write(
     bytes: Part,
 ) -> Reached
     requires { ⌜ GoodRecords (now store) ⌝ }
-    requires { ⌜ free ≡ freeBlockCount (now store) ⌝ }
+    requires { ⌜ UsedMap (now store) (now used) ⌝ }
     requires { ⌜ h .start + h .length ≤ length (now call) ⌝ }
     requires { ⌜ bytes .start + bytes .length ≤ length (now call) ⌝ }
     ensures { λ r. ⌜ reachedOf r ≡ checkWrite (now (store .entry)) (cut (now (call .entry)) h) offset count (cut (now (call .entry)) bytes) ⌝ }
@@ -108,7 +109,7 @@ pub fn check_write(
     if is_past_end(offset, n) {
         return Reached::Refused(Status::FBIG);
     }
-    if lacks_room_for_bytes(store, free, o, offset as usize, n) {
+    if lacks_room_for_bytes(store, used, o, offset as usize, n) {
         return Reached::Refused(Status::NOSPC);
     }
     Reached::At(o)

@@ -9,9 +9,15 @@ ghost use Rattle.spec.proofs.GoodRecords.{GoodRecords};
 ghost use Rattle.files.specs.Meaning.{changeFrom};
 use find::name::subdirectory_count;
 use image::counts::stamp_of;
+use image::object::atime_of;
+use image::object::ctime_of;
+use image::object::gid_of;
 use image::object::is_directory;
-use image::object::load_object;
+use image::object::kind_of;
+use image::object::mode_of;
+use image::object::mtime_of;
 use image::object::size_of;
+use image::object::uid_of;
 use kinds::numbers::ObjectNumber;
 use kinds::object::Attributes;
 use kinds::object::Before;
@@ -64,18 +70,19 @@ pub fn attributes(store: &[u8], o: ObjectNumber) -> Attributes
     requires { ⌜ o .0 < objects (now store) ⌝ }
     ensures { λ r. ⌜ r ≡ attributes (now (store .entry)) (o .0) ⌝ }
 {
-    let v = load_object(store, o);
     let number = o.0;
-    let atime = v.atime;
-    let mtime = v.mtime;
-    let ctime = v.ctime;
+    let nlink = link_count(store, o);
+    let size = shown_size(store, o);
+    let atime = atime_of(store, o);
+    let mtime = mtime_of(store, o);
+    let ctime = ctime_of(store, o);
     Attributes {
-        kind: v.kind,
-        mode: v.mode,
-        nlink: link_count(store, o),
-        uid: v.uid,
-        gid: v.gid,
-        size: shown_size(store, o),
+        kind: kind_of(store, o),
+        mode: mode_of(store, o),
+        nlink,
+        uid: uid_of(store, o),
+        gid: gid_of(store, o),
+        size,
         used: used_bytes(store, o),
         fsid: stamp_of(store),
         fileid: (number + 1) as u32,
@@ -91,11 +98,11 @@ pub fn before(store: &[u8], o: ObjectNumber) -> Before
     requires { ⌜ o .0 < objects (now store) ⌝ }
     ensures { λ r. ⌜ r ≡ before (now (store .entry)) (o .0) ⌝ }
 {
-    let v = load_object(store, o);
-    let mtime = v.mtime;
-    let ctime = v.ctime;
+    let size = shown_size(store, o);
+    let mtime = mtime_of(store, o);
+    let ctime = ctime_of(store, o);
     Before {
-        size: shown_size(store, o),
+        size,
         mtime,
         ctime,
     }

@@ -9,14 +9,28 @@ use lib.Dec.{eqb}
 use lib.ListN.{length, take, set, replicate, length-set, length-append}
 use lib.Seq.{set-at, append-snoc, take-all}
 use borrow.Author.Tests.{eq-eqb, ne-eqb}
-use Rattle.spec.specs.Count.{bit, passing}
-use Rattle.spec.proofs.Count.{passing-hit, passing-miss, passing-front}
+use Rattle.spec.specs.Count.{bit, count, passing}
+use Rattle.spec.proofs.Count.{count-more, passing-hit, passing-miss, passing-front}
 use Rattle.find.specs.Blocks.{blockList}
 
 -- a byte of the map, tested
 pub free-byte : (t : Bool) (m : ℕ) → m ≡ bit (not t) → eqb m 0 ≡ t
 free-byte true m e = eq-eqb m 0 e
 free-byte false m e = ne-eqb m 0 (λ z. absurd (omega arith))
+
+-- one more byte of the map, added to those before it: the used and the free blocks are all
+pub used-more : (p : ℕ → Bool) (i k m : ℕ) → k + count i p ≡ i → m ≡ bit (not (p i)) → k + m + count (i + 1) p ≡ i + 1
+used-more p i k m e q =
+    let more = count-more p i (count i p) (bit (p i)) (p i) refl refl refl in
+    omega (arith, q, more, both (p i))
+  where
+    both : (t : Bool) → bit (not t) + bit t ≡ 1
+    both true = refl
+    both false = refl
+
+pub mark-small : (t : Bool) (m : ℕ) → m ≡ bit (not t) → m ≤ 1
+mark-small true m e = omega (arith, e)
+mark-small false m e = omega (arith, e)
 
 -- one more block in the list
 pub listed-more : (xs : List ℕ) (k x : ℕ) → k ≡ length xs → k < 16

@@ -5,7 +5,6 @@ ghost use Rattle.spec.specs.Image.{blocks};
 ghost use Rattle.spec.specs.Room.{isFreeBlock, freeBlocks, freeBlockCount};
 ghost use Rattle.image.specs.Shaped.{Shaped};
 ghost use Rattle.find.specs.Blocks.{UsedMap, blockList};
-use crate::found::one_if;
 use image::counts::block_count;
 use kinds::numbers::BlockNumber;
 use kinds::numbers::Limit;
@@ -20,19 +19,20 @@ fn is_free_block(store: &[u8], map: &[u8; 1024], r: BlockNumber) -> bool
     map[i] == 0
 }
 
+// The free blocks: all but those that the map marks, which are few enough for 16 bits.
 pub fn free_block_count(store: &[u8], map: &[u8; 1024]) -> usize
     requires { ⌜ Shaped (now store) ⌝ }
     requires { ⌜ UsedMap (now store) (now map) ⌝ }
     ensures { λ r. ⌜ r ≡ freeBlockCount (now (store .entry)) ⌝ }
 {
     let total = block_count(store);
-    let mut found = 0;
+    let mut used: u16 = 0;
     let mut i = 0;
     while i < total {
-        found += one_if(is_free_block(store, map, BlockNumber(i)));
+        used += map[i] as u16;
         i += 1;
     }
-    found
+    total - used as usize
 }
 
 // The lowest-numbered free blocks, as many as are wanted and free, then the number of an unused block.

@@ -111,7 +111,7 @@ pub fn is_in(store: &[u8], n: NameNumber, directory: ObjectNumber) -> bool
     is_used_name(store, n)
 }
 
-// Whether a record is that of a name in a directory: the directory is compared, then the length, then the bytes.
+// Whether a record is that of a name in a directory: the directory is compared, then the length, the last byte and all bytes.
 pub fn is_named(
     store: &[u8],
     n: NameNumber,
@@ -135,8 +135,12 @@ pub fn is_named(
     if len == 0 {
         return false;
     }
-    let at = name_start(store, n);
-    wire::same_bytes(store, at + 12, call, name.start, len)
+    let at = name_start(store, n) + 12;
+    let from = name.start;
+    if store[at + (len - 1)] != call[from + (len - 1)] {
+        return false;
+    }
+    wire::same_bytes(store, at, call, from, len)
 }
 
 // The record of a name in a directory.

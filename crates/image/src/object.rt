@@ -149,6 +149,54 @@ pub fn size_of(store: &[u8], o: ObjectNumber) -> u32
     wire::get_u32(store, at + 20)
 }
 
+pub fn mode_of(store: &[u8], o: ObjectNumber) -> u32
+    requires { ⌜ objectStart (o .0) + objectLength ≤ length (now store) ⌝ }
+    ensures { λ r. ⌜ r ≡ objectAt (now (store .entry)) (o .0) .mode ⌝ }
+{
+    let at = object_start(store, o);
+    wire::get_u32(store, at + 8)
+}
+
+pub fn uid_of(store: &[u8], o: ObjectNumber) -> u32
+    requires { ⌜ objectStart (o .0) + objectLength ≤ length (now store) ⌝ }
+    ensures { λ r. ⌜ r ≡ objectAt (now (store .entry)) (o .0) .uid ⌝ }
+{
+    let at = object_start(store, o);
+    wire::get_u32(store, at + 12)
+}
+
+pub fn gid_of(store: &[u8], o: ObjectNumber) -> u32
+    requires { ⌜ objectStart (o .0) + objectLength ≤ length (now store) ⌝ }
+    ensures { λ r. ⌜ r ≡ objectAt (now (store .entry)) (o .0) .gid ⌝ }
+{
+    let at = object_start(store, o);
+    wire::get_u32(store, at + 16)
+}
+
+pub fn atime_of(store: &[u8], o: ObjectNumber) -> Time
+    requires { ⌜ objectStart (o .0) + objectLength ≤ length (now store) ⌝ }
+    ensures { λ r. ⌜ r ≡ objectAt (now (store .entry)) (o .0) .atime ⌝ }
+{
+    let at = object_start(store, o);
+    load_time(store, at + 24)
+}
+
+pub fn mtime_of(store: &[u8], o: ObjectNumber) -> Time
+    requires { ⌜ objectStart (o .0) + objectLength ≤ length (now store) ⌝ }
+    ensures { λ r. ⌜ r ≡ objectAt (now (store .entry)) (o .0) .mtime ⌝ }
+{
+    let at = object_start(store, o);
+    load_time(store, at + 32)
+}
+
+pub fn ctime_of(store: &[u8], o: ObjectNumber) -> Time
+    requires { ⌜ objectStart (o .0) + objectLength ≤ length (now store) ⌝ }
+    ensures { λ r. ⌜ r ≡ objectAt (now (store .entry)) (o .0) .ctime ⌝ }
+{
+    let at = object_start(store, o);
+    load_time(store, at + 40)
+}
+
 // The k-th of the 16 block numbers of a record.
 pub fn block_of(store: &[u8], o: ObjectNumber, k: usize) -> BlockNumber
     requires { ⌜ objectStart (o .0) + objectLength ≤ length (now store) ⌝ }

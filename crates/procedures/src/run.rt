@@ -1,14 +1,16 @@
 // The procedure of each kind of arguments.
 ghost use lib.ListN.{length};
 ghost use Rattle.spec.specs.Procedures.{act};
+ghost use Rattle.spec.specs.Room.{freeBlockCount};
 ghost use Rattle.spec.proofs.Arguments.{Within};
 ghost use Rattle.spec.proofs.ArgumentRange.{FitsArguments};
 ghost use Rattle.changes.specs.Ready.{Ready};
 ghost use Rattle.procedures.specs.Runs.{Runs};
-use changes::attributes::setattr;
+use crate::counted::create;
+use crate::counted::fsstat;
+use crate::counted::mkdir;
+use crate::counted::setattr;
 use changes::data::write;
-use changes::names::create;
-use changes::names::mkdir;
 use kinds::call::Arguments;
 use kinds::numbers::Status;
 use kinds::object::Context;
@@ -19,7 +21,6 @@ use reads::lookup::lookup;
 use reads::object::access;
 use reads::object::getattr;
 use reads::volume::fsinfo;
-use reads::volume::fsstat;
 use reads::volume::pathconf;
 use removals::act::remove;
 use removals::act::rename;
@@ -30,12 +31,11 @@ use results::Reply;
 pub fn run(
     store: &mut [u8],
     used: &[u8; 1024],
-    free: usize,
     context: Context,
     call: &[u8],
     a: Arguments,
 ) -> Reply
-    requires { ⌜ Ready (now store) (now used) free context ⌝ }
+    requires { ⌜ Ready (now store) (now used) (freeBlockCount (now store)) context ⌝ }
     requires { ⌜ Within (length (now call)) a ⌝ }
     requires { ⌜ FitsArguments a ⌝ }
     ensures { λ r. ⌜ Runs (act (now (store .entry)) context (now (call .entry)) a) r (now (store .exit)) ⌝ }
@@ -43,22 +43,22 @@ pub fn run(
     match a {
         Arguments::Null => Reply::Null,
         Arguments::Getattr(h) => getattr(store, call, h),
-        Arguments::Setattr(h, set, g) => setattr(store, used, free, context, call, h, set, g),
+        Arguments::Setattr(h, set, g) => setattr(store, used, context, call, h, set, g),
         Arguments::Lookup(p) => lookup(store, call, p),
         Arguments::Access(h, bits) => access(store, call, h, bits),
         Arguments::Read(h, offset, count) => read(store, call, h, offset, count),
         Arguments::Write(h, offset, count, bytes) => {
-            write(store, used, free, context, call, h, offset, count, bytes)
+            write(store, used, context, call, h, offset, count, bytes)
         }
-        Arguments::Create(p, manner) => create(store, used, free, context, call, p, manner),
-        Arguments::Mkdir(p, set) => mkdir(store, used, free, context, call, p, set),
+        Arguments::Create(p, manner) => create(store, used, context, call, p, manner),
+        Arguments::Mkdir(p, set) => mkdir(store, used, context, call, p, set),
         Arguments::Remove(p) => remove(store, context, call, p),
         Arguments::Rmdir(p) => rmdir(store, context, call, p),
         Arguments::Rename(p, q) => rename(store, context, call, p, q),
         Arguments::Readdir(h, cookie, verifier, count) => {
             readdir(store, call, h, cookie, verifier, count)
         }
-        Arguments::Fsstat(h) => fsstat(store, call, h, free),
+        Arguments::Fsstat(h) => fsstat(store, used, call, h),
         Arguments::Fsinfo(h) => fsinfo(store, call, h),
         Arguments::Pathconf(h) => pathconf(store, call, h),
         Arguments::Commit(h) => commit(store, call, h, context),

@@ -8,8 +8,10 @@ ghost use Rattle.spec.specs.Procedures.Attributes.{sizeSet, lacksRoom};
 ghost use Rattle.spec.specs.Procedures.Data.{mostBytes, grown};
 ghost use Rattle.spec.specs.Procedures.Names.{roomForNew};
 ghost use Rattle.spec.proofs.GoodRecords.{GoodRecords};
+ghost use Rattle.find.specs.Blocks.{UsedMap};
 ghost use Rattle.room.specs.Meaning.{roomOf};
 use files::shown::need;
+use find::block::free_block_count;
 use find::found::FoundName;
 use find::found::FoundObject;
 use find::name::find_free_name;
@@ -76,16 +78,16 @@ pub fn is_past_end(offset: u64, n: usize) -> bool
     Limit::FILE < offset + n as u64
 }
 
-// Whether a file grows past the free blocks where bytes are written at an offset.
+// Whether a file grows past the free blocks where bytes are written at an offset. The map says which blocks are used.
 pub fn lacks_room_for_bytes(
     store: &[u8],
-    free: usize,
+    used: &[u8; 1024],
     o: ObjectNumber,
     offset: usize,
     n: usize,
 ) -> bool
     requires { ⌜ GoodRecords (now store) ⌝ }
-    requires { ⌜ free ≡ freeBlockCount (now store) ⌝ }
+    requires { ⌜ UsedMap (now store) (now used) ⌝ }
     requires { ⌜ o .0 < objects (now store) ⌝ }
     requires { ⌜ offset + n ≤ 8192 ⌝ }
     ensures { λ r. ⌜ r ≡ lacksRoom (now (store .entry)) (sizeOf (now (store .entry)) (o .0)) (grown (now (store .entry)) (o .0) offset n) ⌝ }
@@ -94,6 +96,7 @@ pub fn lacks_room_for_bytes(
     if offset + n <= old {
         return false;
     }
+    let free = free_block_count(store, used);
     lacks_room(free, old, offset + n)
 }
 

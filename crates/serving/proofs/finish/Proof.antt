@@ -5,9 +5,6 @@ use borrow.Author.Needs.{needs}
 use Rattle.serving.proofs.finish.Statement.{statement}
 use Rattle.serving.proofs.finish.Tie as tie
 
-free-block-count-requires : tie.Need-free-block-count-requires
-free-block-count-requires c κs = search needs
-
 run-requires : tie.Need-run-requires
 run-requires c κs = search needs
 
@@ -16,7 +13,7 @@ put-result-requires c κs = search needs
 
 cast-result : tie.Need-cast-result
 cast-result c =
-    let h = c .before .before .before .before .before .before .before .before .before .before .before .before .before .before .args .h in
+    let h = c .before .before .before .before .before .before .before .before .before .before .before .before .before .args .h in
     let k = reply-short (c .before .before .before .before .before .before .before .run .last .0) (h .procedure) (h .xid) (c .before .before .before .before .before .before .before .run .result) (c .before .before .before .before .before .before .before .run .ensures .writable) in
     omega (arith, c .before .before .put-result .ensures .place)
 
@@ -28,14 +25,13 @@ same-length-2 c = search needs
 
 returns : tie.Need-returns
 returns c =
-    let h = c .before .before .before .before .before .before .before .before .before .before .before .before .before .before .args .h in
+    let h = c .before .before .before .before .before .before .before .before .before .before .before .before .before .args .h in
     sends-done h _ (c .before .before .before .before .before .before .before .run .last .0) (c .before .before .before .before .before .before .before .run .result) (c .before .before .before .before .before .before .before .run .ensures .does) (c .before .before .put-result .ensures)
 
 pub finish-spec : {M : Type 1} → statement M
 finish-spec =
     tie.close
     (tie.spec
-    free-block-count-requires
     run-requires
     put-result-requires
     cast-result

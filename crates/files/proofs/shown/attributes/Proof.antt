@@ -3,14 +3,32 @@ use Rattle.spec.specs.Handles.{attributes}
 use Rattle.files.proofs.shown.attributes.Statement.{statement}
 use Rattle.files.proofs.shown.attributes.Tie as tie
 
-load-object-requires : tie.Need-load-object-requires
-load-object-requires c κs = search needs
-
 link-count-requires : tie.Need-link-count-requires
 link-count-requires c κs = search needs
 
 shown-size-requires : tie.Need-shown-size-requires
 shown-size-requires c κs = search needs
+
+atime-of-requires : tie.Need-atime-of-requires
+atime-of-requires c κs = search needs
+
+mtime-of-requires : tie.Need-mtime-of-requires
+mtime-of-requires c κs = search needs
+
+ctime-of-requires : tie.Need-ctime-of-requires
+ctime-of-requires c κs = search needs
+
+kind-of-requires : tie.Need-kind-of-requires
+kind-of-requires c κs = search needs
+
+mode-of-requires : tie.Need-mode-of-requires
+mode-of-requires c κs = search needs
+
+uid-of-requires : tie.Need-uid-of-requires
+uid-of-requires c κs = search needs
+
+gid-of-requires : tie.Need-gid-of-requires
+gid-of-requires c κs = search needs
 
 used-bytes-requires : tie.Need-used-bytes-requires
 used-bytes-requires c κs = search needs
@@ -18,11 +36,11 @@ used-bytes-requires c κs = search needs
 stamp-of-requires : tie.Need-stamp-of-requires
 stamp-of-requires c κs = search needs
 
-add-t12 : tie.Need-add-t12
-add-t12 c = search needs
+add-t15 : tie.Need-add-t15
+add-t15 c = search needs
 
-cast-t13 : tie.Need-cast-t13
-cast-t13 c = search needs
+cast-t16 : tie.Need-cast-t16
+cast-t16 c = search needs
 
 returns : tie.Need-returns
 unfolding attributes
@@ -32,11 +50,17 @@ pub attributes-spec : {M : Type 1} → statement M
 attributes-spec =
     tie.close
     (tie.spec
-    load-object-requires
     link-count-requires
     shown-size-requires
+    atime-of-requires
+    mtime-of-requires
+    ctime-of-requires
+    kind-of-requires
+    mode-of-requires
+    uid-of-requires
+    gid-of-requires
     used-bytes-requires
     stamp-of-requires
-    add-t12
-    cast-t13
+    add-t15
+    cast-t16
     returns)

@@ -3,15 +3,18 @@ use Rattle.spec.specs.Handles.{before}
 use Rattle.files.proofs.shown.before.Statement.{statement}
 use Rattle.files.proofs.shown.before.Tie as tie
 
-load-object-requires : tie.Need-load-object-requires
-load-object-requires c κs = search needs
-
 shown-size-requires : tie.Need-shown-size-requires
 shown-size-requires c κs = search needs
+
+mtime-of-requires : tie.Need-mtime-of-requires
+mtime-of-requires c κs = search needs
+
+ctime-of-requires : tie.Need-ctime-of-requires
+ctime-of-requires c κs = search needs
 
 returns : tie.Need-returns
 unfolding before
 returns c = rw (c .shown-size .ensures, c .before .before .before .load-object .ensures)
 
 pub before-spec : {M : Type 1} → statement M
-before-spec = tie.close (tie.spec load-object-requires shown-size-requires returns)
+before-spec = tie.close (tie.spec shown-size-requires mtime-of-requires ctime-of-requires returns)

@@ -1,35 +1,41 @@
+use mathlib.Core.Path.{_≡_, refl}
+use Prim.Native.Nat.{_+_, _-_, _≤_, zero-le}
+use native.Mathlib.Omega.{arith}
 use Rattle.spec.specs.Count.{count, sum}
 use Rattle.spec.specs.Image.{blocks}
 use Rattle.spec.specs.Room.{isFreeBlock, freeBlockCount}
-use Rattle.spec.proofs.Count.{count-more}
+use Rattle.find.proofs.Blocks.{used-more, mark-small}
 use borrow.Author.Needs.{needs}
-use native.Mathlib.Omega.{arith}
-use mathlib.Core.Path.{_≡_, refl}
-use Prim.Native.Nat.{_-_, _≤_, zero-le}
 use Rattle.find.proofs.block.free_block_count.Statement.{statement}
 use Rattle.find.proofs.block.free_block_count.Tie as tie
 
 abbrev Inv-loop : tie.InvT-loop
-Inv-loop store map total found₀ i₀ found i = (i ≤ total) × (found ≤ i) × (found ≡ count i (isFreeBlock store))
+Inv-loop store map total used₀ i₀ used i = (i ≤ total) × (used + count i (isFreeBlock store) ≡ i)
 
 abbrev μ-loop : tie.MeasureT-loop
-μ-loop store map total found₀ i₀ found i = total - i
+μ-loop store map total used₀ i₀ used i = total - i
 
 block-count-requires : tie.Need-block-count-requires Inv-loop μ-loop
 block-count-requires c κs = search needs
 
 loop-holds : tie.Need-loop-holds Inv-loop μ-loop
 unfolding sum
-loop-holds c = (zero-le, zero-le, refl)
+loop-holds c = (zero-le, refl)
 
-is-free-block-requires : tie.Need-is-free-block-requires Inv-loop μ-loop
-is-free-block-requires c κs = search needs
+element-copy-out-used : tie.Need-element-copy-out-used Inv-loop μ-loop
+element-copy-out-used c = search needs
 
-one-if-requires : tie.Need-one-if-requires Inv-loop μ-loop
-one-if-requires c κs = search needs
+cast-used : tie.Need-cast-used Inv-loop μ-loop
+cast-used c =
+    let st = c .before .before .before .before .before in
+    let i = c .before .before .loop .i in
+    omega (arith, mark-small (isFreeBlock (st .args .store .now) i) _ (st .pre .1 .used i (omega arith)))
 
-add-found : tie.Need-add-found Inv-loop μ-loop
-add-found c = search needs
+add-used : tie.Need-add-used Inv-loop μ-loop
+add-used c =
+    let st = c .before .before .before .before .before in
+    let i = c .before .before .loop .i in
+    omega (arith, mark-small (isFreeBlock (st .args .store .now) i) _ (st .pre .1 .used i (omega arith)))
 
 add-i : tie.Need-add-i Inv-loop μ-loop
 add-i c = search needs
@@ -39,15 +45,22 @@ loop-less c = search needs
 
 loop-again : tie.Need-loop-again Inv-loop μ-loop
 loop-again c =
-    let l = c .before .before .before .loop in
-    let a = c .before .before .before .before .before .before .args in
-    (omega arith, omega arith, count-more (isFreeBlock (a .store .now)) (l .i) (l .found) _ _ (l .inv .2) (c .one-if .ensures .0) (c .before .is-free-block .ensures))
+    let st = c .before .before .before .before .before in
+    let l = c .before .before .loop in
+    (omega arith, used-more (isFreeBlock (st .args .store .now)) (l .i) (l .used) _ (l .inv .1) (st .pre .1 .used (l .i) (omega arith)))
+
+cast-result : tie.Need-cast-result Inv-loop μ-loop
+cast-result c = search needs
+
+sub-result : tie.Need-sub-result Inv-loop μ-loop
+sub-result c = search needs
 
 returns : tie.Need-returns Inv-loop μ-loop
 unfolding freeBlockCount
 returns c =
     let e : c .before .loop .i ≡ blocks (c .before .before .before .before .args .store .now) = omega arith in
-    rw e at (c .before .loop .inv .2)
+    let sum = rw e at (c .before .loop .inv .1) in
+    omega (arith, sum)
 
 pub free-block-count-spec : {M : Type 1} → statement M
 free-block-count-spec =
@@ -57,10 +70,12 @@ free-block-count-spec =
     μ-loop
     block-count-requires
     loop-holds
-    is-free-block-requires
-    one-if-requires
-    add-found
+    element-copy-out-used
+    cast-used
+    add-used
     add-i
     loop-less
     loop-again
+    cast-result
+    sub-result
     returns)

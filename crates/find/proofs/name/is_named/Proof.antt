@@ -1,8 +1,12 @@
 use native.Mathlib.Omega.{arith}
 use mathlib.Core.Path.{_≡_, sym, ap, _∙_}
-use Prim.Native.Nat.{ℕ, _+_}
+use mathlib.Core.Logic.{_≢_}
+use mathlib.Core.List.{List}
+use Prim.Native.Nat.{ℕ, _+_, _-_, _<_}
+use lib.ListN.{getD}
 use Rattle.spec.specs.Bytes.{part, sameBytes}
-use Rattle.spec.proofs.Bytes.{part-length}
+use Rattle.spec.specs.Image.{nameStart}
+use Rattle.spec.proofs.Bytes.{part-length, same-no, getD-part}
 use Rattle.image.specs.Text.{textOf}
 use Rattle.find.proofs.Named.{named-elsewhere, named-longer, named-free, named-same}
 use borrow.Author.Needs.{needs}
@@ -35,15 +39,56 @@ returns-3 c =
 name-start-requires : tie.Need-name-start-requires
 name-start-requires c κs = search needs
 
-add-same-bytes : tie.Need-add-same-bytes
-add-same-bytes c = search needs
+add-at : tie.Need-add-at
+add-at c = search needs
+
+sub-if4 : tie.Need-sub-if4
+sub-if4 c = search needs
+
+add-if4 : tie.Need-add-if4
+add-if4 c = search needs
+
+shared-slice-read-if4 : tie.Need-shared-slice-read-if4
+shared-slice-read-if4 c = search needs
+
+sub-if4-2 : tie.Need-sub-if4-2
+sub-if4-2 c = search needs
+
+add-if4-2 : tie.Need-add-if4-2
+add-if4-2 c = search needs
+
+shared-slice-read-if4-2 : tie.Need-shared-slice-read-if4-2
+shared-slice-read-if4-2 c = search needs
+
+returns-4 : tie.Need-returns-4
+returns-4 c =
+    let at = c .before .before .before in
+    let empty = at .before in
+    let long = empty .before in
+    let nl = long .before .before in
+    let dir = nl .before in
+    let nd = dir .before .before .before in
+    let st = nd .before .before .before in
+    let a = st .args in
+    let s = a .store .now in
+    let text = textOf (a .call .now) (a .name) in
+    let len = nl .name-length .result in
+    let same : len ≡ a .name .length = omega (arith, long .if2 .left) in
+    let some : len ≢ 0 = empty .if3 .left in
+    let last : len - 1 < len = omega (arith, some) in
+    sym (sym (named-same s (a .directory .0) (a .n .0) text len (sym (nd .name-directory .ensures) ∙ dir .if1 .left) (sym (nl .name-length .ensures))
+    (part-length (a .call .now) (a .name .start) (a .name .length) (st .pre .1 .1) ∙ sym same) some)
+    ∙ same-no _ _ (λ e. c .if4 .taken
+    (ap (λ (q : ℕ). getD s (q + 12 + (len - 1)) 0) (at .name-start .ensures)
+    ∙ sym (getD-part s (nameStart s (a .n .0) + 12) len (len - 1) last) ∙ ap (λ (l : List ℕ). getD l (len - 1) 0) e
+    ∙ getD-part (a .call .now) (a .name .start) (a .name .length) (len - 1) (omega (arith, same)))))
 
 same-bytes-requires : tie.Need-same-bytes-requires
 same-bytes-requires c κs = search needs
 
-returns-4 : tie.Need-returns-4
-returns-4 c =
-    let at = c .before in
+returns-5 : tie.Need-returns-5
+returns-5 c =
+    let at = c .before .before .before .before in
     let empty = at .before in
     let long = empty .before in
     let nl = long .before .before in
@@ -71,6 +116,13 @@ is-named-spec =
     returns-2
     returns-3
     name-start-requires
-    add-same-bytes
+    add-at
+    sub-if4
+    add-if4
+    shared-slice-read-if4
+    sub-if4-2
+    add-if4-2
+    shared-slice-read-if4-2
+    returns-4
     same-bytes-requires
-    returns-4)
+    returns-5)

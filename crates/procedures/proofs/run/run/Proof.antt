@@ -125,7 +125,7 @@ fsstat-requires : tie.Need-fsstat-requires
 fsstat-requires c κs =
     let st = c .before .before .before .before .before .before in
     let w = subst (Within (length (st .args .call .now))) (c .before .before .a13 .given .1) (st .pre .1 .0) in
-    (good (st .pre .0), (w, st .pre .0 .count))
+    (good (st .pre .0), (w, st .pre .0 .map))
 
 enum-known-a-14 : tie.Need-enum-known-a-14
 enum-known-a-14 c = search needs
