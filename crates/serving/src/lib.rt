@@ -13,7 +13,6 @@ ghost use Rattle.changes.specs.Ready.{Ready};
 ghost use Rattle.serving.specs.Sends.{Sends};
 use args::arguments;
 use args::reading::ArgumentsRead;
-use find::block::free_block_count;
 use kinds::call::Arguments;
 use kinds::call::CallHeader;
 use kinds::call::Cursor;
@@ -56,8 +55,7 @@ fn finish(
 {
     let procedure = h.procedure;
     let xid = h.xid;
-    let free = free_block_count(store, used);
-    let r = run(store, used, free, context, call, a);
+    let r = run(store, used, context, call, a);
     let next = put_result(reply, store, procedure, xid, r);
     next as u32
 }
