@@ -2,7 +2,7 @@
 ghost use mathlib.Core.Path.{_≡_};
 ghost use Prim.Native.Nat.{_+_, _*_, _≤_, _<_};
 ghost use lib.ListN.{length};
-ghost use Rattle.spec.specs.Image.{objects, names, objectStart, nameStart, nameAt, nameLength};
+ghost use Rattle.spec.specs.Image.{objects, names, nameAt, nameLength};
 ghost use Rattle.spec.specs.Room.{isDirectory, isLive};
 ghost use Rattle.spec.specs.Bytes.{part, beAt};
 ghost use Rattle.spec.specs.Check.{isZero, goodUsed, goodNameRecord};

@@ -2,7 +2,7 @@
 use mathlib.Core.Path.{_≡_, refl, sym, ap, _∙_}
 use mathlib.Core.Logic.{_≢_, by-cases, ⊎-elim}
 use mathlib.Core.Bool.{Bool, true, false, _&&_, _||_, not, cond, and-false, or-true}
-use mathlib.Core.List.{List, [], _∷_, _++_}
+use mathlib.Core.List.{List, [], _∷_}
 use Prim.Native.Nat.{ℕ, zero, suc, _+_, _*_, _-_, _/_, _%_, _≤_, _<_}
 use native.Mathlib.Nat.{not-suc-le-zero, add-zero, add-suc}
 use native.Mathlib.Decide.{ℕ-discrete, le-ind}
@@ -13,11 +13,10 @@ use lib.ListN.{length, take, getD, set, length-set}
 use lib.Seq.{take-suc, getD-set-same, getD-set-other}
 use borrow.Author.Tests.{ltb-true, ltb-false, lt-ltb, le-ltb, le-leb, leb-true, eq-eqb, ne-eqb, eqb-true}
 use Rattle.kinds.specs.declared.object.Object.{Object}
-use Rattle.spec.specs.Bytes.{part, beAt}
 use Rattle.spec.specs.Count.{bit, sum, every, times}
 use Rattle.spec.specs.Image.{Store, objectLength, objects, blocks, objectStart, objectFrom, objectAt}
-use Rattle.spec.specs.Room.{need, isLive, sizeOf, held, uses}
-use Rattle.spec.specs.Check.{isZero, goodBlock, goodFree, goodLive, goodObject, isUsedOnce, passes}
+use Rattle.spec.specs.Room.{need, sizeOf, held, uses}
+use Rattle.spec.specs.Check.{goodBlock, goodFree, goodLive, goodObject, isUsedOnce, passes}
 use Rattle.spec.proofs.Bytes.{lt-or-le, be-2}
 use Rattle.spec.proofs.Count.{true-false, by-bool, and-both, sum-ext, sum-add, sum-zero, sum-more, times-append, every-more, every-fails, every-at, every-all}
 use Rattle.spec.proofs.Records.{halves-count, half-read}
@@ -26,7 +25,7 @@ use Rattle.fsck_objects.specs.Objects.{goodFields, isUnused, markFor, Li
 use Rattle.fsck_objects.proofs.Zeros.{zero-within, zero-be}
 use Rattle.fsck_objects.proofs.Passes.{or-false, fails, fails-object}
 
--- ---- sums and counts grow
+-- ---- sums and counts
 pub sum-grows : (f : ℕ → ℕ) (n m : ℕ) → n ≤ m → sum n f ≤ sum m f
 unfolding sum
 sum-grows f n m h = le-ind (λ (k : ℕ). sum n f ≤ sum k f) (omega arith) (λ k l q. omega arith) m h
@@ -96,9 +95,6 @@ blocks-length s o = halves-count s (objectStart o + 48) 16
 held-is : (s : Store) (o : ℕ) → held s o ≡ take (need (objectAt s o .size)) (objectAt s o .blocks)
 unfolding held sizeOf
 held-is s o = refl
-
-take-none : (xs : List ℕ) → take 0 xs ≡ []
-take-none xs = refl
 
 times-none : (r : ℕ) → times r [] ≡ 0
 unfolding times

@@ -1,7 +1,7 @@
 -- A whole object record: free or live, it passes, or the store fails. Assumes nothing.
-use mathlib.Core.Path.{_≡_, refl, sym, _∙_}
-use mathlib.Core.Bool.{Bool, true, false, _&&_, _||_, not}
-use Prim.Native.Nat.{ℕ, _+_, _≤_, _<_}
+use mathlib.Core.Path.{_≡_, sym, _∙_}
+use mathlib.Core.Bool.{Bool, true, false, _&&_}
+use Prim.Native.Nat.{ℕ, _≤_, _<_}
 use native.Mathlib.Omega.{arith}
 use lib.Dec.{eqb, leb, ltb}
 use mathlib.Core.List.{List}
@@ -13,7 +13,7 @@ use Rattle.spec.specs.Count.{sum, every}
 use Rattle.spec.specs.Image.{Store, objects, blocks, objectAt}
 use Rattle.spec.specs.Room.{need, isLive}
 use Rattle.spec.specs.Check.{goodTime, goodSize, goodBlock, goodFree, goodLive, goodObject, passes}
-use Rattle.spec.proofs.Count.{by-bool, true-false, and-both}
+use Rattle.spec.proofs.Count.{by-bool, and-both}
 use Rattle.fsck_objects.specs.Told.{Told}
 use Rattle.fsck_objects.specs.Objects.{goodFields, LiveAt, MarkedBy, MarkedTo, ObjectPasses, ObjectsPass, Counted}
 use Rattle.fsck_objects.specs.declared.object.Uses.the-variants.{Bad, Blocks}

@@ -2,19 +2,18 @@
 use mathlib.Core.Path.{_≡_, refl, sym, ap, _∙_}
 use mathlib.Core.Bool.{Bool, true, false, _&&_, _||_, not, and-false}
 use mathlib.Core.List.{List, [], _∷_, _++_}
-use Prim.Native.Nat.{ℕ, zero, suc, _+_, _-_, _*_, _/_, _%_, _≤_, _<_}
-use native.Mathlib.Nat.{not-suc-le-zero}
+use Prim.Native.Nat.{ℕ, zero, _+_, _-_, _*_, _≤_, _<_}
 use native.Mathlib.Omega.{arith}
 use native.Mathlib.Numerals.{add-one}
 use mathlib.Core.Logic.{⊎-elim}
 use lib.Dec.{eqb, ltb}
-use lib.ListN.{length, getD, replicate}
+use lib.ListN.{length, getD}
 use borrow.Author.Tests.{eqb-true, eq-eqb, lt-ltb, le-ltb}
 use Rattle.spec.specs.Bytes.{part, digits, beOf, beAt, allBytes}
 use Rattle.spec.specs.Check.{isZero}
 use Rattle.spec.specs.Count.{every}
-use Rattle.spec.proofs.Bytes.{lt-or-le, part-add, part-snoc, part-length, getD-part}
-use Rattle.spec.proofs.Count.{by-bool, true-false, and-both}
+use Rattle.spec.proofs.Bytes.{lt-or-le, part-add, part-snoc}
+use Rattle.spec.proofs.Count.{and-both}
 
 pub and-true : (t : Bool) → t && true ≡ t
 and-true true = refl
@@ -56,30 +55,11 @@ unfolding allBytes
 all-append p [] ys = refl
 all-append p (x ∷ xs) ys = rw (all-append p xs ys) (and-assoc (p x) (allBytes p xs) (allBytes p ys))
 
-pub all-at : (p : ℕ → Bool) (xs : List ℕ) (i : ℕ) → allBytes p xs ≡ true → i < length xs → p (getD xs i 0) ≡ true
-unfolding allBytes
-all-at p [] i e h = absurd (not-suc-le-zero h)
-all-at p (x ∷ xs) zero e h = and-both (p x) (allBytes p xs) e .0
-all-at p (x ∷ xs) (suc i) e h = all-at p xs i (and-both (p x) (allBytes p xs) e .1) (omega arith)
-
 -- one byte more
 pub all-next : (p : ℕ → Bool) (b : List ℕ) (at i : ℕ) → at + i < length b
     → allBytes p (part b at (i + 1)) ≡ allBytes p (part b at i) && p (getD b (at + i) 0)
 unfolding allBytes
 all-next p b at i h = rw (part-snoc b at i h, all-append) (ap (λ (t : Bool). allBytes p (part b at i) && t) (and-true (p (getD b (at + i) 0))))
-
--- a part that passes gets one byte more that passes
-pub all-more : (p : ℕ → Bool) (b : List ℕ) (at i : ℕ) → at + i < length b → allBytes p (part b at i) ≡ true → p (getD b (at + i) 0) ≡ true
-    → allBytes p (part b at (i + 1)) ≡ true
-unfolding allBytes
-all-more p b at i h e t = rw (part-snoc b at i h, all-append, e, t)
-
--- a byte of a part does not pass
-pub all-fails : (p : ℕ → Bool) (b : List ℕ) (at n i : ℕ) → at + n ≤ length b → i < n → p (getD b (at + i) 0) ≡ false → allBytes p (part b at n) ≡ false
-all-fails p b at n i l h e =
-    by-bool (allBytes p (part b at n))
-    (λ t. true-false (sym (all-at p (part b at n) i t (rw (part-length b at n l) h)) ∙ ap p (getD-part b at n i h) ∙ e))
-    (λ t. t)
 
 pub all-none : (p : ℕ → Bool) (b : List ℕ) (at : ℕ) → allBytes p (part b at 0) ≡ true
 unfolding allBytes part

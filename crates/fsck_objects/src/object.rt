@@ -7,7 +7,7 @@ ghost use lib.ListN.{length, getD};
 ghost use Rattle.spec.specs.Count.{every};
 ghost use Rattle.spec.specs.Image.{blocks, objects, objectStart, objectAt};
 ghost use Rattle.spec.specs.Check.{goodTime, goodBlock};
-ghost use Rattle.spec.specs.Room.{need, isLive};
+ghost use Rattle.spec.specs.Room.{need};
 ghost use Rattle.fsck_objects.specs.Told.{Shaped, Told};
 use crate::zero::is_zero;
 use kinds::numbers::Kind;

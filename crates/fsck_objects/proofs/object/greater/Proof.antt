@@ -1,5 +1,4 @@
 use Rattle.fsck_objects.proofs.Zeros.{greater-left, greater-right}
-use borrow.Author.Needs.{needs}
 use Rattle.fsck_objects.proofs.object.greater.Statement.{statement}
 use Rattle.fsck_objects.proofs.object.greater.Tie as tie
 
