@@ -12,20 +12,6 @@ use fsck_objects::object::kind_of;
 use fsck_objects::objects::objects_pass;
 use kinds::numbers::Kind;
 
-// Makes the map of used blocks zero.
-fn clear_used(used: &mut [u8; 1024])
-    ensures { λ _. ⌜ Blank 1024 (now (used .exit)) ⌝ }
-{
-    *used = [0u8; 1024];
-}
-
-// Makes the map of parents zero.
-fn clear_parents(parents: &mut [u8; 64])
-    ensures { λ _. ⌜ Blank 64 (now (parents .exit)) ⌝ }
-{
-    *parents = [0u8; 64];
-}
-
 // The map of 32 ones and then zeros.
 fn inside_map() -> [u8; 64]
     ensures { λ r. ⌜ Inside r ⌝ }
@@ -51,9 +37,9 @@ fn names_and_tree(
     requires { ⌜ p ≡ objects (now store) ⌝ }
     requires { ⌜ count ≡ names (now store) ⌝ }
     requires { ⌜ Inside (now inside) ⌝ }
+    requires { ⌜ Blank 64 (now parents) ⌝ }
     ensures { λ r. ⌜ Told r (now (store .entry)) (RestPasses (now (store .entry)) (now (parents .exit))) ⌝ }
 {
-    clear_parents(parents);
     let mut head = [0u8; 256];
     let mut next = [0u8; 128];
     if !names_pass(store, inside, p, count, parents, &mut head, &mut next) {
@@ -63,9 +49,11 @@ fn names_and_tree(
     tree_passes(store, p, parents, &mut depths)
 }
 
-// Checks a store of any bytes. Of one that passes, gives its counts, and leaves in `used` a byte for each block, 1 where it is used and
-// else 0, and in `parents` for each object the number of its parent and 1, or 0 where nothing names it.
+// Checks a store of any bytes, with maps of zeros. Of one that passes, gives its counts, and leaves in `used` a byte for each block, 1 where
+// it is used and else 0, and in `parents` for each object the number of its parent and 1, or 0 where nothing names it.
 pub fn check_store(store: &[u8], used: &mut [u8; 1024], parents: &mut [u8; 64]) -> Found
+    requires { ⌜ Blank 1024 (now used) ⌝ }
+    requires { ⌜ Blank 64 (now parents) ⌝ }
     ensures { λ r. ⌜ Checked (now (store .entry)) r (now (used .exit)) (now (parents .exit)) ⌝ }
 {
     let found = shape(store);
@@ -78,7 +66,6 @@ pub fn check_store(store: &[u8], used: &mut [u8; 1024], parents: &mut [u8; 64]) 
     if kind_of(store, 0) != Kind::DIRECTORY {
         return Found::Bad;
     }
-    clear_used(used);
     let inside = inside_map();
     if !objects_pass(store, &inside, p, r, used) {
         return Found::Bad;
