@@ -1,4 +1,5 @@
 // The tests of a call before anything is written.
+ghost use Rattle.fsck_objects.specs.Objects.{Blank};
 ghost use Rattle.opening.specs.Opens.{Opens};
 use fsck::check::check_store;
 use fsck::shape::Found;
@@ -16,8 +17,8 @@ pub enum Opened {
     Heard(Header, Cursor),
 }
 
-// Tests the reply space, the clock, the call's length, the store and the header, in this order. Of a store that passes leaves in `used`
-// the map of its used blocks.
+// Tests the reply space, the clock, the call's length, the store and the header, in this order. `used` is a map of
+// zeros; of a store that passes it gets the map of its used blocks.
 pub fn open(
     call: &[u8],
     store: &[u8],
@@ -25,6 +26,7 @@ pub fn open(
     context: Context,
     used: &mut [u8; 1024],
 ) -> Opened
+    requires { ⌜ Blank 1024 (now used) ⌝ }
     ensures { λ r. ⌜ Opens (now (call .entry)) (now (store .entry)) (now (reply .entry)) context (now (used .exit)) r ⌝ }
 {
     let clock = context.clock;

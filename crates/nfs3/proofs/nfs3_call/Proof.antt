@@ -1,10 +1,11 @@
+use Rattle.fsck.proofs.Steps.{blank-of}
 use Rattle.nfs3.proofs.Answered.{serves-refused, serves-sent}
 use borrow.Author.Needs.{needs}
 use Rattle.nfs3.proofs.nfs3_call.Statement.{statement}
 use Rattle.nfs3.proofs.nfs3_call.Tie as tie
 
 open-requires : tie.Need-open-requires
-open-requires c κs = search needs
+open-requires c κs = blank-of 1024
 
 enum-known-opened : tie.Need-enum-known-opened
 enum-known-opened c = search needs

@@ -1,11 +1,12 @@
 use mathlib.Core.Path.{sym, _∙_}
+use Rattle.fsck.proofs.Steps.{blank-of}
 use Rattle.nfs3.proofs.Answered.{answer-bad, answer-good}
 use borrow.Author.Needs.{needs}
 use Rattle.nfs3.proofs.nfs3_check.Statement.{statement}
 use Rattle.nfs3.proofs.nfs3_check.Tie as tie
 
 check-store-requires : tie.Need-check-store-requires
-check-store-requires c κs = search needs
+check-store-requires c κs = (blank-of 1024, blank-of 64)
 
 enum-told : tie.Need-enum-told
 enum-told c = search needs

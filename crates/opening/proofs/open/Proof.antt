@@ -1,6 +1,7 @@
 use mathlib.Core.Path.{sym, ap, _∙_}
 use native.Mathlib.Omega.{arith}
 use borrow.Author.Needs.{needs}
+use Rattle.fsck.proofs.Steps.{blank-of}
 use Rattle.rpc.specs.Meaning.{headerOf}
 use Rattle.opening.proofs.Tests.{fails, passed-check, small-space, bad-clock, long-call, bad-store, bad-header, hears}
 use Rattle.opening.proofs.open.Statement.{statement}
@@ -22,7 +23,7 @@ returns-3 c =
     long-call (a .call .now) (a .store .now) (a .reply .now) (a .context) (c .before .before .before .if1 .left) (c .before .if2 .left) (c .if3 .taken)
 
 check-store-requires : tie.Need-check-store-requires
-check-store-requires c κs = search needs
+check-store-requires c κs = (c .before .before .before .before .before .before .before .before .before .pre, blank-of 64)
 
 enum-told : tie.Need-enum-told
 enum-told c = search needs
