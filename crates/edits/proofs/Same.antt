@@ -1,0 +1,114 @@
+-- A file that gets the size that it has stays as it is. Assumes nothing.
+use Prim.Native.Nat.{ℕ, _+_, _-_, _%_, _≤_, _<_, min, max}
+use mathlib.Core.Path.{_≡_, refl, sym, ap, ap₂, _∙_}
+use mathlib.Core.Bool.{Bool, true, false, cond}
+use mathlib.Core.Logic.{⊎-elim}
+use mathlib.Core.List.{List, [], _++_, append-nil}
+use native.Mathlib.Omega.{arith}
+use lib.Dec.{eqb}
+use lib.ListN.{length, getD, take, drop, length-take, drop-of-length-le}
+use lib.Seq.{take-take, getD-take, ext-getD}
+use Rattle.kinds.specs.Numbers.{REGULAR}
+use Rattle.kinds.specs.declared.object.Object.{Object}
+use Rattle.spec.specs.Bytes.{part, overlay, zeros, bytesOf}
+use Rattle.spec.specs.Edits.{clearBlocks, clearTail, blockNumbers, withSize, resize}
+use Rattle.spec.specs.Image.{Store, objects, objectStart, timeAt, timeBytes, timesBytes, objectFrom, objectAt, putObject}
+use Rattle.spec.specs.Room.{sizeOf, need, held, freeBlocks, byteAt}
+use Rattle.spec.proofs.Bytes.{lt-or-le, part-add, overlay-none}
+use Rattle.spec.proofs.GoodRecords.{GoodRecords, live-at}
+use Rattle.spec.proofs.Range.{Below}
+use Rattle.spec.proofs.Records.{halves-count}
+use Rattle.spec.proofs.Resize.{numbers-long, numbers-held, numbers-rest}
+use Rattle.spec.proofs.Valid.{LiveObject, live-size}
+use Rattle.metadata.proofs.Kept.{bytes-kept, overlay-kept, attributes-written}
+
+-- two parts, one behind the other
+joined : (s : List ℕ) (p q n m : ℕ) (xs ys : List ℕ) → q ≡ p + n → xs ≡ part s p n → ys ≡ part s q m → xs ++ ys ≡ part s p (n + m)
+joined s p q n m xs ys e a b = ap₂ (λ (x y : List ℕ). x ++ y) a (b ∙ ap (λ (k : ℕ). part s k m) e) ∙ sym (part-add s p n m)
+
+module _ (s : Store) (o : ℕ) (f : Below 256 s) (h : objectStart o + 80 ≤ length s) where
+  abbrev at : ℕ
+  at = objectStart o
+
+  time-kept : (p : ℕ) → p + 8 ≤ length s → timeBytes (timeAt s p) ≡ part s p 8
+  unfolding timeBytes timeAt
+  time-kept p k = joined s p (p + 4) 4 4 _ _ refl (bytes-kept s f 4 p (omega arith)) (bytes-kept s f 4 (p + 4) (omega arith))
+
+  owner-kept : bytesOf 4 (objectAt s o .mode) ++ bytesOf 4 (objectAt s o .uid) ++ bytesOf 4 (objectAt s o .gid) ≡ part s (at + 8) 12
+  unfolding objectAt objectFrom
+  owner-kept =
+      joined s (at + 8) (at + 16) 8 4 _ _ (omega arith)
+      (joined s (at + 8) (at + 12) 4 4 _ _ (omega arith) (bytes-kept s f 4 (at + 8) (omega arith)) (bytes-kept s f 4 (at + 12) (omega arith)))
+      (bytes-kept s f 4 (at + 16) (omega arith))
+
+  times-kept : timesBytes (objectAt s o) ≡ part s (at + 24) 24
+  unfolding timesBytes objectAt objectFrom
+  times-kept =
+      joined s (at + 24) (at + 40) 16 8 _ _ (omega arith)
+      (joined s (at + 24) (at + 32) 8 8 _ _ (omega arith) (time-kept (at + 24) (omega arith)) (time-kept (at + 32) (omega arith)))
+      (time-kept (at + 40) (omega arith))
+
+  -- an object written where it was read
+  object-kept : putObject s o (objectAt s o) ≡ s
+  object-kept =
+      sym (attributes-written s o (objectAt s o) f h refl refl refl refl)
+      ∙ ap (λ (z : Store). overlay z (at + 24) (timesBytes (objectAt s o))) (overlay-kept s (at + 8) 12 _ owner-kept (omega arith))
+      ∙ overlay-kept s (at + 24) 24 _ times-kept (omega arith)
+
+-- the numbers that an object holds, and 65535 in its other places, are all its numbers
+numbers-same : (v : Object) (r : ℕ) → LiveObject r v → length (v .blocks) ≡ 16 → need (v .size) ≤ 16 → blockNumbers (take (need (v .size)) (v .blocks)) ≡ v .blocks
+numbers-same v r l k b =
+    let n = need (v .size) in
+    let rs = take n (v .blocks) in
+    let long : length rs ≡ n = simp length-take (omega arith) in
+    ext-getD 0 (blockNumbers rs) (v .blocks) (numbers-long rs ∙ sym k)
+    (λ i h. ⊎-elim
+    (λ (q : i < n). sym (getD-take n (blockNumbers rs) i 0 q) ∙ ap (λ (x : List ℕ). getD x i 0) (numbers-held rs n long b) ∙ getD-take n (v .blocks) i 0 q)
+    (λ (q : n ≤ i). numbers-rest rs i (omega (arith, long)) (omega (arith, numbers-long rs)) ∙ sym (l .rest i q (omega (arith, numbers-long rs))))
+    (lt-or-le i n))
+
+blocks-long : (s : Store) (o : ℕ) → length (objectAt s o .blocks) ≡ 16
+unfolding objectAt objectFrom
+blocks-long s o = halves-count s (objectStart o + 48) 16
+
+either-way : (t : Bool) (s : Store) → cond t s s ≡ s
+either-way true s = refl
+either-way false s = refl
+
+-- no bytes between the ends
+tail-none : (s : Store) (o start end : ℕ) → end ≤ start → clearTail s o start end ≡ s
+unfolding clearTail
+tail-none s o start end h =
+    let e : min (end - start) (512 - start % 512) ≡ 0 = omega arith in
+    rw (e, overlay-none s (byteAt s o start)) (either-way (eqb (start % 512) 0) s)
+
+pub resize-same : (s : Store) (o : ℕ) → GoodRecords s → o < objects s → objectAt s o .kind ≡ REGULAR → Below 256 s → resize s o (sizeOf s o) ≡ s
+unfolding resize held clearBlocks sizeOf withSize
+resize-same s o g l k f =
+    let v = objectAt s o in
+    let n = need (v .size) in
+    let live = live-at s g o l (omega (arith, k)) in
+    let small = live-size _ v live in
+    let long = blocks-long s o in
+    let w = g .sound .shaped in
+    let tail : clearTail s o (min (v .size) (v .size)) (max (v .size) (v .size)) ≡ s = tail-none s o _ _ (omega arith) in
+    let freed : drop n (take n (v .blocks)) ≡ [] = drop-of-length-le (take n (v .blocks)) {i = n} (simp length-take (omega arith)) in
+    let none : n - n ≡ 0 = omega arith in
+    let added : take (n - n) (freeBlocks s) ≡ [] = ap (λ (i : ℕ). take i (freeBlocks s)) none in
+    let kept : take n (take n (v .blocks)) ++ [] ≡ take n (v .blocks) = append-nil (take n (take n (v .blocks))) ∙ take-take n n (v .blocks) (omega arith) in
+    let numbers = ap blockNumbers kept ∙ numbers-same v _ live long (omega (arith, small)) in
+    rw (tail, freed, added)
+    (ap (putObject s o)
+    (λ i. record {
+      kind = v .kind;
+      generation = v .generation;
+      mode = v .mode;
+      uid = v .uid;
+      gid = v .gid;
+      size = v .size;
+      atime = v .atime;
+      mtime = v .mtime;
+      ctime = v .ctime;
+      blocks = numbers i;
+    })
+    ∙ object-kept s o f (omega arith))
