@@ -135,21 +135,41 @@ module _ (s : Store) (p : ℕ) (parents : List ℕ) (a : Parents s p parents) wh
   pub climb-lost : (o at k : ℕ) → Climbed s p o at k → p < k → Steps s p o k
   climb-lost o at k c h = record { found = λ l. absurd (omega arith); lost = λ l e. c .not-yet p h e }
 
+  -- ---- an object whose parent's steps are known
+  pub marked-other : (o mark : ℕ) → mark ≡ getD parents o 0 → (mark ≡ 0 → ⊥) → o ≡ 0 → ⊥
+  marked-other o mark e f z = f (e ∙ ap (λ (n : ℕ). getD parents n 0) z ∙ a .root)
+
+  pub depth-next : (depths : List ℕ) → Known s p depths → (o mark depth : ℕ) → o < p → mark ≡ getD parents o 0 → (mark ≡ 0 → ⊥)
+      → depth ≡ getD depths (mark - 1) 0 → (depth ≡ 0 → ⊥) → Depth s o depth
+  depth-next depths b o mark depth h e f d g =
+      let z = marked-other o mark e f in
+      let up : mark - 1 ≡ parent s o = ap (λ (n : ℕ). n - 1) e ∙ sym (a .are o h) in
+      let l : mark - 1 < p = omega (arith, a .range o, positive mark f) in
+      let x = b .are (mark - 1) l (λ q. g (d ∙ q)) in
+      let w : 1 + (getD depths (mark - 1) 0 - 1) ≡ depth = omega (arith, positive depth g) in
+      rw w at (depth-join s o (mark - 1) 1 (getD depths (mark - 1) 0 - 1) (up ∙ ap (parent s) (sym (above-none s o)) ∙ sym (above-suc s 0 o))
+      (λ j q y. z (sym (above-none s o) ∙ ap (λ (n : ℕ). above s n o) (let k : 0 ≡ j = omega arith in k) ∙ y)) x)
+
+  -- the steps of an object written down
+  pub known-set : (depths : List ℕ) → Known s p depths → (at d : ℕ) → at < p → (at ≡ 0 → ⊥) → Depth s at d → Known s p (set depths at (d + 1))
+  known-set depths b at d h z x =
+      let i : at < length depths = omega (arith, b .long, a .most) in
+      record {
+        long = simp length-set (b .long);
+        root = getD-set-other depths at 0 (d + 1) 0 (λ y. z (sym y)) ∙ b .root;
+        are = λ o l f. by-cases (ℕ-discrete o at)
+            (λ (q : o ≡ at). let g : getD (set depths at (d + 1)) o 0 - 1 ≡ d = rw q (rw (getD-set-same depths at (d + 1) 0 i) (omega arith)) in
+            rw (g, q) x)
+            (λ (q : o ≢ at). let g = getD-set-other depths at o (d + 1) 0 q in rw g (b .are o l (λ y. f (g ∙ y))));
+      }
+
   -- ---- the steps written down
   pub note-more : (depths : List ℕ) (at d up : ℕ) → Noted s p depths at d → getD depths at 0 ≡ 0 → up ≡ getD parents at 0 - 1 → Noted s p (set depths at (d + 1)) up (d - 1)
   note-more depths at d up n e u =
       let q : up ≡ parent s at = u ∙ sym (a .are at (n .below)) in
       let z = unknown depths (n .known) at e in
-      let i : at < length depths = omega (arith, n .below, n .known .long, a .most) in
       record {
-        known = record {
-          long = simp length-set (n .known .long);
-          root = getD-set-other depths at 0 (d + 1) 0 (λ y. z (sym y)) ∙ n .known .root;
-          are = λ o l f. by-cases (ℕ-discrete o at)
-              (λ (x : o ≡ at). let g : getD (set depths at (d + 1)) o 0 - 1 ≡ d = rw x (rw (getD-set-same depths at (d + 1) 0 i) (omega arith)) in
-              rw (g, x) (n .depth))
-              (λ (x : o ≢ at). let g = getD-set-other depths at o (d + 1) 0 x in rw g (n .known .are o l (λ y. f (g ∙ y))));
-        };
+        known = known-set depths (n .known) at d (n .below) z (n .depth);
         below = rw q (parent-below at (n .below));
         most = omega (arith, n .most);
         depth = rw q (depth-up s at d (n .depth) z);

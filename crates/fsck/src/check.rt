@@ -2,7 +2,7 @@
 ghost use mathlib.Core.Path.{_≡_};
 ghost use Rattle.spec.specs.Image.{objects, names};
 ghost use Rattle.fsck_objects.specs.Told.{Shaped, Told};
-ghost use Rattle.fsck_objects.specs.Objects.{Blank};
+ghost use Rattle.fsck_objects.specs.Objects.{Blank, Inside};
 ghost use Rattle.fsck.specs.Checked.{RestPasses, Checked};
 use crate::shape::Found;
 use crate::shape::shape;
@@ -26,17 +26,37 @@ fn clear_parents(parents: &mut [u8; 64])
     *parents = [0u8; 64];
 }
 
+// The map of 32 ones and then zeros.
+fn inside_map() -> [u8; 64]
+    ensures { λ r. ⌜ Inside r ⌝ }
+{
+    let mut inside = [0u8; 64];
+    let mut i = 0;
+    while i < 32 {
+        inside[i] = 1;
+        i += 1;
+    }
+    inside
+}
+
 // Whether the name records pass, and the tree that they make; makes the map of parents.
-fn names_and_tree(store: &[u8], p: usize, count: usize, parents: &mut [u8; 64]) -> bool
+fn names_and_tree(
+    store: &[u8],
+    inside: &[u8; 64],
+    p: usize,
+    count: usize,
+    parents: &mut [u8; 64],
+) -> bool
     requires { ⌜ Shaped (now store) ⌝ }
     requires { ⌜ p ≡ objects (now store) ⌝ }
     requires { ⌜ count ≡ names (now store) ⌝ }
+    requires { ⌜ Inside (now inside) ⌝ }
     ensures { λ r. ⌜ Told r (now (store .entry)) (RestPasses (now (store .entry)) (now (parents .exit))) ⌝ }
 {
     clear_parents(parents);
     let mut head = [0u8; 256];
     let mut next = [0u8; 128];
-    if !names_pass(store, p, count, parents, &mut head, &mut next) {
+    if !names_pass(store, inside, p, count, parents, &mut head, &mut next) {
         return false;
     }
     let mut depths = [0u8; 64];
@@ -59,10 +79,11 @@ pub fn check_store(store: &[u8], used: &mut [u8; 1024], parents: &mut [u8; 64]) 
         return Found::Bad;
     }
     clear_used(used);
-    if !objects_pass(store, p, r, used) {
+    let inside = inside_map();
+    if !objects_pass(store, &inside, p, r, used) {
         return Found::Bad;
     }
-    if !names_and_tree(store, p, q, parents) {
+    if !names_and_tree(store, &inside, p, q, parents) {
         return Found::Bad;
     }
     Found::Good(counts)

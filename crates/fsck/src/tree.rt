@@ -69,7 +69,13 @@ fn note_steps(
 }
 
 // Whether object o, if it is live, is named, but for the root, and its parents lead to the root.
-fn leads(store: &[u8], p: usize, parents: &[u8; 64], depths: &mut [u8; 64], o: usize) -> bool
+fn leads_by_steps(
+    store: &[u8],
+    p: usize,
+    parents: &[u8; 64],
+    depths: &mut [u8; 64],
+    o: usize,
+) -> bool
     requires { ⌜ Shaped (now store) ⌝ }
     requires { ⌜ p ≡ objects (now store) ⌝ }
     requires { ⌜ NamedBy (now store) (names (now store)) (now parents) ⌝ }
@@ -92,6 +98,26 @@ fn leads(store: &[u8], p: usize, parents: &[u8; 64], depths: &mut [u8; 64], o: u
     }
     note_steps(store, p, parents, depths, o, count);
     true
+}
+
+// The same, at once where the steps of the object's parent are known.
+fn leads(store: &[u8], p: usize, parents: &[u8; 64], depths: &mut [u8; 64], o: usize) -> bool
+    requires { ⌜ Shaped (now store) ⌝ }
+    requires { ⌜ p ≡ objects (now store) ⌝ }
+    requires { ⌜ NamedBy (now store) (names (now store)) (now parents) ⌝ }
+    requires { ⌜ Known (now store) p (now depths) ⌝ }
+    requires { ⌜ o < p ⌝ }
+    ensures { λ r. ⌜ Told r (now (store .entry)) (Leads (now (store .entry)) p o (now (depths .exit))) ⌝ }
+{
+    let mark = index(parents[o]);
+    if mark != 0 {
+        let depth = index(depths[mark - 1]);
+        if depth != 0 && depth <= p {
+            depths[o] = (depth + 1) as u8;
+            return true;
+        }
+    }
+    leads_by_steps(store, p, parents, depths, o)
 }
 
 // Whether every object is named as it must be, and its parents lead to the root. `depths` is zero before.

@@ -1,13 +1,13 @@
 -- The laws of names: their bytes, and the two that no name may be. Assumes nothing.
-use mathlib.Core.Path.{_≡_, refl, sym, ap, _∙_}
-use mathlib.Core.Bool.{Bool, true, false, _&&_, _||_, not}
-use mathlib.Core.List.{List, [], _∷_, _++_}
-use Prim.Native.Nat.{ℕ, zero, suc, _+_, _≤_, _<_}
+use mathlib.Core.Path.{_≡_, refl, sym, _∙_}
+use mathlib.Core.Bool.{Bool, true, false, _&&_, not}
+use mathlib.Core.List.{List, [], _∷_}
+use Prim.Native.Nat.{ℕ, suc, _+_, _≤_, _<_}
 use native.Mathlib.Numerals.{add-one}
 use native.Mathlib.Omega.{arith}
 use lib.Dec.{eqb, leb}
 use lib.ListN.{length, getD, length-take, length-drop}
-use borrow.Author.Tests.{le-leb, lt-leb, eq-eqb, ne-eqb}
+use borrow.Author.Tests.{le-leb, lt-leb}
 use Rattle.spec.specs.Bytes.{part, sameBytes}
 use Rattle.spec.specs.Names.{isDot, isDotDot, isDots, goodByte, goodBytes, goodName}
 use Rattle.spec.proofs.Bytes.{part-cons}
@@ -43,19 +43,6 @@ module _ (b : List ℕ) (at : ℕ) where
 
   pub dots-more : (n : ℕ) → length (part b at n) ≡ n → (n ≡ 1 → ⊥) → (n ≡ 2 → ⊥) → isDots (part b at n) ≡ false
   dots-more n e f g = dots-other (part b at n) (λ q. f (sym e ∙ q)) (λ q. g (sym e ∙ q))
-
--- a byte that a name may have
-pub byte-good : (x : ℕ) → (x ≡ 0 → ⊥) → (x ≡ 0x2F → ⊥) → goodByte x ≡ true
-unfolding goodByte
-byte-good x f g = rw (ne-eqb x 0 f, ne-eqb x 0x2F g)
-
-pub byte-zero : (x : ℕ) → x ≡ 0 → goodByte x ≡ false
-unfolding goodByte
-byte-zero x e = rw e
-
-pub byte-slash : (x : ℕ) → x ≡ 0x2F → goodByte x ≡ false
-unfolding goodByte
-byte-slash x e = rw e
 
 -- a name of 1 to 32 bytes
 pub name-is : (xs : List ℕ) → 1 ≤ length xs → length xs ≤ 32 → goodName xs ≡ goodBytes xs && not (isDots xs)

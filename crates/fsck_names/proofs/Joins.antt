@@ -1,6 +1,6 @@
 -- A name record by itself: its text, its padding, its directory and its child. Assumes nothing.
-use mathlib.Core.Path.{_≡_, refl, sym, _∙_}
-use mathlib.Core.Bool.{Bool, true, false, _&&_, not}
+use mathlib.Core.Path.{_≡_}
+use mathlib.Core.Bool.{true, false, _&&_, not}
 use mathlib.Core.List.{List}
 use Prim.Native.Nat.{ℕ, _+_, _*_, _-_, _≤_, _<_}
 use native.Mathlib.Omega.{arith}
@@ -9,11 +9,11 @@ use lib.ListN.{length}
 use borrow.Author.Tests.{ltb-true, leb-true, eq-eqb, ne-eqb}
 use Rattle.spec.specs.Bytes.{part, beAt}
 use Rattle.spec.specs.Image.{Store, objects, names, nameStart, nameFrom, nameAt, nameLength}
-use Rattle.spec.specs.Names.{longestName, goodBytes, isDots, goodName}
+use Rattle.spec.specs.Names.{goodBytes, isDots, goodName}
 use Rattle.spec.specs.Room.{isDirectory, isLive, isUsedName}
 use Rattle.spec.specs.Check.{isZero, goodUsed, goodNameRecord}
 use Rattle.spec.proofs.Bytes.{lt-or-le}
-use Rattle.spec.proofs.Count.{true-false, and-both}
+use Rattle.spec.proofs.Count.{and-both}
 use Rattle.fsck_names.proofs.Dots.{part-long}
 use mathlib.Core.Logic.{⊎-elim}
 use Rattle.fsck_objects.specs.Told.{Shaped}
@@ -77,3 +77,8 @@ used-yes s n h = rw (ne-eqb (nameLength s n) 0 h)
 pub used-no : (s : Store) (n : ℕ) → nameLength s n ≡ 0 → isUsedName s n ≡ false
 unfolding isUsedName
 used-no s n h = rw (eq-eqb (nameLength s n) 0 h)
+
+-- where the length of a record stands
+pub length-at : (s : Store) (p n at : ℕ) → p ≡ objects s → at ≡ 16 + 80 * p + 44 * n → nameLength s n ≡ beAt s (at + 8) 4
+unfolding nameLength
+length-at s p n at e f = rw (f, e)

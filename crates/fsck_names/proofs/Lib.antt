@@ -1,4 +1,5 @@
 pub mod Dots
+pub mod Padded
 pub mod Joins
 pub mod Same
 pub mod Chained

@@ -3,7 +3,7 @@ ghost use mathlib.Core.Path.{_≡_};
 ghost use Prim.Native.Nat.{_+_, _<_};
 ghost use Rattle.spec.specs.Image.{objects, names};
 ghost use Rattle.fsck_objects.specs.Told.{Shaped, Told};
-ghost use Rattle.fsck_objects.specs.Objects.{Blank};
+ghost use Rattle.fsck_objects.specs.Objects.{Blank, Inside};
 ghost use Rattle.fsck_names.specs.Names.{NamesPass};
 use crate::distinct::hash_of;
 use crate::distinct::is_new;
@@ -15,6 +15,7 @@ use crate::record::record_passes;
 // Whether name record n passes, and those before it.
 fn name_passes(
     store: &[u8],
+    inside: &[u8; 64],
     p: usize,
     n: usize,
     parents: &mut [u8; 64],
@@ -25,10 +26,11 @@ fn name_passes(
     requires { ⌜ p ≡ objects (now store) ⌝ }
     requires { ⌜ n < names (now store) ⌝ }
     requires { ⌜ NamesPass (now store) n (now parents) (now head) (now next) ⌝ }
+    requires { ⌜ Inside (now inside) ⌝ }
     ensures { λ r. ⌜ Told r (now (store .entry)) (NamesPass (now (store .entry)) (n + 1) (now (parents .exit)) (now (head .exit)) (now (next .exit))) ⌝ }
 {
     let len = length_of(store, p, n);
-    if !record_passes(store, p, n, len) {
+    if !record_passes(store, inside, p, n, len) {
         return false;
     }
     if len == 0 {
@@ -48,6 +50,7 @@ fn name_passes(
 // Whether every name record passes; makes the map of parents, which is zero before, as the other two maps are.
 pub fn names_pass(
     store: &[u8],
+    inside: &[u8; 64],
     p: usize,
     count: usize,
     parents: &mut [u8; 64],
@@ -60,11 +63,12 @@ pub fn names_pass(
     requires { ⌜ Blank 64 (now parents) ⌝ }
     requires { ⌜ Blank 256 (now head) ⌝ }
     requires { ⌜ Blank 128 (now next) ⌝ }
+    requires { ⌜ Inside (now inside) ⌝ }
     ensures { λ r. ⌜ Told r (now (store .entry)) (NamesPass (now (store .entry)) count (now (parents .exit)) (now (head .exit)) (now (next .exit))) ⌝ }
 {
     let mut n = 0;
     while n < count {
-        if !name_passes(store, p, n, parents, head, next) {
+        if !name_passes(store, inside, p, n, parents, head, next) {
             return false;
         }
         n += 1;

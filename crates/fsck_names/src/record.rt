@@ -2,12 +2,14 @@
 ghost use mathlib.Core.Path.{_≡_};
 ghost use Prim.Native.Nat.{_+_, _*_, _≤_, _<_};
 ghost use lib.ListN.{length};
-ghost use Rattle.spec.specs.Image.{objects, names, objectStart, nameStart, nameAt, nameLength};
+ghost use Rattle.spec.specs.Image.{objects, names, nameAt, nameLength};
 ghost use Rattle.spec.specs.Room.{isDirectory, isLive};
-ghost use Rattle.spec.specs.Check.{goodUsed, goodNameRecord};
+ghost use Rattle.spec.specs.Bytes.{part, beAt};
+ghost use Rattle.spec.specs.Check.{isZero, goodUsed, goodNameRecord};
 ghost use Rattle.fsck_objects.specs.Told.{Shaped};
+ghost use Rattle.fsck_objects.specs.Objects.{Inside};
 ghost use Rattle.fsck_names.specs.Record.{isDirectoryIn, isLiveIn};
-use crate::text::good_name;
+use crate::text::good_text;
 use fsck_objects::object::kind_of;
 use fsck_objects::zero::is_zero;
 use kinds::numbers::Kind;
@@ -41,22 +43,20 @@ fn is_live(store: &[u8], p: usize, o: usize) -> bool
 }
 
 // Whether name record n, of a length other than 0, passes by itself.
-fn good_used(store: &[u8], p: usize, n: usize, len: usize) -> bool
+fn good_used(store: &[u8], inside: &[u8; 64], p: usize, n: usize, len: usize) -> bool
     requires { ⌜ Shaped (now store) ⌝ }
     requires { ⌜ p ≡ objects (now store) ⌝ }
     requires { ⌜ n < names (now store) ⌝ }
     requires { ⌜ len ≡ nameLength (now store) n ⌝ }
     requires { ⌜ 1 ≤ len ⌝ }
+    requires { ⌜ Inside (now inside) ⌝ }
     ensures { λ r. ⌜ r ≡ goodUsed (now (store .entry)) n ⌝ }
 {
     let at = name_start(p, n);
     if len > Limit::NAME {
         return false;
     }
-    if !good_name(store, at + 12, len) {
-        return false;
-    }
-    if !is_zero(store, at + 12 + len, Limit::NAME - len) {
+    if !good_text(store, inside, at + 12, len) {
         return false;
     }
     if !is_directory(store, p, wire::get_u32(store, at) as usize) {
@@ -95,16 +95,32 @@ pub fn child_of(store: &[u8], p: usize, n: usize) -> usize
     wire::get_u32(store, name_start(p, n) + 4) as usize
 }
 
+// Whether the name record from `at`, whose length is 0, is zero.
+fn is_free(store: &[u8], at: usize) -> bool
+    requires { ⌜ at + 44 ≤ length (now store) ⌝ }
+    requires { ⌜ beAt (now store) (at + 8) 4 ≡ 0 ⌝ }
+    ensures { λ r. ⌜ r ≡ isZero (part (now (store .entry)) at 44) ⌝ }
+{
+    if wire::get_u32(store, at) != 0 {
+        return false;
+    }
+    if wire::get_u32(store, at + 4) != 0 {
+        return false;
+    }
+    is_zero(store, at + 12, Limit::NAME)
+}
+
 // Whether name record n, which states the length `len`, passes by itself.
-pub fn record_passes(store: &[u8], p: usize, n: usize, len: usize) -> bool
+pub fn record_passes(store: &[u8], inside: &[u8; 64], p: usize, n: usize, len: usize) -> bool
     requires { ⌜ Shaped (now store) ⌝ }
     requires { ⌜ p ≡ objects (now store) ⌝ }
     requires { ⌜ n < names (now store) ⌝ }
     requires { ⌜ len ≡ nameLength (now store) n ⌝ }
+    requires { ⌜ Inside (now inside) ⌝ }
     ensures { λ r. ⌜ r ≡ goodNameRecord (now (store .entry)) n ⌝ }
 {
     if len == 0 {
-        return is_zero(store, name_start(p, n), Limit::NAME_BYTES);
+        return is_free(store, name_start(p, n));
     }
-    good_used(store, p, n, len)
+    good_used(store, inside, p, n, len)
 }

@@ -1,27 +1,30 @@
 // The bytes of a name.
 ghost use mathlib.Core.Path.{_≡_};
-ghost use Prim.Native.Nat.{_+_, _≤_};
+ghost use mathlib.Core.Bool.{_&&_};
+ghost use Prim.Native.Nat.{_+_, _-_, _≤_};
 ghost use lib.ListN.{length};
 ghost use Rattle.spec.specs.Bytes.{part};
+ghost use Rattle.spec.specs.Check.{isZero};
 ghost use Rattle.spec.specs.Names.{goodBytes, isDots, goodName};
+ghost use Rattle.fsck_objects.specs.Objects.{Inside};
 
-// Whether none of the n bytes from `at` is 0 or 0x2F.
-fn good_bytes(s: &[u8], at: usize, n: usize) -> bool
-    requires { ⌜ at + n ≤ length (now s) ⌝ }
-    ensures { λ r. ⌜ r ≡ goodBytes (part (now (s .entry)) at n) ⌝ }
+// Whether of the 32 bytes from `at` the first n are none of 0 and 0x2F, and the others 0. Reads them all, many at a time: no byte ends the
+// loop.
+fn text_passes(s: &[u8], inside: &[u8; 64], at: usize, n: usize) -> bool
+    requires { ⌜ at + 32 ≤ length (now s) ⌝ }
+    requires { ⌜ n ≤ 32 ⌝ }
+    requires { ⌜ Inside (now inside) ⌝ }
+    ensures { λ r. ⌜ r ≡ goodBytes (part (now (s .entry)) at n) && isZero (part (now (s .entry)) (at + n) (32 - n)) ⌝ }
 {
+    let from = 32 - n;
+    let mut other = false;
     let mut i = 0;
-    while i < n {
+    while i < 32 {
         let x = s[at + i];
-        if x == 0 {
-            return false;
-        }
-        if x == 0x2F {
-            return false;
-        }
+        other = other | (x == 0x2F) | ((x == 0) == (inside[from + i] != 0));
         i += 1;
     }
-    true
+    !other
 }
 
 // Whether the n bytes from `at` are "." or "..".
@@ -38,14 +41,15 @@ fn is_dots(s: &[u8], at: usize, n: usize) -> bool
     false
 }
 
-// Whether the n bytes from `at` are a name, where n is 1 to 32.
-pub fn good_name(s: &[u8], at: usize, n: usize) -> bool
-    requires { ⌜ at + n ≤ length (now s) ⌝ }
+// Whether the n bytes from `at` are a name, where n is 1 to 32, and the others of 32 are 0.
+pub fn good_text(s: &[u8], inside: &[u8; 64], at: usize, n: usize) -> bool
+    requires { ⌜ at + 32 ≤ length (now s) ⌝ }
     requires { ⌜ 1 ≤ n ⌝ }
     requires { ⌜ n ≤ 32 ⌝ }
-    ensures { λ r. ⌜ r ≡ goodName (part (now (s .entry)) at n) ⌝ }
+    requires { ⌜ Inside (now inside) ⌝ }
+    ensures { λ r. ⌜ r ≡ goodName (part (now (s .entry)) at n) && isZero (part (now (s .entry)) (at + n) (32 - n)) ⌝ }
 {
-    if !good_bytes(s, at, n) {
+    if !text_passes(s, inside, at, n) {
         return false;
     }
     !is_dots(s, at, n)

@@ -1,30 +1,31 @@
 -- The laws of the map of used blocks. Assumes nothing.
 use mathlib.Core.Path.{_≡_, refl, sym, ap, _∙_}
-use mathlib.Core.Logic.{_≢_, by-cases}
-use mathlib.Core.Bool.{Bool, true, false, _&&_, cond, and-false}
-use mathlib.Core.List.{List, [], _∷_, _++_}
-use Prim.Native.Nat.{ℕ, zero, suc, _+_, _-_, _≤_, _<_}
+use mathlib.Core.Logic.{_≢_, by-cases, ⊎-elim}
+use mathlib.Core.Bool.{Bool, true, false, _&&_, _||_, not, cond, and-false, or-true}
+use mathlib.Core.List.{List, [], _∷_}
+use Prim.Native.Nat.{ℕ, zero, suc, _+_, _*_, _-_, _/_, _%_, _≤_, _<_}
+use native.Mathlib.Nat.{not-suc-le-zero, add-zero, add-suc}
 use native.Mathlib.Decide.{ℕ-discrete, le-ind}
 use native.Mathlib.Numerals.{add-one}
 use native.Mathlib.Omega.{arith}
 use lib.Dec.{eqb, ltb, leb}
 use lib.ListN.{length, take, getD, set, length-set}
 use lib.Seq.{take-suc, getD-set-same, getD-set-other}
-use borrow.Author.Tests.{lt-ltb, le-ltb, lt-leb, le-leb, eq-eqb, ne-eqb}
+use borrow.Author.Tests.{ltb-true, ltb-false, lt-ltb, le-ltb, le-leb, leb-true, eq-eqb, ne-eqb, eqb-true}
 use Rattle.kinds.specs.declared.object.Object.{Object}
-use Rattle.spec.specs.Bytes.{part, beAt}
 use Rattle.spec.specs.Count.{bit, sum, every, times}
 use Rattle.spec.specs.Image.{Store, objectLength, objects, blocks, objectStart, objectFrom, objectAt}
-use Rattle.spec.specs.Room.{need, isLive, sizeOf, held, uses}
-use Rattle.spec.specs.Check.{isZero, goodBlock, goodFree, goodLive, goodObject, isUsedOnce, passes}
-use Rattle.spec.proofs.Count.{sum-more, times-append, every-more, every-fails, every-all}
-use Rattle.spec.proofs.Records.{halves-count}
+use Rattle.spec.specs.Room.{need, sizeOf, held, uses}
+use Rattle.spec.specs.Check.{goodBlock, goodFree, goodLive, goodObject, isUsedOnce, passes}
+use Rattle.spec.proofs.Bytes.{lt-or-le, be-2}
+use Rattle.spec.proofs.Count.{true-false, by-bool, and-both, sum-ext, sum-add, sum-zero, sum-more, times-append, every-more, every-fails, every-at, every-all}
+use Rattle.spec.proofs.Records.{halves-count, half-read}
 use Rattle.fsck_objects.specs.Told.{Shaped}
-use Rattle.fsck_objects.specs.Objects.{goodFields, LiveAt, usesBelow, Blank, UsedBy, MarkedTo}
+use Rattle.fsck_objects.specs.Objects.{goodFields, isUnused, markFor, LiveAt, usesBelow, Blank, UsedBy, MarkedBy, MarkedTo, Inside, AreMarks}
 use Rattle.fsck_objects.proofs.Zeros.{zero-within, zero-be}
-use Rattle.fsck_objects.proofs.Passes.{fails-object, fails-used}
+use Rattle.fsck_objects.proofs.Passes.{or-false, fails, fails-object}
 
--- ---- sums and counts grow
+-- ---- sums and counts
 pub sum-grows : (f : ℕ → ℕ) (n m : ℕ) → n ≤ m → sum n f ≤ sum m f
 unfolding sum
 sum-grows f n m h = le-ind (λ (k : ℕ). sum n f ≤ sum k f) (omega arith) (λ k l q. omega arith) m h
@@ -37,11 +38,54 @@ times-one r x = omega arith
 times-next : (xs : List ℕ) (r k : ℕ) → k < length xs → times r (take (k + 1) xs) ≡ times r (take k xs) + bit (eqb (getD xs k 0) r)
 times-next xs r k h = rw (add-one, take-suc xs k 0 h, times-append, times-one)
 
-times-grows : (xs : List ℕ) (r k m : ℕ) → k ≤ m → m ≤ length xs → times r (take k xs) ≤ times r (take m xs)
-times-grows xs r k m h l =
-    le-ind (λ (j : ℕ). j ≤ length xs → times r (take k xs) ≤ times r (take j xs)) (λ q. omega arith)
-    (λ j g ih (q : suc j ≤ length xs). let a = ih (omega arith) in let b = times-next xs r j q in omega (arith, rw add-one at b))
-    m h l
+-- a number below n is equal to one number below n
+sum-one : (x n : ℕ) → x < n → sum n (λ r. bit (eqb x r)) ≡ 1
+unfolding sum
+sum-one x zero h = absurd (not-suc-le-zero h)
+sum-one x (suc n) h =
+    by-cases (ℕ-discrete x n)
+    (λ (e : x ≡ n). let a = sum-zero n (λ r. bit (eqb x r)) (λ i l. ap bit (ne-eqb x i (λ q. absurd (omega arith)))) in
+    let b = ap bit (eq-eqb x n e) in omega arith)
+    (λ (d : x ≢ n). let a = sum-one x n (omega arith) in let b = ap bit (ne-eqb x n d) in omega arith)
+
+-- where each term is at most another, and the sums are the same, so are the terms
+sum-below : (n : ℕ) (f g : ℕ → ℕ) → ((i : ℕ) → i < n → f i ≤ g i) → sum n f ≤ sum n g
+unfolding sum
+sum-below zero f g h = omega arith
+sum-below (suc n) f g h = let a = sum-below n f g (λ i l. h i (omega arith)) in let b = h n (omega arith) in omega arith
+
+sum-same : (n : ℕ) (f g : ℕ → ℕ) → ((i : ℕ) → i < n → f i ≤ g i) → sum n f ≡ sum n g → (i : ℕ) → i < n → f i ≡ g i
+unfolding sum
+sum-same zero f g h e i l = absurd (not-suc-le-zero l)
+sum-same (suc n) f g h e i l =
+    let a = sum-below n f g (λ j q. h j (omega arith)) in
+    let b = h n (omega arith) in
+    by-cases (ℕ-discrete i n)
+    (λ (w : i ≡ n). let q : f n ≡ g n = omega arith in rw w q)
+    (λ (d : i ≢ n). sum-same n f g (λ j q. h j (omega arith)) (omega arith) i (omega arith))
+
+-- a sum in two parts
+pub sum-split : (m n : ℕ) (f : ℕ → ℕ) → sum (m + n) f ≡ sum m f + sum n (λ i. f (m + i))
+unfolding sum
+sum-split m zero f = rw add-zero (omega arith)
+sum-split m (suc n) f = rw add-suc (let r = sum-split m n f in omega arith)
+
+-- ---- marks
+mark-one : (n : ℕ) → 1 ≤ n → markFor n ≡ 1
+mark-one zero h = absurd (not-suc-le-zero h)
+mark-one (suc n) h = refl
+
+mark-most : (n : ℕ) → markFor n ≤ n
+mark-most zero = omega arith
+mark-most (suc n) = omega arith
+
+mark-small : (n : ℕ) → markFor n ≤ 1
+mark-small zero = omega arith
+mark-small (suc n) = omega arith
+
+mark-same : (n : ℕ) → n ≤ 1 → markFor n ≡ n
+mark-same zero h = refl
+mark-same (suc n) h = omega arith
 
 -- ---- an object has 16 block numbers
 pub blocks-length : (s : Store) (o : ℕ) → length (objectAt s o .blocks) ≡ 16
@@ -52,23 +96,23 @@ held-is : (s : Store) (o : ℕ) → held s o ≡ take (need (objectAt s o .size)
 unfolding held sizeOf
 held-is s o = refl
 
-take-none : (xs : List ℕ) → take 0 xs ≡ []
-take-none xs = refl
-
 times-none : (r : ℕ) → times r [] ≡ 0
 unfolding times
 times-none r = refl
 
 -- ---- the map before, during and after an object's blocks
-pub mark-start : (s : Store) (o : ℕ) (used : List ℕ) → UsedBy s o used → MarkedTo s o 0 used
+pub mark-start : (s : Store) (o : ℕ) (used : List ℕ) → MarkedBy s o used → MarkedTo s o 0 used
 unfolding every
 mark-start s o used m =
-    record { long = m .long; uses = λ r h. let a = m .uses r h in let b = times-none r in omega arith; once = m .once; good = refl }
+    record {
+      long = m .long;
+      marks = λ r h. let b = times-none r in
+          let e : usesBelow s o r ≡ usesBelow s o r + times r (take 0 (objectAt s o .blocks)) = omega arith in m .marks r h ∙ ap markFor e;
+      places = sum-zero (blocks s) (λ r. times r []) (λ r h. times-none r);
+      good = refl;
+    }
 
-module _ (s : Store) (o count k : ℕ) (used : List ℕ) (t : Shaped s) (a : LiveAt s o count) (m : MarkedTo s o k used) (h : k < count) where
-  xs : List ℕ
-  xs = objectAt s o .blocks
-
+module _ (s : Store) (o count k : ℕ) (t : Shaped s) (a : LiveAt s o count) (h : k < count) where
   short : k < length (objectAt s o .blocks)
   short = rw blocks-length (omega (arith, a .most))
 
@@ -76,41 +120,33 @@ module _ (s : Store) (o count k : ℕ) (used : List ℕ) (t : Shaped s) (a : Liv
   unfolding goodBlock
   good-now l = rw (lt-ltb k (need (objectAt s o .size)) (omega (arith, a .needs)), lt-ltb _ _ l)
 
-  pub mark-more : (b : ℕ) → b ≡ getD (objectAt s o .blocks) k 0 → b < blocks s → getD used b 0 ≡ 0
+  places-more : getD (objectAt s o .blocks) k 0 < blocks s → sum (blocks s) (λ r. times r (take (k + 1) (objectAt s o .blocks)))
+      ≡ sum (blocks s) (λ r. times r (take k (objectAt s o .blocks))) + 1
+  places-more l =
+      let x = getD (objectAt s o .blocks) k 0 in
+      let e = sum-ext (blocks s) (λ r. times r (take (k + 1) (objectAt s o .blocks))) (λ r. times r (take k (objectAt s o .blocks)) + bit (eqb x r)) (λ r q. times-next (objectAt s o .blocks) r k short) in
+      let f = sum-add (blocks s) (λ r. times r (take k (objectAt s o .blocks))) (λ r. bit (eqb x r)) in
+      let g = sum-one x (blocks s) l in
+      omega arith
+
+  pub mark-more : (used : List ℕ) (m : MarkedTo s o k used) (b : ℕ) → b ≡ getD (objectAt s o .blocks) k 0 → b < blocks s
       → MarkedTo s o (k + 1) (set used b 1)
-  mark-more b e l z =
+  mark-more used m b e l =
       let i : b < length used = omega (arith, m .long, t .few-blocks) in
       record {
         long = simp length-set (m .long);
-        uses = λ r q. by-cases (ℕ-discrete r b)
-            (λ (w : r ≡ b). let u = m .uses b l in
-            let n = times-next (objectAt s o .blocks) b k short in
+        marks = λ r q. by-cases (ℕ-discrete r b)
+            (λ (w : r ≡ b). let n = times-next (objectAt s o .blocks) b k short in
             let g = ap bit (eq-eqb (getD (objectAt s o .blocks) k 0) b (sym e)) in
-            let f = getD-set-same used b 1 0 i in
-            rw w (omega arith))
-            (λ (w : r ≢ b). let u = m .uses r q in
-            let n = times-next (objectAt s o .blocks) r k short in
+            let z : 1 ≤ usesBelow s o b + times b (take (k + 1) (objectAt s o .blocks)) = omega arith in
+            rw w (getD-set-same used b 1 0 i ∙ sym (mark-one _ z)))
+            (λ (w : r ≢ b). let n = times-next (objectAt s o .blocks) r k short in
             let g = ap bit (ne-eqb (getD (objectAt s o .blocks) k 0) r (λ x. w (sym (e ∙ x)))) in
-            let f = getD-set-other used b r 1 0 w in
-            omega arith);
-        once = λ r q. by-cases (ℕ-discrete r b)
-            (λ (w : r ≡ b). let f = getD-set-same used b 1 0 i in rw w (omega arith))
-            (λ (w : r ≢ b). let f = getD-set-other used b r 1 0 w in let u = m .once r q in omega arith);
+            let z : usesBelow s o r + times r (take k (objectAt s o .blocks)) ≡ usesBelow s o r + times r (take (k + 1) (objectAt s o .blocks)) = omega arith in
+            getD-set-other used b r 1 0 w ∙ m .marks r q ∙ ap markFor z);
+        places = let p = places-more (rw e at l) in omega (arith, m .places);
         good = every-more (goodBlock (blocks s) (objectAt s o)) k (m .good) (good-now (rw e at l));
       }
-
-  -- a block that is marked already is used twice
-  pub mark-twice : (b : ℕ) → b ≡ getD (objectAt s o .blocks) k 0 → b < blocks s → getD used b 0 ≢ 0 → passes s ≡ false
-  unfolding isUsedOnce uses
-  mark-twice b e l z =
-      let u = m .uses b l in
-      let n = times-next (objectAt s o .blocks) b k short in
-      let g = ap bit (eq-eqb (getD (objectAt s o .blocks) k 0) b (sym e)) in
-      let w = times-grows (objectAt s o .blocks) b (k + 1) count (omega arith) (rw blocks-length (a .most)) in
-      let d = sum-grows (λ i. times b (held s i)) (o + 1) (objects s) (omega (arith, a .below)) in
-      let f = sum-more o (λ i. times b (held s i)) in
-      let v : times b (held s o) ≡ times b (take count (objectAt s o .blocks)) = rw (held-is s o, a .needs) in
-      fails-used s b l (lt-leb (sum (objects s) (λ i. times b (held s i))) 1 (omega arith))
 
   -- a block out of range
   pub mark-out : blocks s ≤ getD (objectAt s o .blocks) k 0 → passes s ≡ false
@@ -119,17 +155,62 @@ module _ (s : Store) (o count k : ℕ) (used : List ℕ) (t : Shaped s) (a : Liv
       let g : goodBlock (blocks s) (objectAt s o) k ≡ false = rw (lt-ltb k (need (objectAt s o .size)) (omega (arith, a .needs)), le-ltb _ _ l) in
       fails-object s o (a .below) (rw (a .live, every-fails (goodBlock (blocks s) (objectAt s o)) k 16 g (omega (arith, a .most))) (and-false (goodFields (objectAt s o))))
 
+-- four numbers are below a bound
+pub record InRange (l x y z w : ℕ) : Type 0 where
+  pub first : x < l
+  pub second : y < l
+  pub third : z < l
+  pub fourth : w < l
+
+pub in-all : (l x y z w : ℕ) → (ltb x l && ltb y l) && (ltb z l && ltb w l) ≡ true → InRange l x y z w
+in-all l x y z w e =
+    let a = and-both (ltb x l && ltb y l) (ltb z l && ltb w l) e in
+    let b = and-both (ltb x l) (ltb y l) (a .0) in
+    let d = and-both (ltb z l) (ltb w l) (a .1) in
+    record { first = ltb-true x l (b .0); second = ltb-true y l (b .1); third = ltb-true z l (d .0); fourth = ltb-true w l (d .1) }
+
+-- four blocks at once
+module _ (s : Store) (o count k : ℕ) (t : Shaped s) (a : LiveAt s o count) (h : k + 4 ≤ count) (l : ℕ) (q : l ≡ blocks s) (x y z w : ℕ)
+    (ex : x ≡ getD (objectAt s o .blocks) k 0) (ey : y ≡ getD (objectAt s o .blocks) (k + 1) 0) (ez : z ≡ getD (objectAt s o .blocks) (k + 2) 0)
+    (ew : w ≡ getD (objectAt s o .blocks) (k + 3) 0) where
+  pub mark-four : (used : List ℕ) → MarkedTo s o k used → InRange l x y z w → MarkedTo s o (k + 4) (set (set (set (set used x 1) y 1) z 1) w 1)
+  mark-four used m r =
+      let two : k + 1 + 1 ≡ k + 2 = omega arith in
+      let three : k + 2 + 1 ≡ k + 3 = omega arith in
+      let four : k + 3 + 1 ≡ k + 4 = omega arith in
+      let m1 = mark-more s o count k t a (omega arith) used m x ex (omega (arith, r .first)) in
+      let m2 = rw two at (mark-more s o count (k + 1) t a (omega arith) (set used x 1) m1 y ey (omega (arith, r .second))) in
+      let m3 = rw three at (mark-more s o count (k + 2) t a (omega arith) (set (set used x 1) y 1) m2 z ez (omega (arith, r .third))) in
+      rw four at (mark-more s o count (k + 3) t a (omega arith) (set (set (set used x 1) y 1) z 1) m3 w ew (omega (arith, r .fourth)))
+
+  pub mark-four-out : (ltb x l && ltb y l) && (ltb z l && ltb w l) ≡ false → passes s ≡ false
+  mark-four-out e =
+      by-bool (ltb x l)
+      (λ bx. by-bool (ltb y l)
+      (λ by. by-bool (ltb z l)
+      (λ bz. by-bool (ltb w l) (λ bw. true-false (sym (rw (bx, by, bz, bw)) ∙ e))
+      (λ bw. mark-out s o count (k + 3) t a (omega arith) (omega (arith, ltb-false w l bw))))
+      (λ bz. mark-out s o count (k + 2) t a (omega arith) (omega (arith, ltb-false z l bz))))
+      (λ by. mark-out s o count (k + 1) t a (omega arith) (omega (arith, ltb-false y l by))))
+      (λ bx. mark-out s o count k t a (omega arith) (omega (arith, ltb-false x l bx)))
+
+-- the blocks of a live object
+held-count : (s : Store) (o count : ℕ) → LiveAt s o count → held s o ≡ take count (objectAt s o .blocks)
+held-count s o count a = rw (held-is s o, a .needs)
+
+pub places-end : (s : Store) (o count : ℕ) (used : List ℕ) → LiveAt s o count → MarkedTo s o count used → sum (blocks s) (λ r. times r (held s o)) ≡ count
+places-end s o count used a m = ap (λ (xs : List ℕ). sum (blocks s) (λ r. times r xs)) (held-count s o count a) ∙ m .places
+
 -- the map after the object
-pub mark-end : (s : Store) (o count : ℕ) (used : List ℕ) → LiveAt s o count → MarkedTo s o count used → UsedBy s (o + 1) used
+pub mark-end : (s : Store) (o count : ℕ) (used : List ℕ) → LiveAt s o count → MarkedTo s o count used → MarkedBy s (o + 1) used
 mark-end s o count used a m =
     record {
       long = m .long;
-      uses = λ r h.
-          let u = m .uses r h in
+      marks = λ r h.
           let f = sum-more o (λ i. times r (held s i)) in
-          let v : times r (held s o) ≡ times r (take count (objectAt s o .blocks)) = rw (held-is s o, a .needs) in
-          omega arith;
-      once = m .once;
+          let v = ap (times r) (held-count s o count a) in
+          let e : usesBelow s o r + times r (take count (objectAt s o .blocks)) ≡ usesBelow s (o + 1) r = omega arith in
+          m .marks r h ∙ ap markFor e;
     }
 
 -- a free object holds no block
@@ -139,22 +220,74 @@ free-size s o e =
     let q : objectStart o + 20 ≡ objectStart o + 8 + 12 = omega arith in
     rw q (zero-be s (objectStart o + 8 + 12) 4 (zero-within s (objectStart o + 8) (objectLength - 8) 12 4 (omega arith) e))
 
-pub mark-free : (s : Store) (o : ℕ) (used : List ℕ) → goodFree s o ≡ true → UsedBy s o used → UsedBy s (o + 1) used
+free-held : (s : Store) (o : ℕ) → goodFree s o ≡ true → held s o ≡ []
+free-held s o e = rw (held-is s o, free-size s o e)
+
+pub places-free : (s : Store) (o : ℕ) → goodFree s o ≡ true → sum (blocks s) (λ r. times r (held s o)) ≡ 0
+places-free s o e = sum-zero (blocks s) (λ r. times r (held s o)) (λ r h. ap (times r) (free-held s o e) ∙ times-none r)
+
+pub mark-free : (s : Store) (o : ℕ) (used : List ℕ) → goodFree s o ≡ true → MarkedBy s o used → MarkedBy s (o + 1) used
 mark-free s o used e m =
     record {
       long = m .long;
-      uses = λ r h.
-          let u = m .uses r h in
+      marks = λ r h.
           let f = sum-more o (λ i. times r (held s i)) in
-          let v : times r (held s o) ≡ 0 = rw (held-is s o, free-size s o e) (times-none r) in
-          omega arith;
-      once = m .once;
+          let v = ap (times r) (free-held s o e) ∙ times-none r in
+          let q : usesBelow s o r ≡ usesBelow s (o + 1) r = omega arith in
+          m .marks r h ∙ ap markFor q;
     }
 
 -- the map before the first object
-pub mark-none : (s : Store) (used : List ℕ) → Blank 1024 used → UsedBy s 0 used
+pub mark-none : (s : Store) (used : List ℕ) → Blank 1024 used → MarkedBy s 0 used
 unfolding sum
-mark-none s used z = record { long = z .long; uses = λ r h. z .zero r; once = λ r h. let e = z .zero r in omega arith }
+mark-none s used z = record { long = z .long; marks = λ r h. z .zero r }
+
+-- ---- the places of the objects below o in all
+pub placesBelow : Store → ℕ → ℕ
+placesBelow s o = sum (blocks s) (usesBelow s o)
+
+pub places-none : (s : Store) → placesBelow s 0 ≡ 0
+unfolding placesBelow sum
+places-none s = sum-zero (blocks s) (λ r. 0) (λ r h. refl)
+
+pub places-next : (s : Store) (o n : ℕ) → sum (blocks s) (λ r. times r (held s o)) ≡ n → placesBelow s (o + 1) ≡ placesBelow s o + n
+unfolding placesBelow
+places-next s o n e =
+    let f = sum-ext (blocks s) (usesBelow s (o + 1)) (λ r. times r (held s o) + usesBelow s o r) (λ r h. sum-more o (λ i. times r (held s i))) in
+    let g = sum-add (blocks s) (λ r. times r (held s o)) (usesBelow s o) in
+    omega arith
+
+-- as many blocks are marked as there are places: no block is used twice
+pub marks-all : (s : Store) (used : List ℕ) → MarkedBy s (objects s) used → placesBelow s (objects s) ≡ sum (blocks s) (λ r. getD used r 0)
+    → UsedBy s (objects s) used
+unfolding placesBelow
+marks-all s used m e =
+    let f = sum-same (blocks s) (λ r. getD used r 0) (usesBelow s (objects s)) (λ r h. let a = m .marks r h in let b = mark-most (usesBelow s (objects s) r) in omega arith) (sym e) in
+    record { long = m .long; uses = f; once = λ r h. let a = m .marks r h in let b = mark-small (usesBelow s (objects s) r) in omega arith }
+
+-- fewer: one is
+pub marks-few : (s : Store) (used : List ℕ) → MarkedBy s (objects s) used → (placesBelow s (objects s) ≡ sum (blocks s) (λ r. getD used r 0) → ⊥)
+    → passes s ≡ false
+unfolding placesBelow isUsedOnce uses
+marks-few s used m f =
+    fails s (λ d. f (sum-ext (blocks s) (usesBelow s (objects s)) (λ r. getD used r 0) (λ r h.
+    let l = leb-true (usesBelow s (objects s) r) 1 (every-at (isUsedOnce s) (blocks s) r (d .used) h) in
+    sym (m .marks r h ∙ mark-same (usesBelow s (objects s) r) l))))
+
+-- the map holds marks
+pub marks-are : (s : Store) (o : ℕ) (used : List ℕ) (limit : ℕ) → MarkedBy s o used → limit ≡ blocks s → AreMarks used 0 limit
+marks-are s o used limit m e =
+    record {
+      most = λ i h.
+          let q : 0 + i ≡ i = omega arith in
+          let a = m .marks i (omega arith) in
+          let b = mark-small (usesBelow s o i) in
+          rw q (omega arith);
+    }
+
+-- a part of the marks
+pub marks-from : {map : List ℕ} {limit : ℕ} → AreMarks map 0 limit → (from n : ℕ) → from + n ≤ limit → AreMarks map from n
+marks-from m from n h = record { most = λ i l. let e : 0 + (from + i) ≡ from + i = omega arith in rw e at (m .most (from + i) (omega arith)) }
 
 -- no block is used twice where the map is that of all objects
 pub used-once : (s : Store) (used : List ℕ) → UsedBy s (objects s) used → every (blocks s) (isUsedOnce s) ≡ true
@@ -164,10 +297,70 @@ used-once s used m =
 
 -- ---- the block numbers past those that the size needs
 module _ (s : Store) (o k : ℕ) (h : need (objectAt s o .size) ≤ k) where
-  pub unused-good : getD (objectAt s o .blocks) k 0 ≡ 65535 → goodBlock (blocks s) (objectAt s o) k ≡ true
+  unused-good : getD (objectAt s o .blocks) k 0 ≡ 65535 → goodBlock (blocks s) (objectAt s o) k ≡ true
   unfolding goodBlock
   unused-good e = rw (le-ltb k (need (objectAt s o .size)) h, eq-eqb (getD (objectAt s o .blocks) k 0) 65535 e)
 
-  pub unused-bad : (getD (objectAt s o .blocks) k 0 ≡ 65535 → ⊥) → goodBlock (blocks s) (objectAt s o) k ≡ false
+  unused-is : goodBlock (blocks s) (objectAt s o) k ≡ true → getD (objectAt s o .blocks) k 0 ≡ 65535
   unfolding goodBlock
-  unused-bad e = rw (le-ltb k (need (objectAt s o .size)) h, ne-eqb (getD (objectAt s o .blocks) k 0) 65535 e)
+  unused-is e = eqb-true (getD (objectAt s o .blocks) k 0) 65535 (rw (le-ltb k (need (objectAt s o .size)) h) at e)
+
+-- byte i of 32 is past the first n, as the map tells
+pub outside : (inside : List ℕ) → Inside inside → (n i : ℕ) → n ≤ 32 → i < 32 → eqb (getD inside (32 - n + i) 0) 0 ≡ not (ltb i n)
+outside inside v n i h l =
+    ⊎-elim (λ (q : i < n). rw (lt-ltb i n q, v .ones (32 - n + i) (omega arith))) (λ (q : n ≤ i). rw (le-ltb i n q, v .zeros (32 - n + i) (omega arith)))
+    (lt-or-le i n)
+
+not-and : (t u : Bool) → not (not t && not u) ≡ t || u
+not-and true u = refl
+not-and false true = refl
+not-and false false = refl
+
+pub unused-step : (inside : List ℕ) → Inside inside → (n i x : ℕ) → n ≤ 32 → i < 32
+    → not (not (eqb x 255) && eqb (getD inside (32 - n + i) 0) 0) ≡ eqb x 255 || ltb i n
+unused-step inside v n i x h l = rw (outside inside v n i h l) (not-and (eqb x 255) (ltb i n))
+
+same-tests : (t u : Bool) → (t ≡ true → u ≡ true) → (u ≡ true → t ≡ true) → t ≡ u
+same-tests true u f g = sym (f refl)
+same-tests false true f g = g refl
+same-tests false false f g = refl
+
+module _ (s : Store) (o count : ℕ) (fits : objectStart o + 80 ≤ length s) (bytes : (i : ℕ) → getD s i 0 < 256) (most : count ≤ 16)
+    (needs : count ≡ need (objectAt s o .size)) where
+  -- block number k is its two bytes
+  number : (k : ℕ) → k < 16 → getD (objectAt s o .blocks) k 0 ≡ getD s (objectStart o + 48 + 2 * k) 0 * 256 + getD s (objectStart o + 48 + 2 * k + 1) 0
+  unfolding objectAt objectFrom
+  number k h = half-read s (objectStart o + 48) 16 k h ∙ sym (be-2 s (objectStart o + 48 + 2 * k) (omega arith))
+
+  past : (i : ℕ) → every 32 (isUnused s (objectStart o + 48) (2 * count)) ≡ true → i < 32 → 2 * count ≤ i → getD s (objectStart o + 48 + i) 0 ≡ 255
+  past i e h l =
+      let q = every-at (isUnused s (objectStart o + 48) (2 * count)) 32 i e h in
+      eqb-true (getD s (objectStart o + 48 + i) 0) 255 (sym (or-false (eqb (getD s (objectStart o + 48 + i) 0) 255)) ∙ (rw (le-ltb i (2 * count) l) at q))
+
+  pub rest-is : every count (goodBlock (blocks s) (objectAt s o)) ≡ true
+      → every 32 (isUnused s (objectStart o + 48) (2 * count)) ≡ every 16 (goodBlock (blocks s) (objectAt s o))
+  rest-is g =
+      same-tests _ _
+      (λ e. every-all (goodBlock (blocks s) (objectAt s o)) 16 (λ k h. ⊎-elim
+      (λ (l : k < count). every-at (goodBlock (blocks s) (objectAt s o)) count k g l)
+      (λ (l : count ≤ k). let x = past (2 * k) e (omega arith) (omega arith) in let y = past (2 * k + 1) e (omega arith) (omega arith) in
+      let w : objectStart o + 48 + (2 * k + 1) ≡ objectStart o + 48 + 2 * k + 1 = omega arith in
+      let z = rw w at y in
+      let n = number k h in
+      unused-good s o k (omega arith) (omega arith))
+      (lt-or-le k count)))
+      (λ e. every-all (isUnused s (objectStart o + 48) (2 * count)) 32 (λ i h. ⊎-elim
+      (λ (l : i < 2 * count). rw (lt-ltb i (2 * count) l) (or-true (eqb (getD s (objectStart o + 48 + i) 0) 255)))
+      (λ (l : 2 * count ≤ i). rw (eq-eqb (getD s (objectStart o + 48 + i) 0) 255 (byte e i h l)))
+      (lt-or-le i (2 * count))))
+    where
+      byte : every 16 (goodBlock (blocks s) (objectAt s o)) ≡ true → (i : ℕ) → i < 32 → 2 * count ≤ i → getD s (objectStart o + 48 + i) 0 ≡ 255
+      byte e i h l =
+          let k = i / 2 in
+          let q = unused-is s o (i / 2) (omega arith) (every-at (goodBlock (blocks s) (objectAt s o)) 16 (i / 2) e (omega arith)) in
+          let n = number (i / 2) (omega arith) in
+          let x = bytes (objectStart o + 48 + 2 * (i / 2)) in
+          let y = bytes (objectStart o + 48 + 2 * (i / 2) + 1) in
+          by-cases (ℕ-discrete (i % 2) 0)
+          (λ (z : i % 2 ≡ 0). let w : objectStart o + 48 + i ≡ objectStart o + 48 + 2 * (i / 2) = omega arith in rw w (omega arith))
+          (λ (z : i % 2 ≢ 0). let w : objectStart o + 48 + i ≡ objectStart o + 48 + 2 * (i / 2) + 1 = omega arith in rw w (omega arith))

@@ -1,12 +1,12 @@
 -- A store passes the check where every demand holds, and fails it where one does not. Assumes nothing.
 use mathlib.Core.Path.{_≡_, refl, sym, _∙_}
-use mathlib.Core.Bool.{Bool, true, false, _&&_, _||_}
+use mathlib.Core.Bool.{Bool, true, false, _||_}
 use Prim.Native.Nat.{ℕ, _<_}
 use Rattle.spec.specs.Count.{every}
 use Rattle.spec.specs.Image.{Store, objects, names, blocks}
 use Rattle.spec.specs.Check.{goodShape, goodRoot, goodObject, goodNameRecord, isDistinct, isNamedOnce, isUsedOnce, leadsToRoot, passes}
 use Rattle.fsck_objects.specs.Told.{Told}
-use Rattle.spec.proofs.Count.{by-bool, true-false, and-both, every-at, every-fails}
+use Rattle.spec.proofs.Count.{by-bool, true-false, and-both, every-at}
 
 pub or-false : (t : Bool) → t || false ≡ t
 or-false true = refl
@@ -40,7 +40,7 @@ demands s e =
     record { shape = a .0; root = h .0; good = h .1; good-names = g .1; distinct = f .1; named = d .1; used = c .1; leads = b .1 }
 
 -- a store fails where passing would be absurd
-fails : (s : Store) → (Demands s → ⊥) → passes s ≡ false
+pub fails : (s : Store) → (Demands s → ⊥) → passes s ≡ false
 fails s f = by-bool (passes s) (λ t. absurd (f (demands s t))) (λ t. t)
 
 -- one demand of a number below a bound does not hold
@@ -65,9 +65,6 @@ module _ (s : Store) where
 
   pub fails-named : (o : ℕ) → o < objects s → isNamedOnce s o ≡ false → passes s ≡ false
   fails-named o h e = fails s (λ d. not-every (isNamedOnce s) (objects s) o (d .named) h e)
-
-  pub fails-used : (r : ℕ) → r < blocks s → isUsedOnce s r ≡ false → passes s ≡ false
-  fails-used r h e = fails s (λ d. not-every (isUsedOnce s) (blocks s) r (d .used) h e)
 
   pub fails-leads : (o : ℕ) → o < objects s → leadsToRoot s o ≡ false → passes s ≡ false
   fails-leads o h e = fails s (λ d. not-every (leadsToRoot s) (objects s) o (d .leads) h e)

@@ -1,22 +1,24 @@
 -- A whole object record: free or live, it passes, or the store fails. Assumes nothing.
-use mathlib.Core.Path.{_≡_, refl, sym, _∙_}
-use mathlib.Core.Bool.{Bool, true, false, _&&_, _||_, not}
-use Prim.Native.Nat.{ℕ, _+_, _≤_, _<_}
+use mathlib.Core.Path.{_≡_, sym, _∙_}
+use mathlib.Core.Bool.{Bool, true, false, _&&_}
+use Prim.Native.Nat.{ℕ, _≤_, _<_}
 use native.Mathlib.Omega.{arith}
 use lib.Dec.{eqb, leb, ltb}
 use mathlib.Core.List.{List}
-use borrow.Author.Tests.{eq-eqb, ne-eqb, leb-true, eqb-true}
+use lib.ListN.{getD}
+use borrow.Author.Tests.{eq-eqb, ne-eqb, leb-true, eqb-true, eqb-false}
 use Rattle.kinds.specs.Numbers.{REGULAR, DIRECTORY}
 use Rattle.kinds.specs.declared.object.Object.{Object}
-use Rattle.spec.specs.Count.{every}
+use Rattle.spec.specs.Count.{sum, every}
 use Rattle.spec.specs.Image.{Store, objects, blocks, objectAt}
 use Rattle.spec.specs.Room.{need, isLive}
 use Rattle.spec.specs.Check.{goodTime, goodSize, goodBlock, goodFree, goodLive, goodObject, passes}
-use Rattle.spec.proofs.Count.{by-bool, true-false, and-both}
+use Rattle.spec.proofs.Count.{by-bool, and-both}
 use Rattle.fsck_objects.specs.Told.{Told}
-use Rattle.fsck_objects.specs.Objects.{goodFields, LiveAt, UsedBy, MarkedTo, ObjectPasses}
+use Rattle.fsck_objects.specs.Objects.{goodFields, LiveAt, MarkedBy, MarkedTo, ObjectPasses, ObjectsPass, Counted}
+use Rattle.fsck_objects.specs.declared.object.Uses.the-variants.{Bad, Blocks}
 use Rattle.fsck_objects.proofs.Passes.{fails-object, told-true, told-false}
-use Rattle.fsck_objects.proofs.Marks.{mark-free, mark-end}
+use Rattle.fsck_objects.proofs.Marks.{mark-free, mark-end, places-free, places-end, placesBelow, marks-all, marks-few}
 
 pub live-yes : (s : Store) (o : ℕ) → (objectAt s o .kind ≡ 0 → ⊥) → isLive s o ≡ true
 unfolding isLive
@@ -26,18 +28,21 @@ pub live-no : (s : Store) (o : ℕ) → objectAt s o .kind ≡ 0 → isLive s o 
 unfolding isLive
 live-no s o h = rw (eq-eqb (objectAt s o .kind) 0 h)
 
--- a good size needs at most 16 blocks
-size-need : (v : Object) → goodSize v ≡ true → need (v .size) ≤ 16
+-- a good size is at most that of the longest file
+fields-size-of : (v : Object) → goodSize v ≡ true → v .size ≤ 8192
 unfolding goodSize
-size-need v e =
+fields-size-of v e =
     by-bool (eqb (v .kind) REGULAR && leb (v .size) 8192)
-    (λ t. let l = leb-true (v .size) 8192 (and-both (eqb (v .kind) REGULAR) (leb (v .size) 8192) t .1) in omega arith)
+    (λ t. leb-true (v .size) 8192 (and-both (eqb (v .kind) REGULAR) (leb (v .size) 8192) t .1))
     (λ t. let l = eqb-true (v .size) 0 (and-both (eqb (v .kind) DIRECTORY) (eqb (v .size) 0) (rw t at e) .1) in omega arith)
 
-pub fields-need : (v : Object) → goodFields v ≡ true → need (v .size) ≤ 16
+pub fields-size : (v : Object) → goodFields v ≡ true → v .size ≤ 8192
 unfolding goodFields
-fields-need v e =
-    size-need v (and-both (ltb (v .generation) 4294967295 && leb (v .mode) 4095 && goodTime (v .atime) && goodTime (v .mtime) && goodTime (v .ctime)) (goodSize v) e .1)
+fields-size v e =
+    fields-size-of v (and-both (ltb (v .generation) 4294967295 && leb (v .mode) 4095 && goodTime (v .atime) && goodTime (v .mtime) && goodTime (v .ctime)) (goodSize v) e .1)
+
+pub fields-need : (v : Object) → goodFields v ≡ true → need (v .size) ≤ 16
+fields-need v e = let l = fields-size v e in omega arith
 
 live-is : (s : Store) (o : ℕ) → isLive s o ≡ true → goodObject s o ≡ goodFields (objectAt s o) && every 16 (goodBlock (blocks s) (objectAt s o))
 unfolding goodObject goodLive goodFields
@@ -46,15 +51,43 @@ live-is s o e = rw e
 pub bad-fields : (s : Store) (o : ℕ) → o < objects s → isLive s o ≡ true → goodFields (objectAt s o) ≡ false → passes s ≡ false
 bad-fields s o h l e = fails-object s o h (live-is s o l ∙ rw e)
 
--- a free object: its bytes decide
-pub told-free : (s : Store) (o : ℕ) (used : List ℕ) (t : Bool) → o < objects s → isLive s o ≡ false → t ≡ goodFree s o → UsedBy s o used
-    → Told t s (ObjectPasses s o used)
+-- a free object that is zero
+pub free-passes : (s : Store) (o : ℕ) (used : List ℕ) → isLive s o ≡ false → goodFree s o ≡ true → MarkedBy s o used → ObjectPasses s o used 0
 unfolding goodObject
-told-free s o used true h l e m = told-true (record { map = mark-free s o used (sym e) m; good = rw l (sym e) })
-told-free s o used false h l e m = told-false (fails-object s o h (rw l (sym e)))
+free-passes s o used l e m = record { map = mark-free s o used e m; places = places-free s o e; few = omega arith; good = rw l e }
+
+pub free-fails : (s : Store) (o : ℕ) → o < objects s → isLive s o ≡ false → goodFree s o ≡ false → passes s ≡ false
+unfolding goodObject
+free-fails s o h l e = fails-object s o h (rw l e)
 
 -- a live object whose blocks are marked: the rest of its block numbers decide
 pub told-live : (s : Store) (o count : ℕ) (used : List ℕ) (t : Bool) → LiveAt s o count → MarkedTo s o count used
-    → t ≡ every 16 (goodBlock (blocks s) (objectAt s o)) → Told t s (ObjectPasses s o used)
-told-live s o count used true a m e = told-true (record { map = mark-end s o count used a m; good = live-is s o (a .live) ∙ rw (a .fields) (sym e) })
+    → t ≡ every 16 (goodBlock (blocks s) (objectAt s o)) → Told t s (ObjectPasses s o used count)
+told-live s o count used true a m e =
+    told-true (record {
+      map = mark-end s o count used a m;
+      places = places-end s o count used a m;
+      few = a .most;
+      good = live-is s o (a .live) ∙ rw (a .fields) (sym e);
+    })
 told-live s o count used false a m e = told-false (fails-object s o (a .below) (live-is s o (a .live) ∙ rw (a .fields) (sym e)))
+
+-- what the check of an object tells
+pub counted-bad : {s : Store} {facts : ℕ → Type 0} → passes s ≡ false → Counted Bad s facts
+counted-bad f = record { yes = λ n e. let z : _≡_ {A = ℕ} 0 1 = cc in absurd (omega arith); no = λ e. f }
+
+pub counted-blocks : {s : Store} {facts : ℕ → Type 0} (n : ℕ) → facts n → Counted (Blocks n) s facts
+counted-blocks {s} {facts} n f =
+    record { yes = λ k e. let w : n ≡ k = cc in rw w at f; no = λ e. let z : _≡_ {A = ℕ} 0 1 = cc in absurd (omega arith) }
+
+-- all objects pass: no block is used twice where as many are marked as there are places
+pub told-all : (s : Store) (used : List ℕ) (total marked count limit : ℕ) → count ≡ objects s → limit ≡ blocks s → total ≡ placesBelow s count
+    → MarkedBy s count used → every count (goodObject s) ≡ true → marked ≡ sum limit (λ i. getD used i 0)
+    → Told (eqb total marked) s (ObjectsPass s count used)
+told-all s used total marked count limit e f p m g q =
+    by-bool (eqb total marked)
+    (λ t. rw t (told-true (record {
+      map = rw (← e) at (marks-all s used (rw e at m) (rw (e, f) at (sym p ∙ eqb-true total marked t ∙ q)));
+      good = g;
+    })))
+    (λ t. rw t (told-false (marks-few s used (rw e at m) (λ w. eqb-false total marked t (p ∙ rw (e, f) (w) ∙ sym q)))))

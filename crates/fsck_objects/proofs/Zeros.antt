@@ -1,23 +1,51 @@
 -- The laws of bytes that are zero. Assumes nothing.
 use mathlib.Core.Path.{_≡_, refl, sym, ap, _∙_}
-use mathlib.Core.Bool.{Bool, true, false, _&&_, and-false}
+use mathlib.Core.Bool.{Bool, true, false, _&&_, _||_, not, and-false}
 use mathlib.Core.List.{List, [], _∷_, _++_}
-use Prim.Native.Nat.{ℕ, zero, suc, _+_, _-_, _*_, _/_, _%_, _≤_, _<_}
-use native.Mathlib.Nat.{not-suc-le-zero}
+use Prim.Native.Nat.{ℕ, zero, _+_, _-_, _*_, _≤_, _<_}
 use native.Mathlib.Omega.{arith}
-use lib.Dec.{eqb}
-use lib.ListN.{length, getD, replicate}
-use borrow.Author.Tests.{eqb-true, eq-eqb}
+use native.Mathlib.Numerals.{add-one}
+use mathlib.Core.Logic.{⊎-elim}
+use lib.Dec.{eqb, ltb}
+use lib.ListN.{length, getD}
+use borrow.Author.Tests.{eqb-true, eq-eqb, lt-ltb, le-ltb}
 use Rattle.spec.specs.Bytes.{part, digits, beOf, beAt, allBytes}
 use Rattle.spec.specs.Check.{isZero}
-use Rattle.spec.proofs.Bytes.{part-add, part-snoc, part-length, getD-part}
-use Rattle.spec.proofs.Count.{by-bool, true-false, and-both}
+use Rattle.spec.specs.Count.{every}
+use Rattle.spec.proofs.Bytes.{lt-or-le, part-add, part-snoc}
+use Rattle.spec.proofs.Count.{and-both}
 
 pub and-true : (t : Bool) → t && true ≡ t
 and-true true = refl
 and-true false = refl
 
-and-assoc : (t u v : Bool) → t && (u && v) ≡ t && u && v
+not-or : (t u : Bool) → not (t || u) ≡ not t && not u
+not-or true u = refl
+not-or false u = refl
+
+pub not-not : (t : Bool) → not (not t) ≡ t
+not-not true = refl
+not-not false = refl
+
+-- a loop that reads on where a test fails, and remembers it: so far all pass, and so does the next, or not
+pub remember : (seen wrong all good : Bool) → not seen ≡ all → not wrong ≡ good → not (seen || wrong) ≡ all && good
+remember seen wrong all good e f = rw (not-or seen wrong, e, f)
+
+-- one test more
+pub every-next : (p : ℕ → Bool) (i : ℕ) → every (i + 1) p ≡ every i p && p i
+unfolding every
+every-next p i = rw add-one
+
+-- the greater of two numbers, by a bound
+pub greater-right : (a b : ℕ) → a < b → (n : ℕ) → ltb b n ≡ ltb a n && ltb b n
+greater-right a b h n =
+    ⊎-elim (λ (l : b < n). rw (lt-ltb b n l, lt-ltb a n (omega arith))) (λ (l : n ≤ b). rw (le-ltb b n l) (sym (and-false (ltb a n)))) (lt-or-le b n)
+
+pub greater-left : (a b : ℕ) → b ≤ a → (n : ℕ) → ltb a n ≡ ltb a n && ltb b n
+greater-left a b h n =
+    ⊎-elim (λ (l : a < n). rw (lt-ltb a n l, lt-ltb b n (omega arith))) (λ (l : n ≤ a). rw (le-ltb a n l)) (lt-or-le a n)
+
+pub and-assoc : (t u v : Bool) → t && (u && v) ≡ t && u && v
 and-assoc true u v = refl
 and-assoc false u v = refl
 
@@ -27,24 +55,11 @@ unfolding allBytes
 all-append p [] ys = refl
 all-append p (x ∷ xs) ys = rw (all-append p xs ys) (and-assoc (p x) (allBytes p xs) (allBytes p ys))
 
-pub all-at : (p : ℕ → Bool) (xs : List ℕ) (i : ℕ) → allBytes p xs ≡ true → i < length xs → p (getD xs i 0) ≡ true
+-- one byte more
+pub all-next : (p : ℕ → Bool) (b : List ℕ) (at i : ℕ) → at + i < length b
+    → allBytes p (part b at (i + 1)) ≡ allBytes p (part b at i) && p (getD b (at + i) 0)
 unfolding allBytes
-all-at p [] i e h = absurd (not-suc-le-zero h)
-all-at p (x ∷ xs) zero e h = and-both (p x) (allBytes p xs) e .0
-all-at p (x ∷ xs) (suc i) e h = all-at p xs i (and-both (p x) (allBytes p xs) e .1) (omega arith)
-
--- a part that passes gets one byte more that passes
-pub all-more : (p : ℕ → Bool) (b : List ℕ) (at i : ℕ) → at + i < length b → allBytes p (part b at i) ≡ true → p (getD b (at + i) 0) ≡ true
-    → allBytes p (part b at (i + 1)) ≡ true
-unfolding allBytes
-all-more p b at i h e t = rw (part-snoc b at i h, all-append, e, t)
-
--- a byte of a part does not pass
-pub all-fails : (p : ℕ → Bool) (b : List ℕ) (at n i : ℕ) → at + n ≤ length b → i < n → p (getD b (at + i) 0) ≡ false → allBytes p (part b at n) ≡ false
-all-fails p b at n i l h e =
-    by-bool (allBytes p (part b at n))
-    (λ t. true-false (sym (all-at p (part b at n) i t (rw (part-length b at n l) h)) ∙ ap p (getD-part b at n i h) ∙ e))
-    (λ t. t)
+all-next p b at i h = rw (part-snoc b at i h, all-append) (ap (λ (t : Bool). allBytes p (part b at i) && t) (and-true (p (getD b (at + i) 0))))
 
 pub all-none : (p : ℕ → Bool) (b : List ℕ) (at : ℕ) → allBytes p (part b at 0) ≡ true
 unfolding allBytes part
@@ -87,21 +102,3 @@ be-zero b at w e = digits-zero (part b at w) 0 e .1
 pub zero-be : (b : List ℕ) (at w : ℕ) → isZero (part b at w) ≡ true → beAt b at w ≡ 0
 unfolding beAt beOf
 zero-be b at w e = zero-digits (part b at w) e
-
--- the loop over groups of eight bytes
-pub zero-more : (b : List ℕ) (at i : ℕ) → isZero (part b at (8 * i)) ≡ true → beAt b (at + 8 * i) 8 ≡ 0 → isZero (part b at (8 * (i + 1))) ≡ true
-zero-more b at i e t =
-    let q : 8 * (i + 1) ≡ 8 * i + 8 = omega arith in
-    rw (q, zero-add b at (8 * i) 8, e) (be-zero b (at + 8 * i) 8 t)
-
-pub zero-fails : (b : List ℕ) (at n i : ℕ) → i < n → (beAt b (at + 8 * i) 8 ≡ 0 → ⊥) → isZero (part b at (8 * n)) ≡ false
-zero-fails b at n i h f =
-    by-bool (isZero (part b at (8 * n)))
-    (λ t. absurd (f (zero-be b (at + 8 * i) 8 (zero-within b at (8 * n) (8 * i) 8 (omega arith) t))))
-    (λ t. t)
-
--- a run of bytes up to a multiple of eight, and then groups of eight
-pub zero-split : (b : List ℕ) (at n : ℕ) → isZero (part b at n) ≡ isZero (part b at (n % 8)) && isZero (part b (at + n % 8) (8 * (n / 8)))
-zero-split b at n =
-    let q : n ≡ n % 8 + 8 * (n / 8) = omega arith in
-    ap (λ (k : ℕ). isZero (part b at k)) q ∙ zero-add b at (n % 8) (8 * (n / 8))

@@ -1,17 +1,23 @@
 // One object record.
 ghost use mathlib.Core.Path.{_≡_};
-ghost use mathlib.Core.Bool.{true};
-ghost use Prim.Native.Nat.{_+_, _≤_, _<_};
-ghost use Rattle.fsck_objects.specs.Objects.{goodFields, goodSizeOf, LiveAt, UsedBy, MarkedTo, ObjectPasses};
+ghost use mathlib.Core.Bool.{true, _&&_};
+ghost use Prim.Native.Nat.{_+_, _*_, _/_, _≤_, _<_};
+ghost use Rattle.fsck_objects.specs.Objects.{goodFields, goodSizeOf, isUnused, LiveAt, MarkedBy, MarkedTo, ObjectPasses, Counted, Inside, Greater};
 ghost use lib.ListN.{length, getD};
 ghost use Rattle.spec.specs.Count.{every};
 ghost use Rattle.spec.specs.Image.{blocks, objects, objectStart, objectAt};
-ghost use Rattle.spec.specs.Check.{goodBlock};
-ghost use Rattle.spec.specs.Room.{need, isLive};
+ghost use Rattle.spec.specs.Check.{goodTime, goodBlock};
+ghost use Rattle.spec.specs.Room.{need};
 ghost use Rattle.fsck_objects.specs.Told.{Shaped, Told};
 use crate::zero::is_zero;
 use kinds::numbers::Kind;
 use kinds::numbers::Limit;
+
+// What was found of an object: that it fails, or how many blocks it has.
+pub enum Uses {
+    Bad,
+    Blocks(usize),
+}
 
 // The type of an object.
 pub fn kind_of(store: &[u8], o: usize) -> u32
@@ -21,12 +27,22 @@ pub fn kind_of(store: &[u8], o: usize) -> u32
     wire::get_u32(store, 12 + Limit::OBJECT_BYTES * o)
 }
 
-// How many blocks an object's size needs.
-fn need_of(store: &[u8], o: usize) -> usize
+// The size of an object.
+fn size_of(store: &[u8], o: usize) -> u32
     requires { ⌜ objectStart o + 80 ≤ length (now store) ⌝ }
-    ensures { λ r. ⌜ r ≡ need (objectAt (now (store .entry)) o .size) ⌝ }
+    ensures { λ r. ⌜ r ≡ objectAt (now (store .entry)) o .size ⌝ }
 {
-    (wire::get_u32(store, 12 + Limit::OBJECT_BYTES * o + 20) as usize + 511) / Limit::BLOCK_BYTES
+    wire::get_u32(store, 12 + Limit::OBJECT_BYTES * o + 20)
+}
+
+// The greater of two numbers: it is below what both are below.
+fn greater(a: usize, b: usize) -> usize
+    ensures { λ r. ⌜ Greater a b r ⌝ }
+{
+    if a < b {
+        return b;
+    }
+    a
 }
 
 // Whether the size of an object is one that its type may have.
@@ -39,9 +55,23 @@ fn good_size(kind: u32, size: u32) -> bool
     kind == Kind::DIRECTORY && size == 0
 }
 
-// Whether a live object's numbers and times are good.
-fn good_fields(store: &[u8], o: usize) -> bool
+// Whether the times of an object are good.
+fn good_times(store: &[u8], o: usize) -> bool
     requires { ⌜ objectStart o + 80 ≤ length (now store) ⌝ }
+    ensures { λ r. ⌜ r ≡ goodTime (objectAt (now (store .entry)) o .atime) && goodTime (objectAt (now (store .entry)) o .mtime) && goodTime (objectAt (now (store .entry)) o .ctime) ⌝ }
+{
+    let at = 12 + Limit::OBJECT_BYTES * o;
+    let atime = wire::get_u32(store, at + 24 + 4) as usize;
+    let mtime = wire::get_u32(store, at + 32 + 4) as usize;
+    let ctime = wire::get_u32(store, at + 40 + 4) as usize;
+    greater(greater(atime, mtime), ctime) < Limit::NANOSECONDS as usize
+}
+
+// Whether the numbers and times of a live object, of that type and size, are good.
+fn good_fields(store: &[u8], o: usize, kind: u32, size: u32) -> bool
+    requires { ⌜ objectStart o + 80 ≤ length (now store) ⌝ }
+    requires { ⌜ kind ≡ objectAt (now store) o .kind ⌝ }
+    requires { ⌜ size ≡ objectAt (now store) o .size ⌝ }
     ensures { λ r. ⌜ r ≡ goodFields (objectAt (now (store .entry)) o) ⌝ }
 {
     let at = 12 + Limit::OBJECT_BYTES * o;
@@ -51,16 +81,10 @@ fn good_fields(store: &[u8], o: usize) -> bool
     if wire::get_u32(store, at + 8) > Limit::MODE {
         return false;
     }
-    if wire::get_u32(store, at + 24 + 4) >= Limit::NANOSECONDS {
+    if !good_times(store, o) {
         return false;
     }
-    if wire::get_u32(store, at + 32 + 4) >= Limit::NANOSECONDS {
-        return false;
-    }
-    if wire::get_u32(store, at + 40 + 4) >= Limit::NANOSECONDS {
-        return false;
-    }
-    good_size(wire::get_u32(store, at), wire::get_u32(store, at + 20))
+    good_size(kind, size)
 }
 
 // Block number k of an object.
@@ -72,21 +96,66 @@ fn block_of(store: &[u8], o: usize, k: usize) -> usize
     wire::get_u16(store, 12 + Limit::OBJECT_BYTES * o + 48 + 2 * k) as usize
 }
 
-// Marks the blocks of a live object; false where one is out of range or marked already.
-fn mark_blocks(store: &[u8], o: usize, count: usize, limit: usize, used: &mut [u8; 1024]) -> bool
+// Marks four blocks of a live object, from block number k on; false where one is out of range. `count` is there for the contract alone.
+fn mark_four(
+    store: &[u8],
+    o: usize,
+    count: usize,
+    k: usize,
+    limit: usize,
+    used: &mut [u8; 1024],
+) -> bool
     requires { ⌜ Shaped (now store) ⌝ }
     requires { ⌜ LiveAt (now store) o count ⌝ }
     requires { ⌜ limit ≡ blocks (now store) ⌝ }
-    requires { ⌜ UsedBy (now store) o (now used) ⌝ }
-    ensures { λ r. ⌜ Told r (now (store .entry)) (MarkedTo (now (store .entry)) o count (now (used .exit))) ⌝ }
+    requires { ⌜ k + 4 ≤ count ⌝ }
+    requires { ⌜ MarkedTo (now store) o k (now used) ⌝ }
+    ensures { λ r. ⌜ Told r (now (store .entry)) (MarkedTo (now (store .entry)) o (k + 4) (now (used .exit))) ⌝ }
+{
+    let a = block_of(store, o, k);
+    let b = block_of(store, o, k + 1);
+    let c = block_of(store, o, k + 2);
+    let d = block_of(store, o, k + 3);
+    if greater(greater(a, b), greater(c, d)) >= limit {
+        return false;
+    }
+    used[a] = 1;
+    used[b] = 1;
+    used[c] = 1;
+    used[d] = 1;
+    true
+}
+
+// Marks the blocks of a live object as far as they come in fours; false where one is out of range.
+fn mark_fours(store: &[u8], o: usize, count: usize, limit: usize, used: &mut [u8; 1024]) -> bool
+    requires { ⌜ Shaped (now store) ⌝ }
+    requires { ⌜ LiveAt (now store) o count ⌝ }
+    requires { ⌜ limit ≡ blocks (now store) ⌝ }
+    requires { ⌜ MarkedBy (now store) o (now used) ⌝ }
+    ensures { λ r. ⌜ Told r (now (store .entry)) (MarkedTo (now (store .entry)) o (4 * (count / 4)) (now (used .exit))) ⌝ }
 {
     let mut k = 0;
+    while k < count / 4 {
+        if !mark_four(store, o, count, 4 * k, limit, used) {
+            return false;
+        }
+        k += 1;
+    }
+    true
+}
+
+// Marks the blocks of a live object past those that come in fours; false where one is out of range.
+fn mark_last(store: &[u8], o: usize, count: usize, limit: usize, used: &mut [u8; 1024]) -> bool
+    requires { ⌜ Shaped (now store) ⌝ }
+    requires { ⌜ LiveAt (now store) o count ⌝ }
+    requires { ⌜ limit ≡ blocks (now store) ⌝ }
+    requires { ⌜ MarkedTo (now store) o (4 * (count / 4)) (now used) ⌝ }
+    ensures { λ r. ⌜ Told r (now (store .entry)) (MarkedTo (now (store .entry)) o count (now (used .exit))) ⌝ }
+{
+    let mut k = 4 * (count / 4);
     while k < count {
         let b = block_of(store, o, k);
         if b >= limit {
-            return false;
-        }
-        if used[b] != 0 {
             return false;
         }
         used[b] = 1;
@@ -95,45 +164,93 @@ fn mark_blocks(store: &[u8], o: usize, count: usize, limit: usize, used: &mut [u
     true
 }
 
+// Whether of the 32 bytes from `at` all past the first n are 255. Reads them all, many at a time: no byte ends the loop.
+fn past_unused(s: &[u8], inside: &[u8; 64], at: usize, n: usize) -> bool
+    requires { ⌜ at + 32 ≤ length (now s) ⌝ }
+    requires { ⌜ n ≤ 32 ⌝ }
+    requires { ⌜ Inside (now inside) ⌝ }
+    ensures { λ r. ⌜ r ≡ every 32 (isUnused (now (s .entry)) at n) ⌝ }
+{
+    let from = 32 - n;
+    let mut other = false;
+    let mut i = 0;
+    while i < 32 {
+        other = other | ((s[at + i] != 255) & (inside[from + i] == 0));
+        i += 1;
+    }
+    !other
+}
+
 // Whether the block numbers of an object that its size does not need are all 65535.
-fn rest_unused(store: &[u8], o: usize, count: usize) -> bool
+fn rest_unused(store: &[u8], inside: &[u8; 64], o: usize, count: usize) -> bool
     requires { ⌜ objectStart o + 80 ≤ length (now store) ⌝ }
+    requires { ⌜ Inside (now inside) ⌝ }
     requires { ⌜ count ≤ 16 ⌝ }
     requires { ⌜ count ≡ need (objectAt (now store) o .size) ⌝ }
     requires { ⌜ every count (goodBlock (blocks (now store)) (objectAt (now store) o)) ≡ true ⌝ }
     ensures { λ r. ⌜ r ≡ every 16 (goodBlock (blocks (now (store .entry))) (objectAt (now (store .entry)) o)) ⌝ }
 {
-    let mut k = count;
-    while k < 16 {
-        if block_of(store, o, k) != 65535 {
-            return false;
-        }
-        k += 1;
-    }
-    true
+    past_unused(store, inside, 12 + Limit::OBJECT_BYTES * o + 48, 2 * count)
 }
 
-// Whether object o passes; marks its blocks.
-pub fn object_passes(store: &[u8], o: usize, limit: usize, used: &mut [u8; 1024]) -> bool
+// Whether a live object that has good fields passes; marks its blocks.
+fn blocks_pass(
+    store: &[u8],
+    inside: &[u8; 64],
+    o: usize,
+    count: usize,
+    limit: usize,
+    used: &mut [u8; 1024],
+) -> bool
     requires { ⌜ Shaped (now store) ⌝ }
+    requires { ⌜ Inside (now inside) ⌝ }
+    requires { ⌜ LiveAt (now store) o count ⌝ }
+    requires { ⌜ limit ≡ blocks (now store) ⌝ }
+    requires { ⌜ MarkedBy (now store) o (now used) ⌝ }
+    ensures { λ r. ⌜ Told r (now (store .entry)) (ObjectPasses (now (store .entry)) o (now (used .exit)) count) ⌝ }
+{
+    if !mark_fours(store, o, count, limit, used) {
+        return false;
+    }
+    if !mark_last(store, o, count, limit, used) {
+        return false;
+    }
+    rest_unused(store, inside, o, count)
+}
+
+// How many blocks object o has, if it passes; marks them.
+pub fn object_uses(
+    store: &[u8],
+    inside: &[u8; 64],
+    o: usize,
+    limit: usize,
+    used: &mut [u8; 1024],
+) -> Uses
+    requires { ⌜ Shaped (now store) ⌝ }
+    requires { ⌜ Inside (now inside) ⌝ }
     requires { ⌜ o < objects (now store) ⌝ }
     requires { ⌜ limit ≡ blocks (now store) ⌝ }
-    requires { ⌜ UsedBy (now store) o (now used) ⌝ }
-    ensures { λ r. ⌜ Told r (now (store .entry)) (ObjectPasses (now (store .entry)) o (now (used .exit))) ⌝ }
+    requires { ⌜ MarkedBy (now store) o (now used) ⌝ }
+    ensures { λ r. ⌜ Counted r (now (store .entry)) (ObjectPasses (now (store .entry)) o (now (used .exit))) ⌝ }
 {
-    if kind_of(store, o) == Kind::FREE {
-        return is_zero(
+    let kind = kind_of(store, o);
+    if kind == Kind::FREE {
+        if !is_zero(
             store,
             12 + Limit::OBJECT_BYTES * o + 8,
             Limit::OBJECT_BYTES - 8,
-        );
+        ) {
+            return Uses::Bad;
+        }
+        return Uses::Blocks(0);
     }
-    if !good_fields(store, o) {
-        return false;
+    let size = size_of(store, o);
+    if !good_fields(store, o, kind, size) {
+        return Uses::Bad;
     }
-    let count = need_of(store, o);
-    if !mark_blocks(store, o, count, limit, used) {
-        return false;
+    let count = ((size + 511) / 512) as usize;
+    if !blocks_pass(store, inside, o, count, limit, used) {
+        return Uses::Bad;
     }
-    rest_unused(store, o, count)
+    Uses::Blocks(count)
 }

@@ -1,24 +1,70 @@
 // All object records.
 ghost use mathlib.Core.Path.{_≡_};
+ghost use Prim.Native.Nat.{_+_, _≤_};
+ghost use lib.ListN.{getD};
+ghost use Rattle.spec.specs.Count.{sum};
 ghost use Rattle.spec.specs.Image.{blocks, objects};
 ghost use Rattle.fsck_objects.specs.Told.{Shaped, Told};
-ghost use Rattle.fsck_objects.specs.Objects.{Blank, ObjectsPass};
-use crate::object::object_passes;
+ghost use Rattle.fsck_objects.specs.Objects.{Blank, Inside, AreMarks, ObjectsPass};
+use crate::object::Uses;
+use crate::object::object_uses;
 
-// Whether every object passes and no block is used twice; makes the map of used blocks, which is zero before.
-pub fn objects_pass(store: &[u8], count: usize, limit: usize, used: &mut [u8; 1024]) -> bool
+// The sum of n bytes of a map from `from` on, which are 0 or 1.
+fn sum_part(used: &[u8; 1024], from: usize, n: usize) -> u8
+    requires { ⌜ from + n ≤ 1024 ⌝ }
+    requires { ⌜ n ≤ 128 ⌝ }
+    requires { ⌜ AreMarks (now used) from n ⌝ }
+    ensures { λ r. ⌜ r ≡ sum n (λ i. getD (now (used .entry)) (from + i) 0) ⌝ }
+{
+    let mut total = 0u8;
+    let mut i = 0;
+    while i < n {
+        total += used[from + i];
+        i += 1;
+    }
+    total
+}
+
+// How many of the first `limit` blocks are marked: the sum of their bytes, 128 at a time.
+fn marked(used: &[u8; 1024], limit: usize) -> usize
+    requires { ⌜ limit ≤ 1024 ⌝ }
+    requires { ⌜ AreMarks (now used) 0 limit ⌝ }
+    ensures { λ r. ⌜ r ≡ sum limit (λ i. getD (now (used .entry)) i 0) ⌝ }
+{
+    let mut total = 0;
+    let mut at = 0;
+    while at + 128 <= limit {
+        total += sum_part(used, at, 128) as usize;
+        at += 128;
+    }
+    total + sum_part(used, at, limit - at) as usize
+}
+
+// Whether every object passes and no block is used twice: then as many blocks are marked as the objects have in all. Makes the map of used
+// blocks, which is zero before.
+pub fn objects_pass(
+    store: &[u8],
+    inside: &[u8; 64],
+    count: usize,
+    limit: usize,
+    used: &mut [u8; 1024],
+) -> bool
     requires { ⌜ Shaped (now store) ⌝ }
+    requires { ⌜ Inside (now inside) ⌝ }
     requires { ⌜ count ≡ objects (now store) ⌝ }
     requires { ⌜ limit ≡ blocks (now store) ⌝ }
     requires { ⌜ Blank 1024 (now used) ⌝ }
     ensures { λ r. ⌜ Told r (now (store .entry)) (ObjectsPass (now (store .entry)) count (now (used .exit))) ⌝ }
 {
+    let mut total = 0;
     let mut o = 0;
     while o < count {
-        if !object_passes(store, o, limit, used) {
+        let found = object_uses(store, inside, o, limit, used);
+        let Uses::Blocks(n) = found else {
             return false;
-        }
+        };
+        total += n;
         o += 1;
     }
-    true
+    total == marked(used, limit)
 }

@@ -7,6 +7,9 @@ use kinds::numbers::BlockNumber;
 use kinds::numbers::Limit;
 use kinds::numbers::NameNumber;
 use kinds::numbers::ObjectNumber;
+use places::block_place;
+use places::name_place;
+use places::object_place;
 
 pub fn volume_count(store: &[u8]) -> usize
     requires { ⌜ 4 ≤ length (now store) ⌝ }
@@ -51,8 +54,7 @@ pub fn object_start(store: &[u8], o: ObjectNumber) -> usize
     requires { ⌜ objectStart (o .0) + objectLength ≤ length (now store) ⌝ }
     ensures { λ r. ⌜ r ≡ objectStart (o .0) ⌝ }
 {
-    let i = o.0;
-    12 + Limit::OBJECT_BYTES * i
+    object_place(o)
 }
 
 // Where a name record starts; its 44 bytes lie in the store.
@@ -61,8 +63,7 @@ pub fn name_start(store: &[u8], n: NameNumber) -> usize
     ensures { λ r. ⌜ r ≡ nameStart (now (store .entry)) (n .0) ⌝ }
 {
     let p = object_count(store);
-    let i = n.0;
-    16 + Limit::OBJECT_BYTES * p + Limit::NAME_BYTES * i
+    name_place(p, n)
 }
 
 // Where a block starts; it starts in the store, or at its end.
@@ -72,6 +73,5 @@ pub fn block_start(store: &[u8], r: BlockNumber) -> usize
 {
     let p = object_count(store);
     let q = name_count(store);
-    let i = r.0;
-    20 + Limit::OBJECT_BYTES * p + Limit::NAME_BYTES * q + Limit::BLOCK_BYTES * i
+    block_place(p, q, r)
 }

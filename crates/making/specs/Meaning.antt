@@ -10,8 +10,6 @@ use Rattle.making.specs.declared.checks.Target.{Target}
 use Rattle.making.specs.declared.checks.Target.the-variants as Target
 use Rattle.making.specs.declared.checks.TargetChecked.{TargetChecked}
 use Rattle.making.specs.declared.checks.TargetChecked.the-variants as TargetChecked
-use Rattle.making.specs.declared.checks.CreateChecked.{CreateChecked}
-use Rattle.making.specs.declared.checks.CreateChecked.the-variants as CreateChecked
 use Rattle.making.specs.declared.checks.MkdirChecked.{MkdirChecked}
 use Rattle.making.specs.declared.checks.MkdirChecked.the-variants as MkdirChecked
 
@@ -23,11 +21,6 @@ madeOf (Target.Existing o) = names.existing (o .0)
 abbrev pub targetOf : TargetChecked → Checked names.Target
 targetOf (TargetChecked.At t) = passed (madeOf t)
 targetOf (TargetChecked.Refused status) = refused (status .0)
-
--- the directory and the target, or the status
-abbrev pub createOf : CreateChecked → Checked (ℕ × names.Target)
-createOf (CreateChecked.At d t) = passed (d .0, madeOf t)
-createOf (CreateChecked.Refused status) = refused (status .0)
 
 -- the directory, the object record and the name record, or the status
 abbrev pub mkdirOf : MkdirChecked → Checked (ℕ × ℕ × ℕ)

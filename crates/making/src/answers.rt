@@ -2,8 +2,7 @@
 ghost use mathlib.Core.Path.{_≡_};
 ghost use Rattle.files.specs.Meaning.{reachedOf, textOf};
 ghost use Rattle.room.specs.Meaning.{roomOf};
-ghost use Rattle.making.specs.Meaning.{targetOf, createOf, mkdirOf, statusOf};
-use crate::checks::CreateChecked;
+ghost use Rattle.making.specs.Meaning.{targetOf, mkdirOf, statusOf};
 use crate::checks::MkdirChecked;
 use crate::checks::TargetChecked;
 use files::handle::Reached;
@@ -44,15 +43,6 @@ pub fn target_status(answer: TargetChecked) -> Status
     match answer {
         TargetChecked::At(_) => Status::OK,
         TargetChecked::Refused(status) => status,
-    }
-}
-
-pub fn create_status(answer: CreateChecked) -> Status
-    ensures { λ r. ⌜ r .0 ≡ statusOf (createOf answer) ⌝ }
-{
-    match answer {
-        CreateChecked::At(_, _) => Status::OK,
-        CreateChecked::Refused(status) => status,
     }
 }
 

@@ -1,4 +1,4 @@
-// The checks of CREATE and MKDIR.
+// The checks of MKDIR, and those of CREATE with attributes.
 ghost use mathlib.Core.Path.{_≡_};
 ghost use mathlib.Core.Bool.{_||_};
 ghost use Prim.Native.Nat.{_+_, _<_, _≤_};
@@ -8,13 +8,12 @@ ghost use Rattle.spec.specs.Room.{freeBlockCount, findName};
 ghost use Rattle.spec.specs.Procedures.{cut};
 ghost use Rattle.spec.specs.Procedures.Attributes.{isGiven, sizeSet, badAttributes};
 ghost use Rattle.spec.specs.Procedures.Names as names;
-ghost use Rattle.spec.specs.Procedures.Names.{roomForNew, isNew, checkExisting, checkAttributed, checkHow, checkCreate, checkMkdir};
+ghost use Rattle.spec.specs.Procedures.Names.{roomForNew, isNew, checkExisting, checkAttributed, checkMkdir};
 ghost use Rattle.spec.proofs.GoodRecords.{GoodRecords};
 ghost use Rattle.files.specs.Meaning.{textOf};
-ghost use Rattle.making.specs.Meaning.{NewName, targetOf, createOf, mkdirOf};
+ghost use Rattle.making.specs.Meaning.{NewName, targetOf, mkdirOf};
 use crate::answers::reached_status;
 use crate::answers::room_status;
-use crate::answers::target_status;
 use crate::answers::text_status;
 use files::handle::Reached;
 use files::handle::reach_directory;
@@ -26,7 +25,6 @@ use find::found::FoundName;
 use find::name::find_name;
 use image::name::name_child;
 use image::object::is_regular;
-use kinds::call::How;
 use kinds::call::NameIn;
 use kinds::call::Part;
 use kinds::call::Settable;
@@ -48,12 +46,6 @@ pub enum Target {
 
 pub enum TargetChecked {
     At(Target),
-    Refused(Status),
-}
-
-// The directory and the target, or the status.
-pub enum CreateChecked {
-    At(ObjectNumber, Target),
     Refused(Status),
 }
 
@@ -151,7 +143,7 @@ fn check_target(
 }
 
 // The checks of CREATE in a directory, but for EXCLUSIVE.
-fn check_attributed(
+pub fn check_attributed(
     store: &[u8],
     free: usize,
     d: ObjectNumber,
@@ -171,54 +163,6 @@ fn check_attributed(
         return TargetChecked::Refused(text_status(answer));
     };
     check_target(store, free, d, call, name, unchecked, a)
-}
-
-// The checks of CREATE in a directory; EXCLUSIVE is refused before the name is looked at.
-fn check_how(
-    store: &[u8],
-    free: usize,
-    d: ObjectNumber,
-    call: &[u8],
-    name: Part,
-    manner: How,
-) -> TargetChecked
-    requires { ⌜ GoodRecords (now store) ⌝ }
-    requires { ⌜ free ≡ freeBlockCount (now store) ⌝ }
-    requires { ⌜ name .start + name .length ≤ length (now call) ⌝ }
-    ensures { λ r. ⌜ targetOf r ≡ checkHow (now (store .entry)) (d .0) (cut (now (call .entry)) name) manner ⌝ }
-{
-    match manner {
-        How::Unchecked(a) => check_attributed(store, free, d, call, name, true, a),
-        How::Guarded(a) => check_attributed(store, free, d, call, name, false, a),
-        How::Exclusive(_) => TargetChecked::Refused(Status::NOTSUPP),
-    }
-}
-
-// The directory and the target of CREATE, or the status.
-pub fn check_create(
-    store: &[u8],
-    free: usize,
-    call: &[u8],
-    place: NameIn,
-    manner: How,
-) -> CreateChecked
-    requires { ⌜ GoodRecords (now store) ⌝ }
-    requires { ⌜ free ≡ freeBlockCount (now store) ⌝ }
-    requires { ⌜ place .directory .start + place .directory .length ≤ length (now call) ⌝ }
-    requires { ⌜ place .name .start + place .name .length ≤ length (now call) ⌝ }
-    ensures { λ r. ⌜ createOf r ≡ checkCreate (now (store .entry)) (cut (now (call .entry)) (place .directory)) (cut (now (call .entry)) (place .name)) manner ⌝ }
-{
-    let directory = place.directory;
-    let reached = reach_directory(store, call, directory);
-    let Reached::At(d) = reached else {
-        return CreateChecked::Refused(reached_status(reached));
-    };
-    let name = place.name;
-    let answer = check_how(store, free, d, call, name, manner);
-    let TargetChecked::At(t) = answer else {
-        return CreateChecked::Refused(target_status(answer));
-    };
-    CreateChecked::At(d, t)
 }
 
 // Whether MKDIR's attributes are not valid: as for SETATTR, or a size is given.

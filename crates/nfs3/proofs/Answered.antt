@@ -1,17 +1,15 @@
 -- From what was found to the answer of each entry. Assumes nothing.
 use mathlib.Core.Path.{_≡_, refl, sym, ap, _∙_}
-use mathlib.Core.Bool.{Bool, true, false, cond}
+use mathlib.Core.Bool.{Bool, cond}
 use mathlib.Core.List.{List}
 use Prim.Native.Nat.{ℕ}
 use native.Mathlib.Omega.{arith}
-use Rattle.kinds.specs.declared.numbers.Answer.{Answer}
 use Rattle.spec.specs.Image.{Store}
 use Rattle.spec.specs.Check.{passes}
 use Rattle.spec.specs.Serve.{Outcome, Sent, refuse, send, check}
 use Rattle.spec.proofs.Count.{by-bool}
 use Rattle.fsck.specs.Found.{countsOf, foundIf}
 use Rattle.fsck.specs.declared.shape.Counts.{Counts}
-use Rattle.fsck.specs.declared.shape.Found.{Found}
 use Rattle.fsck.specs.declared.shape.Found.the-variants.{Bad, Good}
 use Rattle.serving.specs.Sends.{Sends}
 use Rattle.nfs3.specs.Answers.{answerOf, Serves}

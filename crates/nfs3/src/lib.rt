@@ -8,9 +8,9 @@ use fsck::shape::Found;
 use kinds::numbers::Answer;
 use kinds::object::Context;
 use kinds::object::Time;
-use serving::opening::Opened;
-use serving::opening::open;
-use serving::responding::respond;
+use opening::Opened;
+use opening::open;
+use serving::respond;
 
 // Answers a call: 2, 3, 4, 1 or 5, which change nothing, or 0 with the length of the reply.
 #[no_mangle]

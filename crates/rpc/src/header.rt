@@ -11,6 +11,7 @@ use kinds::numbers::Limit;
 use kinds::numbers::Message;
 use kinds::reading::PartRead;
 use kinds::reading::WordRead;
+use reader::Reader;
 use xdr::read::choice;
 use xdr::read::opaque;
 use xdr::read::word;
@@ -90,10 +91,10 @@ fn call_header(s: &[u8], c: Cursor, xid: u32) -> HeaderRead
 }
 
 // The header of a call: its xid, the message type CALL and the RPC version; then the rest, or nothing where the version is another than 2.
-pub fn header(s: &[u8], c: Cursor) -> HeaderRead
-    ensures { λ r. ⌜ headerOf r ≡ header (now (s .entry)) (c .at) ⌝ }
+fn header_at(s: &[u8], at: usize) -> HeaderRead
+    ensures { λ r. ⌜ headerOf r ≡ header (now (s .entry)) at ⌝ }
 {
-    let answer = word(s, c);
+    let answer = word(s, Cursor { at });
     let WordRead::Got(xid, c1) = answer else {
         return HeaderRead::Bad(answer.place());
     };
@@ -109,4 +110,26 @@ pub fn header(s: &[u8], c: Cursor) -> HeaderRead
         return call_header(s, c3, xid);
     }
     HeaderRead::Got(Header::OtherVersion(xid), c3)
+}
+
+// The header at a reader's place.
+pub fn next_header<'a>(r: Reader<'a>) -> HeaderRead
+    ensures { λ t. ⌜ headerOf t ≡ header (now (r .entry .call)) (r .entry .at) ⌝ }
+{
+    header_at(r.call, r.at)
+}
+
+// The header at a place of a call, by a reader that is made there.
+pub fn header_of(call: &[u8], at: usize) -> HeaderRead
+    ensures { λ t. ⌜ headerOf t ≡ header (now (call .entry)) at ⌝ }
+{
+    next_header(reader::new(call, at))
+}
+
+// The header at a cursor.
+pub fn header(s: &[u8], c: Cursor) -> HeaderRead
+    ensures { λ r. ⌜ headerOf r ≡ header (now (s .entry)) (c .at) ⌝ }
+{
+    let at = c.at;
+    header_of(s, at)
 }

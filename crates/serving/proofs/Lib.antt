@@ -1,3 +1,2 @@
-pub mod Opened
 pub mod Short
 pub mod Sent

@@ -1,20 +1,19 @@
 -- From what was written to what serve sends. Assumes nothing.
 use Prim.Native.Nat.{ℕ, _≤_}
-use mathlib.Core.Bool.{Bool, true, false, not, _||_}
-use mathlib.Core.List.{List, []}
+use mathlib.Core.Bool.{_||_}
+use mathlib.Core.List.{List}
 use mathlib.Core.Path.{_≡_, refl, sym, ap, _∙_}
 use native.Mathlib.Omega.{arith}
 use lib.Dec.{eqb, ltb}
 use lib.ListN.{length}
 use borrow.Author.Tests.{ltb-false}
 use Rattle.kinds.specs.declared.call.CallHeader.{CallHeader}
-use Rattle.spec.specs.Bytes.{overlay}
-use Rattle.spec.specs.Checked.{Checked, refused, passed, _>>_, refuseIf}
+use Rattle.spec.specs.Checked.{Checked, refused, passed}
 use Rattle.spec.specs.Image.{Store}
 use Rattle.spec.specs.Replies.{resultBytes}
-use Rattle.spec.specs.Results.{Done, Result}
-use Rattle.spec.specs.Rpc.{Program, nfs, accepted, judge, mismatch}
-use Rattle.spec.specs.Serve.{Sent, finish}
+use Rattle.spec.specs.Results.{Done}
+use Rattle.spec.specs.Rpc.{Program, nfs, accepted, judge}
+use Rattle.spec.specs.Serve.{finish}
 use Rattle.spec.proofs.Count.{by-bool}
 use Rattle.results.specs.Meaning.{resultOf, Does}
 use Rattle.results.specs.declared.Reply.{Reply}

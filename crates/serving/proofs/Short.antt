@@ -1,12 +1,10 @@
 -- How long a reply is at most. Assumes nothing.
-use Prim.Native.Nat.{ℕ, _+_, _*_, _≤_}
+use Prim.Native.Nat.{ℕ, _+_, _≤_}
 use mathlib.Core.List.{List, [], _∷_, _++_}
-use mathlib.Core.Bool.{true, false}
-use mathlib.Core.Path.{_≡_, refl, ap, sym, _∙_}
+use mathlib.Core.Path.{_≡_, refl}
 use native.Mathlib.Omega.{arith}
 use lib.Dec.{eqb, lit≤}
-use lib.ListN.{length, getD, take, replicate, length-append, length-replicate}
-use Rattle.kinds.specs.Numbers.{zeroWords}
+use lib.ListN.{length, take, length-append, length-replicate}
 use Rattle.spec.specs.Bytes.{bytesOf, words, opaqueBytes}
 use Rattle.spec.specs.Edits.{readFile}
 use Rattle.spec.specs.Image.{Store}

@@ -1,3 +1,129 @@
-// What the call entry is made of: the tests before anything is written, and the reply.
-pub mod opening; // the tests before anything is written
-pub mod responding; // the reply
+// The reply to a call, written once every test has passed.
+ghost use Prim.Native.Nat.{_≤_};
+ghost use lib.ListN.{length};
+ghost use Rattle.spec.specs.Arguments.{arguments};
+ghost use Rattle.spec.specs.Procedures.{act};
+ghost use Rattle.spec.specs.Room.{freeBlockCount};
+ghost use Rattle.spec.specs.Rpc.{nfs, accepted, judge, mismatch};
+ghost use Rattle.spec.specs.Serve.{finish, perform, answer, respond};
+ghost use Rattle.spec.proofs.ArgumentRange.{FitsArguments};
+ghost use Rattle.spec.proofs.Arguments.{Within};
+ghost use Rattle.xdr.specs.Wrote.{Wrote};
+ghost use Rattle.changes.specs.Ready.{Ready};
+ghost use Rattle.serving.specs.Sends.{Sends};
+use args::arguments;
+use args::reading::ArgumentsRead;
+use kinds::call::Arguments;
+use kinds::call::CallHeader;
+use kinds::call::Cursor;
+use kinds::call::Header;
+use kinds::numbers::Message;
+use kinds::object::Context;
+use procedures::run::run;
+use replies::result::put_result;
+use rpc::outcome::Judged;
+use rpc::outcome::Program;
+use rpc::outcome::judge;
+use rpc::outcome::put_denied;
+use rpc::outcome::put_stopped;
+
+// The reply to a call whose procedure does not run.
+fn stop(reply: &mut [u8], xid: u32, stat: u32) -> u32
+    requires { ⌜ 4224 ≤ length (now reply) ⌝ }
+    ensures { λ n. ⌜ Wrote n (now (reply .entry)) (now (reply .exit)) 0 n (accepted xid stat (mismatch nfs stat)) ⌝ }
+{
+    let next = put_stopped(reply, Program::nfs(), xid, stat);
+    next as u32
+}
+
+// Runs a procedure, and writes its reply.
+fn finish(
+    store: &mut [u8],
+    reply: &mut [u8],
+    used: &[u8; 1024],
+    context: Context,
+    call: &[u8],
+    h: CallHeader,
+    a: Arguments,
+) -> u32
+    requires { ⌜ 4224 ≤ length (now reply) ⌝ }
+    requires { ⌜ Ready (now store) (now used) (freeBlockCount (now store)) context ⌝ }
+    requires { ⌜ h .procedure ≤ 21 ⌝ }
+    requires { ⌜ Within (length (now call)) a ⌝ }
+    requires { ⌜ FitsArguments a ⌝ }
+    ensures { λ n. ⌜ Sends (finish h (act (now (store .entry)) context (now (call .entry)) a)) n (now (reply .entry)) (now (reply .exit)) (now (store .exit)) ⌝ }
+{
+    let procedure = h.procedure;
+    let xid = h.xid;
+    let r = run(store, used, context, call, a);
+    let next = put_result(reply, store, procedure, xid, r);
+    next as u32
+}
+
+// Reads the arguments of a procedure, and runs it where they are of its type.
+fn perform(
+    store: &mut [u8],
+    reply: &mut [u8],
+    used: &[u8; 1024],
+    context: Context,
+    call: &[u8],
+    h: CallHeader,
+    c: Cursor,
+) -> u32
+    requires { ⌜ 4224 ≤ length (now reply) ⌝ }
+    requires { ⌜ Ready (now store) (now used) (freeBlockCount (now store)) context ⌝ }
+    requires { ⌜ h .procedure ≤ 21 ⌝ }
+    ensures { λ n. ⌜ Sends (perform (now (store .entry)) context (now (call .entry)) h (arguments (h .procedure) (now (call .entry)) (c .at))) n (now (reply .entry)) (now (reply .exit)) (now (store .exit)) ⌝ }
+{
+    let xid = h.xid;
+    let read = arguments(call, c, h.procedure);
+    match read {
+        ArgumentsRead::Got(a, _) => finish(store, reply, used, context, call, h, a),
+        ArgumentsRead::Bad(_) => stop(reply, xid, Message::GARBAGE_ARGS),
+    }
+}
+
+// Answers a call of RPC version 2.
+fn answer(
+    store: &mut [u8],
+    reply: &mut [u8],
+    used: &[u8; 1024],
+    context: Context,
+    call: &[u8],
+    h: CallHeader,
+    c: Cursor,
+) -> u32
+    requires { ⌜ 4224 ≤ length (now reply) ⌝ }
+    requires { ⌜ Ready (now store) (now used) (freeBlockCount (now store)) context ⌝ }
+    ensures { λ n. ⌜ Sends (answer (now (store .entry)) context (now (call .entry)) h (c .at) (judge nfs h)) n (now (reply .entry)) (now (reply .exit)) (now (store .exit)) ⌝ }
+{
+    let xid = h.xid;
+    let judged = judge(Program::nfs(), h);
+    match judged {
+        Judged::Runs => perform(store, reply, used, context, call, h, c),
+        Judged::Stopped(stat) => stop(reply, xid, stat),
+    }
+}
+
+// Answers a call by its header, which ends at c: the reply's length.
+pub fn respond(
+    store: &mut [u8],
+    reply: &mut [u8],
+    used: &[u8; 1024],
+    context: Context,
+    call: &[u8],
+    h: Header,
+    c: Cursor,
+) -> u32
+    requires { ⌜ 4224 ≤ length (now reply) ⌝ }
+    requires { ⌜ Ready (now store) (now used) (freeBlockCount (now store)) context ⌝ }
+    ensures { λ n. ⌜ Sends (respond (now (store .entry)) context (now (call .entry)) h (c .at)) n (now (reply .entry)) (now (reply .exit)) (now (store .exit)) ⌝ }
+{
+    match h {
+        Header::Call(header) => answer(store, reply, used, context, call, header, c),
+        Header::OtherVersion(xid) => {
+            let next = put_denied(reply, xid);
+            next as u32
+        }
+    }
+}

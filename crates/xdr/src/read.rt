@@ -1,28 +1,18 @@
-// Reads one XDR field of a call at a cursor, and answers its value with the cursor after it, or the place of the refusal.
+// Reads one XDR field of a call at a cursor, by the reader that borrows the call, and answers its value with the cursor after it, or the place of the refusal.
 ghost use mathlib.Core.Path.{_≡_};
 ghost use Prim.Native.Nat.{_+_, _≤_};
 ghost use lib.ListN.{length};
-ghost use lib.Dec.{leb, eqb};
+ghost use lib.Dec.{eqb};
 ghost use Rattle.kinds.specs.Reading.{wordOf, longOf, flagOf, partOf, skipOf};
 ghost use Rattle.spec.specs.Bytes.{beAt, padding};
 ghost use Rattle.spec.specs.Xdr.{word, long, choice, flag, bytes, pad, opaque, end};
 use kinds::call::Cursor;
-use kinds::call::Part;
 use kinds::reading::FlagRead;
 use kinds::reading::LongRead;
 use kinds::reading::PartRead;
 use kinds::reading::SkipRead;
 use kinds::reading::WordRead;
-
-// Whether n bytes stand at a position.
-fn holds(s: &[u8], at: usize, n: usize) -> bool
-    ensures { λ r. ⌜ r ≡ leb (at + n) (length (now (s .entry))) ⌝ }
-{
-    if s.len() < at {
-        return false;
-    }
-    s.len() - at >= n
-}
+use reader::field_of;
 
 // Whether the n bytes from `at` are zero.
 fn all_zero(s: &[u8], at: usize, n: usize) -> bool
@@ -51,11 +41,11 @@ pub fn word(s: &[u8], c: Cursor) -> WordRead
     ensures { λ r. ⌜ wordOf r ≡ word (now (s .entry)) (c .at) ⌝ }
 {
     let at = c.at;
-    if holds(s, at, 4) {
-        WordRead::Got(wire::get_u32(s, at), Cursor { at: at + 4 })
-    } else {
-        WordRead::Bad(at)
-    }
+    let answer = field_of(s, at, 4);
+    let PartRead::Got(_, next) = answer else {
+        return WordRead::Bad(answer.place());
+    };
+    WordRead::Got(wire::get_u32(s, at), next)
 }
 
 // An unsigned hyper, or 8 bytes of fixed-length opaque data as a number.
@@ -63,11 +53,11 @@ pub fn long(s: &[u8], c: Cursor) -> LongRead
     ensures { λ r. ⌜ longOf r ≡ long (now (s .entry)) (c .at) ⌝ }
 {
     let at = c.at;
-    if holds(s, at, 8) {
-        LongRead::Got(wire::get_u64(s, at), Cursor { at: at + 8 })
-    } else {
-        LongRead::Bad(at)
-    }
+    let answer = field_of(s, at, 8);
+    let PartRead::Got(_, next) = answer else {
+        return LongRead::Bad(answer.place());
+    };
+    LongRead::Got(wire::get_u64(s, at), next)
 }
 
 // An enumeration of the numbers 0 to `top`.
@@ -100,17 +90,7 @@ pub fn bytes(s: &[u8], c: Cursor, n: usize) -> PartRead
     ensures { λ r. ⌜ partOf r ≡ bytes n (now (s .entry)) (c .at) ⌝ }
 {
     let at = c.at;
-    if holds(s, at, n) {
-        PartRead::Got(
-            Part {
-                start: at,
-                length: n,
-            },
-            Cursor { at: at + n },
-        )
-    } else {
-        PartRead::Bad(at)
-    }
+    field_of(s, at, n)
 }
 
 // n bytes of padding, each of them zero.
@@ -118,15 +98,14 @@ pub fn pad(s: &[u8], c: Cursor, n: usize) -> SkipRead
     ensures { λ r. ⌜ skipOf r ≡ pad n (now (s .entry)) (c .at) ⌝ }
 {
     let at = c.at;
-    if holds(s, at, n) {
-        let next = at + n;
-        if all_zero(s, at, n) {
-            SkipRead::Got(Cursor { at: next })
-        } else {
-            SkipRead::Bad(next)
-        }
+    let answer = field_of(s, at, n);
+    let PartRead::Got(_, next) = answer else {
+        return SkipRead::Bad(answer.place());
+    };
+    if all_zero(s, at, n) {
+        SkipRead::Got(next)
     } else {
-        SkipRead::Bad(at)
+        SkipRead::Bad(next.at)
     }
 }
 

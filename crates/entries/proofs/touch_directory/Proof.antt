@@ -12,7 +12,7 @@ same-length : tie.Need-same-length
 same-length c = search needs
 
 returns : tie.Need-returns
-returns c = cc
+returns c = rw (c .before .before .set-attributes .ensures, c .before .before .before .mtime-and-ctime .ensures)
 
 pub touch-directory-spec : {M : Type 1} → statement M
 touch-directory-spec =

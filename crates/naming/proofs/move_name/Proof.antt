@@ -21,7 +21,7 @@ same-length c = search needs
 
 returns : tie.Need-returns
 unfolding moveName
-returns c = cc
+returns c = rw (c .before .before .save-name .ensures, c .before .before .before .before .name-child .ensures)
 
 pub move-name-spec : {M : Type 1} → statement M
 move-name-spec = tie.close (tie.spec name-child-requires save-name-requires same-length returns)

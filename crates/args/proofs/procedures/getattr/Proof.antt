@@ -17,10 +17,13 @@ place-requires c κs = search needs
 returns : tie.Need-returns
 returns c = rw (c .place .ensures, ← c .before .before .before .handle .ensures, c .before .enum-told .given .1)
 
+finish-requires : tie.Need-finish-requires
+finish-requires c κs = search needs
+
 returns-2 : tie.Need-returns-2
-returns-2 c = rw (← c .before .before .before .handle .ensures, c .before .answer .given .1)
+returns-2 c = rw (c .finish .ensures, ← c .before .before .before .before .handle .ensures, c .before .before .answer .given .1)
 
 pub getattr-spec : {M : Type 1} → statement M
 getattr-spec =
     tie.close
-    (tie.spec handle-requires enum-known-answer enum-told place-requires returns returns-2)
+    (tie.spec handle-requires enum-known-answer enum-told place-requires returns finish-requires returns-2)

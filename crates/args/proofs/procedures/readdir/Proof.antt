@@ -67,9 +67,12 @@ returns-4 : tie.Need-returns-4
 unfolding readdirArguments
 returns-4 c = rw (c .place4 .ensures, ← c .before .before .before .before .before .before .before .before .before .before .before .before .before .before .before .handle .ensures, c .before .before .before .before .before .before .before .before .before .before .before .before .before .answer .given .1, ← c .before .before .before .before .before .before .before .before .before .before .before .long .ensures, c .before .before .before .before .before .before .before .before .before .answer2 .given .1, ← c .before .before .before .before .before .before .before .long2 .ensures, c .before .before .before .before .before .answer3 .given .1, ← c .before .before .before .word .ensures, c .before .enum-told4 .given .1)
 
+finish-requires : tie.Need-finish-requires
+finish-requires c κs = search needs
+
 returns-5 : tie.Need-returns-5
 unfolding readdirArguments
-returns-5 c = rw (← c .before .before .before .before .before .before .before .before .before .before .before .before .before .before .before .handle .ensures, c .before .before .before .before .before .before .before .before .before .before .before .before .before .answer .given .1, ← c .before .before .before .before .before .before .before .before .before .before .before .long .ensures, c .before .before .before .before .before .before .before .before .before .answer2 .given .1, ← c .before .before .before .before .before .before .before .long2 .ensures, c .before .before .before .before .before .answer3 .given .1, ← c .before .before .before .word .ensures, c .before .answer4 .given .1)
+returns-5 c = rw (c .finish .ensures, ← c .before .before .before .before .before .before .before .before .before .before .before .before .before .before .before .before .handle .ensures, c .before .before .before .before .before .before .before .before .before .before .before .before .before .before .answer .given .1, ← c .before .before .before .before .before .before .before .before .before .before .before .before .long .ensures, c .before .before .before .before .before .before .before .before .before .before .answer2 .given .1, ← c .before .before .before .before .before .before .before .before .long2 .ensures, c .before .before .before .before .before .before .answer3 .given .1, ← c .before .before .before .before .word .ensures, c .before .before .answer4 .given .1)
 
 pub readdir-spec : {M : Type 1} → statement M
 readdir-spec =
@@ -95,4 +98,5 @@ readdir-spec =
     enum-told-4
     place-requires-4
     returns-4
+    finish-requires
     returns-5)

@@ -83,9 +83,12 @@ returns-5 : tie.Need-returns-5
 unfolding writeArguments
 returns-5 c = rw (c .place5 .ensures, ← c .before .before .before .before .before .before .before .before .before .before .before .before .before .before .before .before .before .before .before .handle .ensures, c .before .before .before .before .before .before .before .before .before .before .before .before .before .before .before .before .before .answer .given .1, ← c .before .before .before .before .before .before .before .before .before .before .before .before .before .before .before .long .ensures, c .before .before .before .before .before .before .before .before .before .before .before .before .before .answer2 .given .1, ← c .before .before .before .before .before .before .before .before .before .before .before .word .ensures, c .before .before .before .before .before .before .before .before .before .answer3 .given .1, ← c .before .before .before .before .before .before .before .choice .ensures, c .before .before .before .before .before .answer4 .given .1, ← c .before .before .before .unbounded .ensures, c .before .enum-told5 .given .1)
 
+finish-requires : tie.Need-finish-requires
+finish-requires c κs = search needs
+
 returns-6 : tie.Need-returns-6
 unfolding writeArguments
-returns-6 c = rw (← c .before .before .before .before .before .before .before .before .before .before .before .before .before .before .before .before .before .before .before .handle .ensures, c .before .before .before .before .before .before .before .before .before .before .before .before .before .before .before .before .before .answer .given .1, ← c .before .before .before .before .before .before .before .before .before .before .before .before .before .before .before .long .ensures, c .before .before .before .before .before .before .before .before .before .before .before .before .before .answer2 .given .1, ← c .before .before .before .before .before .before .before .before .before .before .before .word .ensures, c .before .before .before .before .before .before .before .before .before .answer3 .given .1, ← c .before .before .before .before .before .before .before .choice .ensures, c .before .before .before .before .before .answer4 .given .1, ← c .before .before .before .unbounded .ensures, c .before .answer5 .given .1)
+returns-6 c = rw (c .finish .ensures, ← c .before .before .before .before .before .before .before .before .before .before .before .before .before .before .before .before .before .before .before .before .handle .ensures, c .before .before .before .before .before .before .before .before .before .before .before .before .before .before .before .before .before .before .answer .given .1, ← c .before .before .before .before .before .before .before .before .before .before .before .before .before .before .before .before .long .ensures, c .before .before .before .before .before .before .before .before .before .before .before .before .before .before .answer2 .given .1, ← c .before .before .before .before .before .before .before .before .before .before .before .before .word .ensures, c .before .before .before .before .before .before .before .before .before .before .answer3 .given .1, ← c .before .before .before .before .before .before .before .before .choice .ensures, c .before .before .before .before .before .before .answer4 .given .1, ← c .before .before .before .before .unbounded .ensures, c .before .before .answer5 .given .1)
 
 pub write-spec : {M : Type 1} → statement M
 write-spec =
@@ -116,4 +119,5 @@ write-spec =
     enum-told-5
     place-requires-5
     returns-5
+    finish-requires
     returns-6)

@@ -4,7 +4,7 @@ use Rattle.spec.specs.Procedures.Names.{create}
 use Rattle.spec.specs.Procedures.{cut}
 use Rattle.spec.proofs.GoodRecords.{valid-records}
 use Rattle.spec.proofs.Passed.{create-passed}
-use Rattle.making.specs.Meaning.{createOf}
+use Rattle.creating.specs.Meaning.{createOf}
 use Rattle.changes.proofs.Makable.{create-makable, create-sizable}
 use Rattle.changes.proofs.names.create.Statement.{statement}
 use Rattle.changes.proofs.names.create.Tie as tie

@@ -25,13 +25,15 @@ returns c =
     sym (ap (resize s o) same ∙ resize-same s o (st .pre .0) (st .pre .1 .1 .0) (st .pre .1 .1 .1 .0) (λ k. c .before .before .before .slice-known .given k .fits))
 
 shrink-requires : tie.Need-shrink-requires
-shrink-requires c κs = search needs
+shrink-requires c κs =
+    let p = c .before .before .before .before .before .before .pre in
+    (p .0, (p .1 .1 .0, (p .1 .1 .1 .0, omega (arith, c .before .before .before .size-of .ensures, c .before .if2 .taken))))
 
 same-length-2 : tie.Need-same-length-2
 same-length-2 c = search needs
 
 returns-2 : tie.Need-returns-2
-returns-2 c = search needs
+returns-2 c = c .before .before .shrink .ensures
 
 grow-requires : tie.Need-grow-requires
 grow-requires c κs =
@@ -42,7 +44,7 @@ same-length-3 : tie.Need-same-length-3
 same-length-3 c = search needs
 
 returns-3 : tie.Need-returns-3
-returns-3 c = search needs
+returns-3 c = c .before .before .grow .ensures
 
 pub resize-spec : {M : Type 1} → statement M
 resize-spec =

@@ -12,7 +12,7 @@ clear-parents-requires c κs = search needs
 names-pass-requires : tie.Need-names-pass-requires
 names-pass-requires c κs =
     let st = c .before .before .before .before .before .before in
-    (st .pre .0, (st .pre .1 .0, (st .pre .1 .1, (c .before .before .before .clear-parents .ensures, (blank-of 256, blank-of 128)))))
+    (st .pre .0, (st .pre .1 .0, (st .pre .1 .1 .0, (c .before .before .before .clear-parents .ensures, (blank-of 256, (blank-of 128, st .pre .1 .1 .1))))))
 
 returns : tie.Need-returns
 returns c = told-false (c .before .names-pass .ensures .no (not-true _ (c .if1 .taken)))
@@ -21,16 +21,21 @@ tree-passes-requires : tie.Need-tree-passes-requires
 tree-passes-requires c κs =
     let st = c .before .before .before .before .before .before .before .before .before .before in
     let f = c .before .before .before .names-pass .ensures .yes (not-false _ (c .before .before .if1 .left)) in
-    (st .pre .0, (st .pre .1 .0, (rw (st .pre .1 .1) at (f .named), blank-of 64)))
+    (st .pre .0, (st .pre .1 .0, (rw (st .pre .1 .1 .0) at (f .named), blank-of 64)))
 
 returns-2 : tie.Need-returns-2
 returns-2 c =
     let st = c .before .before .before .before .before .before .before .before .before .before .before in
     let s = st .args .store .now in
-    let f = rw (st .pre .1 .1) at (c .before .before .before .before .names-pass .ensures .yes (not-false _ (c .before .before .before .if1 .left))) in
+    let f = rw (st .pre .1 .1 .0) at (c .before .before .before .before .names-pass .ensures .yes (not-false _ (c .before .before .before .if1 .left))) in
     record { yes = λ e. rest-by s (st .args .p) _ _ _ _ (st .pre .0) (st .pre .1 .0) f (c .tree-passes .ensures .yes e); no = λ e. c .tree-passes .ensures .no e }
 
 pub names-and-tree-spec : {M : Type 1} → statement M
 names-and-tree-spec =
     tie.close
-    (tie.spec clear-parents-requires names-pass-requires returns tree-passes-requires returns-2)
+    (tie.spec
+    clear-parents-requires
+    names-pass-requires
+    returns
+    tree-passes-requires
+    returns-2)

@@ -1,109 +1,84 @@
+use native.Mathlib.Omega.{arith}
+use borrow.Author.Tests.{leb-true}
 use mathlib.Core.Path.{sym, ap, _∙_}
 use Prim.Native.Nat.{ℕ}
 use Rattle.spec.specs.Room.{above}
-use Rattle.fsck_objects.proofs.Passes.{told-true, told-false, fails-leads}
-use Rattle.fsck_objects.proofs.Whole.{live-yes, live-no}
-use Rattle.fsck_names.proofs.Parents.{root-named, named-live, named-free, unnamed-fails}
-use Rattle.fsck.proofs.Steps.{below-p, parents-by, above-root, depth-most, leads-yes, leads-free, leads-no}
+use Rattle.fsck_objects.proofs.Passes.{told-true}
+use Rattle.fsck_names.proofs.Parents.{named-live}
+use Rattle.fsck.proofs.Steps.{positive, below-p, parents-by, leads-yes, marked-other, depth-next, known-set, depth-most}
 use borrow.Author.Needs.{needs}
 use Rattle.fsck.proofs.tree.leads.Statement.{statement}
 use Rattle.fsck.proofs.tree.leads.Tie as tie
 
-returns : tie.Need-returns
-returns c =
-    let st = c .before .before in
-    let a = st .args in
-    let s = a .store .now in
-    let m = parents-by s (a .p) (a .parents .now) (st .pre .0) (st .pre .1 .0) (st .pre .1 .1 .0) in
-    let h = below-p (a .o) (a .p) _ (st .pre .1 .0) (st .pre .1 .1 .1 .1) in
-    told-true (record {
-      known = st .pre .1 .1 .1 .0;
-      named = rw (c .if1 .taken) (root-named s (st .pre .0) (a .parents .now) (st .pre .1 .1 .0));
-      leads = rw (c .if1 .taken) (leads-yes s 0 (rw (← st .pre .1 .0) (above-root s (a .p) (a .parents .now) m)));
-    })
+element-copy-out-index : tie.Need-element-copy-out-index
+element-copy-out-index c = search needs
 
-kind-of-requires : tie.Need-kind-of-requires
-kind-of-requires c κs = search needs
+index-requires : tie.Need-index-requires
+index-requires c κs = search needs
 
-returns-2 : tie.Need-returns-2
-returns-2 c =
+sub-index : tie.Need-sub-index
+sub-index c = positive _ (c .if1 .taken)
+
+element-copy-out-index-2 : tie.Need-element-copy-out-index-2
+element-copy-out-index-2 c =
     let st = c .before .before .before .before in
     let a = st .args in
     let s = a .store .now in
     let m = parents-by s (a .p) (a .parents .now) (st .pre .0) (st .pre .1 .0) (st .pre .1 .1 .0) in
+    omega (arith, m .range (a .o), m .most, c .before .index .ensures .0, positive _ (c .if1 .taken))
+
+index-requires-2 : tie.Need-index-requires-2
+index-requires-2 c κs = search needs
+
+add-depths : tie.Need-add-depths
+add-depths c = search needs
+
+cast-depths : tie.Need-cast-depths
+cast-depths c =
+    let st = c .before .before .before .before .before .before .before .before in
+    let a = st .args in
+    let s = a .store .now in
+    let m = parents-by s (a .p) (a .parents .now) (st .pre .0) (st .pre .1 .0) (st .pre .1 .1 .0) in
+    omega (arith, m .most, leb-true (c .before .before .index2 .result) (a .p) (c .if3 .taken))
+
+element-write-depths : tie.Need-element-write-depths
+element-write-depths c = search needs
+
+returns : tie.Need-returns
+returns c =
+    let st = c .before .before .before .before .before .before .before .before in
+    let a = st .args in
+    let s = a .store .now in
+    let m = parents-by s (a .p) (a .parents .now) (st .pre .0) (st .pre .1 .0) (st .pre .1 .1 .0) in
     let h = below-p (a .o) (a .p) _ (st .pre .1 .0) (st .pre .1 .1 .1 .1) in
-    let f = live-no s (a .o) (sym (c .before .kind-of .ensures) ∙ c .if2 .taken) in
+    let mark = c .before .before .before .before .before .index .ensures .0 in
+    let z = marked-other s (a .p) (a .parents .now) m (a .o) (c .before .before .before .before .before .index .result) mark (c .before .before .before .before .if1 .taken) in
+    let d = depth-next s (a .p) (a .parents .now) m (a .depths .now) (st .pre .1 .1 .1 .0) (a .o) (c .before .before .before .before .before .index .result) (c .before .before .index2 .result) (st .pre .1 .1 .1 .1) mark (c .before .before .before .before .if1 .taken) (c .before .before .index2 .ensures .0) (c .before .if2 .taken) in
+    let e = depth-most s (a .p) (a .parents .now) m (a .o) (c .before .before .index2 .result) d (leb-true (c .before .before .index2 .result) (a .p) (c .if3 .taken)) in
     told-true (record {
-      known = st .pre .1 .1 .1 .0;
-      named = named-free s (st .pre .0) (a .parents .now) (st .pre .1 .1 .0) (a .o) (c .before .before .if1 .left) f;
-      leads = leads-free s (a .o) f;
-    })
-
-element-copy-out-if3 : tie.Need-element-copy-out-if3
-element-copy-out-if3 c = search needs
-
-returns-3 : tie.Need-returns-3
-returns-3 c =
-    let st = c .before .before .before .before .before .before in
-    let a = st .args in
-    let s = a .store .now in
-    let m = parents-by s (a .p) (a .parents .now) (st .pre .0) (st .pre .1 .0) (st .pre .1 .1 .0) in
-    let h = below-p (a .o) (a .p) _ (st .pre .1 .0) (st .pre .1 .1 .1 .1) in
-    told-false (unnamed-fails s (st .pre .0) (a .parents .now) (st .pre .1 .1 .0) (a .o) h (c .before .before .before .before .if1 .left) (live-yes s (a .o) (λ e. c .before .before .if2 .left (c .before .before .before .kind-of .ensures ∙ e))) (c .if3 .taken))
-
-steps-requires : tie.Need-steps-requires
-steps-requires c κs =
-    let st = c .before .before .before .before .before .before .before in
-    let a = st .args in
-    let s = a .store .now in
-    let m = parents-by s (a .p) (a .parents .now) (st .pre .0) (st .pre .1 .0) (st .pre .1 .1 .0) in
-    let h = below-p (a .o) (a .p) _ (st .pre .1 .0) (st .pre .1 .1 .1 .1) in
-    (m, (st .pre .1 .1 .1 .0, st .pre .1 .1 .1 .1))
-
-returns-4 : tie.Need-returns-4
-returns-4 c =
-    let st = c .before .before .before .before .before .before .before .before .before in
-    let a = st .args in
-    let s = a .store .now in
-    let m = parents-by s (a .p) (a .parents .now) (st .pre .0) (st .pre .1 .0) (st .pre .1 .1 .0) in
-    let h = below-p (a .o) (a .p) _ (st .pre .1 .0) (st .pre .1 .1 .1 .1) in
-    let v = live-yes s (a .o) (λ e. c .before .before .before .before .before .if2 .left (c .before .before .before .before .before .before .kind-of .ensures ∙ e)) in
-    told-false (fails-leads s (a .o) h (leads-no s (a .o) v (λ e. c .before .steps .ensures .lost (c .if4 .taken) (ap (λ (n : ℕ). above s n (a .o)) (st .pre .1 .0) ∙ e))))
-
-note-steps-requires : tie.Need-note-steps-requires
-note-steps-requires c κs =
-    let st = c .before .before .before .before .before .before .before .before .before .before in
-    let a = st .args in
-    let s = a .store .now in
-    let m = parents-by s (a .p) (a .parents .now) (st .pre .0) (st .pre .1 .0) (st .pre .1 .1 .0) in
-    let h = below-p (a .o) (a .p) _ (st .pre .1 .0) (st .pre .1 .1 .1 .1) in
-    (m, (st .pre .1 .1 .1 .0, (st .pre .1 .1 .1 .1, (c .before .if4 .left, c .before .before .steps .ensures .found (c .before .if4 .left)))))
-
-returns-5 : tie.Need-returns-5
-returns-5 c =
-    let st = c .before .before .before .before .before .before .before .before .before .before .before in
-    let a = st .args in
-    let s = a .store .now in
-    let m = parents-by s (a .p) (a .parents .now) (st .pre .0) (st .pre .1 .0) (st .pre .1 .1 .0) in
-    let h = below-p (a .o) (a .p) _ (st .pre .1 .0) (st .pre .1 .1 .1 .1) in
-    let d = c .before .before .before .steps .ensures .found (c .before .before .if4 .left) in
-    let e = depth-most s (a .p) (a .parents .now) m (a .o) (c .before .before .before .steps .result) d (c .before .before .if4 .left) in
-    told-true (record {
-      known = c .note-steps .ensures;
-      named = named-live s (st .pre .0) (a .parents .now) (st .pre .1 .1 .0) (a .o) h (c .before .before .before .before .before .before .before .before .before .if1 .left) (c .before .before .before .before .before .if3 .left);
+      known = known-set s (a .p) (a .parents .now) m (a .depths .now) (st .pre .1 .1 .1 .0) (a .o) (c .before .before .index2 .result) (st .pre .1 .1 .1 .1) z d;
+      named = named-live s (st .pre .0) (a .parents .now) (st .pre .1 .1 .0) (a .o) h z (λ q. c .before .before .before .before .if1 .taken (mark ∙ q));
       leads = leads-yes s (a .o) (ap (λ (n : ℕ). above s n (a .o)) (sym (st .pre .1 .0)) ∙ e);
     })
+
+leads-by-steps-requires : tie.Need-leads-by-steps-requires
+leads-by-steps-requires c κs = c .before .before .before .before .before .pre
+
+returns-2 : tie.Need-returns-2
+returns-2 c = c .leads-by-steps .ensures
 
 pub leads-spec : {M : Type 1} → statement M
 leads-spec =
     tie.close
     (tie.spec
+    element-copy-out-index
+    index-requires
+    sub-index
+    element-copy-out-index-2
+    index-requires-2
+    add-depths
+    cast-depths
+    element-write-depths
     returns
-    kind-of-requires
-    returns-2
-    element-copy-out-if3
-    returns-3
-    steps-requires
-    returns-4
-    note-steps-requires
-    returns-5)
+    leads-by-steps-requires
+    returns-2)

@@ -14,7 +14,9 @@ length-of-requires : tie.Need-length-of-requires
 length-of-requires c κs = search needs
 
 record-passes-requires : tie.Need-record-passes-requires
-record-passes-requires c κs = search needs
+record-passes-requires c κs =
+    let st = c .before .before in
+    (st .pre .0, (st .pre .1 .0, (st .pre .1 .1 .0, (c .length-of .ensures, st .pre .1 .1 .1 .1))))
 
 returns : tie.Need-returns
 returns c =
@@ -27,7 +29,7 @@ returns-2 c =
     let a = st .args in
     let s = a .store .now in
     let g = sym (c .before .before .record-passes .ensures) ∙ not-false _ (c .before .if1 .left) in
-    told-true (names-free s (a .n) (a .parents .now) (a .head .now) (a .next .now) (st .pre .1 .1 .1) g (used-no s (a .n) (sym (c .before .before .before .length-of .ensures) ∙ c .if2 .taken)))
+    told-true (names-free s (a .n) (a .parents .now) (a .head .now) (a .next .now) (st .pre .1 .1 .1 .0) g (used-no s (a .n) (sym (c .before .before .before .length-of .ensures) ∙ c .if2 .taken)))
 
 mark-child-requires : tie.Need-mark-child-requires
 mark-child-requires c κs =
@@ -36,7 +38,7 @@ mark-child-requires c κs =
     let s = a .store .now in
     let g = sym (c .before .before .before .record-passes .ensures) ∙ not-false _ (c .before .before .if1 .left) in
     let u = used-yes s (a .n) (λ e. c .before .if2 .left (c .before .before .before .before .length-of .ensures ∙ e)) in
-    (st .pre .0, (st .pre .1 .0, (st .pre .1 .1 .0, (u, (record-used s (a .n) u g, st .pre .1 .1 .1 .named)))))
+    (st .pre .0, (st .pre .1 .0, (st .pre .1 .1 .0, (u, (record-used s (a .n) u g, st .pre .1 .1 .1 .0 .named)))))
 
 returns-3 : tie.Need-returns-3
 returns-3 c = told-false (c .before .mark-child .ensures .no (not-true _ (c .if3 .taken)))
@@ -55,11 +57,11 @@ is-new-requires c κs =
       below = st .pre .1 .1 .0;
       used = u;
       good = g;
-      before = st .pre .1 .1 .1 .good;
+      before = st .pre .1 .1 .1 .0 .good;
       hashed = c .before .before .hash-of .ensures .0;
       small = c .before .before .hash-of .ensures .1;
     } in
-    (st .pre .0, (st .pre .1 .0, (w, st .pre .1 .1 .1 .chains)))
+    (st .pre .0, (st .pre .1 .0, (w, st .pre .1 .1 .1 .0 .chains)))
 
 returns-4 : tie.Need-returns-4
 returns-4 c = told-false (c .before .is-new .ensures .no (not-true _ (c .if4 .taken)))
@@ -77,8 +79,8 @@ returns-5 c =
     let h = c .before .before .before .before .before .before .before .hash-of in
     let m = c .before .before .before .before .before .before .before .before .before .mark-child .ensures .yes (not-false _ (c .before .before .before .before .before .before .before .before .if3 .left)) in
     let f = c .before .before .before .before .is-new .ensures .yes (not-false _ (c .before .before .before .if4 .left)) in
-    let k = chains-used s (a .n) (a .head .now) (a .next .now) (st .pre .1 .1 .1 .chains) (h .result) (h .ensures .0) (h .ensures .1) (omega (arith, st .pre .0 .few-names, st .pre .1 .1 .0)) u in
-    told-true (names-used s (a .n) (a .parents .now) (a .head .now) (a .next .now) _ _ _ (st .pre .1 .1 .1) g f (rw (c .put-first .ensures .0, c .put-first .ensures .1) k) m)
+    let k = chains-used s (a .n) (a .head .now) (a .next .now) (st .pre .1 .1 .1 .0 .chains) (h .result) (h .ensures .0) (h .ensures .1) (omega (arith, st .pre .0 .few-names, st .pre .1 .1 .0)) u in
+    told-true (names-used s (a .n) (a .parents .now) (a .head .now) (a .next .now) _ _ _ (st .pre .1 .1 .1 .0) g f (rw (c .put-first .ensures .0, c .put-first .ensures .1) k) m)
 
 pub name-passes-spec : {M : Type 1} → statement M
 name-passes-spec =

@@ -1,5 +1,5 @@
-use mathlib.Core.Path.{sym, _∙_}
 use native.Mathlib.Omega.{arith}
+use mathlib.Core.Path.{sym, _∙_}
 use Prim.Native.Nat.{_+_}
 use borrow.Author.Tests.{not-true, not-false}
 use Rattle.fsck_names.proofs.Joins.{used-is}
@@ -18,34 +18,20 @@ returns c =
     let e = used-is (a .store .now) (a .p) (a .n) (a .len) (c .before .name-start .result) (st .pre .1 .0) (st .pre .1 .1 .1 .0) (c .before .name-start .ensures) in
     sym (e ∙ rw (name-long _ (part-long (a .store .now) (c .before .name-start .result + 12) (a .len) (omega arith) (omega arith))))
 
-add-good-name : tie.Need-add-good-name
-add-good-name c = search needs
+add-good-text : tie.Need-add-good-text
+add-good-text c = search needs
 
-good-name-requires : tie.Need-good-name-requires
-good-name-requires c κs = search needs
+good-text-requires : tie.Need-good-text-requires
+good-text-requires c κs =
+    let st = c .before .before .before in
+    (omega arith, (omega arith, (omega arith, st .pre .1 .1 .1 .1 .1)))
 
 returns-2 : tie.Need-returns-2
 returns-2 c =
     let st = c .before .before .before .before .before in
     let a = st .args in
     let e = used-is (a .store .now) (a .p) (a .n) (a .len) (c .before .before .before .name-start .result) (st .pre .1 .0) (st .pre .1 .1 .1 .0) (c .before .before .before .name-start .ensures) in
-    sym (e ∙ rw (sym (c .before .good-name .ensures) ∙ not-true _ (c .if2 .taken)))
-
-add-is-zero : tie.Need-add-is-zero
-add-is-zero c = search needs
-
-add-is-zero-2 : tie.Need-add-is-zero-2
-add-is-zero-2 c = search needs
-
-is-zero-requires : tie.Need-is-zero-requires
-is-zero-requires c κs = search needs
-
-returns-3 : tie.Need-returns-3
-returns-3 c =
-    let st = c .before .before .before .before .before .before .before in
-    let a = st .args in
-    let e = used-is (a .store .now) (a .p) (a .n) (a .len) (c .before .before .before .before .before .name-start .result) (st .pre .1 .0) (st .pre .1 .1 .1 .0) (c .before .before .before .before .before .name-start .ensures) in
-    sym (e ∙ rw (sym (c .before .before .before .good-name .ensures) ∙ not-false _ (c .before .before .if2 .left), sym (c .before .is-zero .ensures) ∙ not-true _ (c .if3 .taken)))
+    sym (e ∙ rw (sym (c .before .good-text .ensures) ∙ not-true _ (c .if2 .taken)))
 
 get-u32-requires : tie.Need-get-u32-requires
 get-u32-requires c κs = search needs
@@ -56,16 +42,15 @@ cast-is-directory c = search needs
 is-directory-requires : tie.Need-is-directory-requires
 is-directory-requires c κs = search needs
 
-returns-4 : tie.Need-returns-4
-returns-4 c =
-    let st = c .before .before .before .before .before .before .before .before .before .before in
+returns-3 : tie.Need-returns-3
+returns-3 c =
+    let st = c .before .before .before .before .before .before .before .before in
     let a = st .args in
-    let e = used-is (a .store .now) (a .p) (a .n) (a .len) (c .before .before .before .before .before .before .before .before .name-start .result) (st .pre .1 .0) (st .pre .1 .1 .1 .0) (c .before .before .before .before .before .before .before .before .name-start .ensures) in
+    let e = used-is (a .store .now) (a .p) (a .n) (a .len) (c .before .before .before .before .before .before .name-start .result) (st .pre .1 .0) (st .pre .1 .1 .1 .0) (c .before .before .before .before .before .before .name-start .ensures) in
     sym (e ∙ rw (
-      sym (c .before .before .before .before .before .before .good-name .ensures) ∙ not-false _ (c .before .before .before .before .before .if2 .left),
-      sym (c .before .before .before .before .is-zero .ensures) ∙ not-false _ (c .before .before .before .if3 .left),
+      sym (c .before .before .before .before .good-text .ensures) ∙ not-false _ (c .before .before .before .if2 .left),
       ← c .before .before .get-u32 .ensures,
-      sym (c .before .is-directory .ensures) ∙ not-true _ (c .if4 .taken),
+      sym (c .before .is-directory .ensures) ∙ not-true _ (c .if3 .taken),
     ))
 
 add-get-u32 : tie.Need-add-get-u32
@@ -80,16 +65,15 @@ cast-is-live c = search needs
 is-live-requires : tie.Need-is-live-requires
 is-live-requires c κs = search needs
 
-returns-5 : tie.Need-returns-5
-returns-5 c =
-    let st = c .before .before .before .before .before .before .before .before .before .before .before .before in
+returns-4 : tie.Need-returns-4
+returns-4 c =
+    let st = c .before .before .before .before .before .before .before .before .before .before in
     let a = st .args in
-    let e = used-is (a .store .now) (a .p) (a .n) (a .len) (c .before .before .before .before .before .before .before .before .before .before .name-start .result) (st .pre .1 .0) (st .pre .1 .1 .1 .0) (c .before .before .before .before .before .before .before .before .before .before .name-start .ensures) in
+    let e = used-is (a .store .now) (a .p) (a .n) (a .len) (c .before .before .before .before .before .before .before .before .name-start .result) (st .pre .1 .0) (st .pre .1 .1 .1 .0) (c .before .before .before .before .before .before .before .before .name-start .ensures) in
     sym (e ∙ rw (
-      sym (c .before .before .before .before .before .before .before .before .good-name .ensures) ∙ not-false _ (c .before .before .before .before .before .before .before .if2 .left),
-      sym (c .before .before .before .before .before .before .is-zero .ensures) ∙ not-false _ (c .before .before .before .before .before .if3 .left),
+      sym (c .before .before .before .before .before .before .good-text .ensures) ∙ not-false _ (c .before .before .before .before .before .if2 .left),
       ← c .before .before .before .before .get-u32 .ensures,
-      sym (c .before .before .before .is-directory .ensures) ∙ not-false _ (c .before .before .if4 .left),
+      sym (c .before .before .before .is-directory .ensures) ∙ not-false _ (c .before .before .if3 .left),
       ← c .before .get-u322 .ensures,
       ← c .is-live .ensures,
     ))
@@ -100,19 +84,15 @@ good-used-spec =
     (tie.spec
     name-start-requires
     returns
-    add-good-name
-    good-name-requires
+    add-good-text
+    good-text-requires
     returns-2
-    add-is-zero
-    add-is-zero-2
-    is-zero-requires
-    returns-3
     get-u32-requires
     cast-is-directory
     is-directory-requires
-    returns-4
+    returns-3
     add-get-u32
     get-u32-requires-2
     cast-is-live
     is-live-requires
-    returns-5)
+    returns-4)

@@ -1,37 +1,49 @@
-use Rattle.fsck_objects.proofs.Passes.{told-true, told-false}
-use borrow.Author.Tests.{not-true, not-false}
+use native.Mathlib.Omega.{arith}
+use mathlib.Core.Path.{_≡_, refl, sym}
+use Prim.Native.Nat.{_-_, _*_, _≤_, zero-le}
+use mathlib.Core.Bool.{true}
 use Rattle.spec.specs.Count.{every}
 use Rattle.spec.proofs.Count.{every-more}
 use Rattle.spec.specs.Check.{goodObject}
-use Rattle.fsck_objects.specs.Objects.{ObjectsPass}
-use Rattle.fsck_objects.proofs.Marks.{mark-none}
+use Rattle.fsck_objects.specs.Objects.{MarkedBy}
+use Rattle.fsck_objects.proofs.Passes.{told-false}
+use Rattle.fsck_objects.proofs.Whole.{told-all}
+use Rattle.fsck_objects.proofs.Marks.{mark-none, marks-are, placesBelow, places-none, places-next}
 use borrow.Author.Needs.{needs}
-use native.Mathlib.Omega.{arith}
-use mathlib.Core.Path.{_≡_, refl}
-use Prim.Native.Nat.{_-_, _≤_, zero-le}
 use Rattle.fsck_objects.proofs.objects.objects_pass.Statement.{statement}
 use Rattle.fsck_objects.proofs.objects.objects_pass.Tie as tie
 
 abbrev Inv-loop : tie.InvT-loop
-Inv-loop store count limit used₀ o₀ used o = (o ≤ count) × ObjectsPass store o used
+Inv-loop store inside count limit used₀ total₀ o₀ used total o = (o ≤ count) × (total ≡ placesBelow store o) × (total ≤ 16 * o) × MarkedBy store o used × (every o (goodObject store) ≡ true)
 
 abbrev μ-loop : tie.MeasureT-loop
-μ-loop store count limit used₀ o₀ used o = count - o
+μ-loop store inside count limit used₀ total₀ o₀ used total o = count - o
 
 loop-holds : tie.Need-loop-holds Inv-loop μ-loop
 unfolding every
 loop-holds c =
     let st = c .before in
-    (zero-le, record { map = mark-none (st .args .store .now) (st .args .used .now) (st .pre .1 .1 .1); good = refl })
+    (zero-le, sym (places-none (st .args .store .now)), zero-le, mark-none (st .args .store .now) (st .args .used .now) (st .pre .1 .1 .1 .1), refl)
 
-object-passes-requires : tie.Need-object-passes-requires Inv-loop μ-loop
-object-passes-requires c κs =
+object-uses-requires : tie.Need-object-uses-requires Inv-loop μ-loop
+object-uses-requires c κs =
     let l = c .before .before in
-    let st = l .before .before in
-    (st .pre .0, (omega arith, (st .pre .1 .1 .0, l .loop .inv .1 .map)))
+    let st = c .before .before .before .before in
+    (st .pre .0, (st .pre .1 .0, (omega arith, (st .pre .1 .1 .1 .0, l .loop .inv .3))))
+
+enum-known-found : tie.Need-enum-known-found Inv-loop μ-loop
+enum-known-found c = search needs
+
+enum-told : tie.Need-enum-told Inv-loop μ-loop
+enum-told c = search needs
 
 returns : tie.Need-returns Inv-loop μ-loop
-returns c = told-false (c .before .object-passes .ensures .no (not-true _ (c .if1 .taken)))
+returns c = told-false (c .before .before .object-uses .ensures .no (c .enum-told .given .1))
+
+add-total : tie.Need-add-total Inv-loop μ-loop
+add-total c =
+    let f = c .before .before .before .object-uses .ensures .yes _ (c .before .found .given .1) in
+    omega (arith, f .few, c .before .before .before .before .before .before .loop .inv .2)
 
 add-o : tie.Need-add-o Inv-loop μ-loop
 add-o c = search needs
@@ -41,15 +53,25 @@ loop-less c = search needs
 
 loop-again : tie.Need-loop-again Inv-loop μ-loop
 loop-again c =
-    let l = c .before .before .before .before in
-    let s = l .before .before .args .store .now in
-    let f = c .before .object-passes .ensures .yes (not-false _ (c .if1 .left)) in
-    (omega arith, record { map = f .map; good = every-more (goodObject s) (l .loop .o) (l .loop .inv .1 .good) (f .good) })
+    let l = c .before .before .before .before .before .before in
+    let s = c .before .before .before .before .before .before .before .before .args .store .now in
+    let f = c .before .before .before .object-uses .ensures .yes _ (c .before .found .given .1) in
+    let p = places-next s (l .loop .o) _ (f .places) in
+    (omega arith, omega (arith, l .loop .inv .1), omega (arith, f .few, l .loop .inv .2), f .map, every-more (goodObject s) (l .loop .o) (l .loop .inv .4) (f .good))
+
+marked-requires : tie.Need-marked-requires Inv-loop μ-loop
+marked-requires c κs =
+    let l = c .before .before in
+    let st = c .before .before .before .before in
+    (omega (arith, st .pre .0 .few-blocks), marks-are _ _ _ _ (l .loop .inv .3) (st .pre .1 .1 .1 .0))
 
 returns-2 : tie.Need-returns-2 Inv-loop μ-loop
 returns-2 c =
-    let e : c .before .loop .o ≡ c .before .before .before .args .count = omega arith in
-    told-true (rw e at (c .before .loop .inv .1))
+    let l = c .before .before .before in
+    let st = c .before .before .before .before .before in
+    let s = st .args .store .now in
+    let e : l .loop .o ≡ st .args .count = omega arith in
+    told-all s (l .loop .used) (l .loop .total) (c .marked .result) (st .args .count) (st .args .limit) (st .pre .1 .1 .0) (st .pre .1 .1 .1 .0) (rw e at (l .loop .inv .1)) (rw e at (l .loop .inv .3)) (rw e at (l .loop .inv .4)) (c .marked .ensures)
 
 pub objects-pass-spec : {M : Type 1} → statement M
 objects-pass-spec =
@@ -58,9 +80,13 @@ objects-pass-spec =
     Inv-loop
     μ-loop
     loop-holds
-    object-passes-requires
+    object-uses-requires
+    enum-known-found
+    enum-told
     returns
+    add-total
     add-o
     loop-less
     loop-again
+    marked-requires
     returns-2)

@@ -1,33 +1,63 @@
+use mathlib.Core.Bool.{not}
+use lib.Dec.{eqb}
 use Rattle.spec.specs.Bytes.{part}
 use Rattle.spec.specs.Check.{isZero}
-use Prim.Native.Nat.{_%_}
-use borrow.Author.Tests.{not-true, not-false}
-use mathlib.Core.Path.{sym, _∙_}
-use mathlib.Core.Bool.{and-false}
-use Rattle.fsck_objects.proofs.Zeros.{and-true, zero-split}
+use Rattle.fsck_objects.proofs.Zeros.{all-none, all-next, not-not, remember}
 use borrow.Author.Needs.{needs}
+use native.Mathlib.Omega.{arith}
+use mathlib.Core.Path.{_≡_, sym, _∙_}
+use lib.ListN.{getD}
+use Prim.Native.Nat.{_+_, _-_, _≤_, zero-le}
 use Rattle.fsck_objects.proofs.zero.is_zero.Statement.{statement}
 use Rattle.fsck_objects.proofs.zero.is_zero.Tie as tie
 
-add-zero-words : tie.Need-add-zero-words
-add-zero-words c = search needs
+abbrev Inv-loop : tie.InvT-loop
+Inv-loop s at n other₀ i₀ other i = (i ≤ n) × (not other ≡ isZero (part s at i))
 
-zero-words-requires : tie.Need-zero-words-requires
-zero-words-requires c κs = search needs
+abbrev μ-loop : tie.MeasureT-loop
+μ-loop s at n other₀ i₀ other i = n - i
 
-returns : tie.Need-returns
+loop-holds : tie.Need-loop-holds Inv-loop μ-loop
+unfolding isZero
+loop-holds c = (zero-le, sym (all-none (λ x. eqb x 0) (c .args .s .now) (c .args .at)))
+
+add-other : tie.Need-add-other Inv-loop μ-loop
+add-other c = search needs
+
+shared-slice-read-other : tie.Need-shared-slice-read-other Inv-loop μ-loop
+shared-slice-read-other c = search needs
+
+add-i : tie.Need-add-i Inv-loop μ-loop
+add-i c = search needs
+
+loop-less : tie.Need-loop-less Inv-loop μ-loop
+loop-less c = search needs
+
+loop-again : tie.Need-loop-again Inv-loop μ-loop
+unfolding isZero
+loop-again c =
+    let l = c .before .before in
+    let a = l .before .args in
+    let x = getD (a .s .now) (a .at + l .loop .i) 0 in (
+      omega arith,
+      remember (l .loop .other) (not (eqb x 0)) _ _ (l .loop .inv .1) (not-not _) ∙ sym (all-next (λ x. eqb x 0) (a .s .now) (a .at) (l .loop .i) (omega arith)),
+    )
+
+returns : tie.Need-returns Inv-loop μ-loop
 returns c =
-    let a = c .before .before .before .args in
-    sym (zero-split (a .s .now) (a .at) (a .n) ∙ rw (← c .before .zero-words .ensures, not-true (c .before .zero-words .result) (c .if1 .taken)) (and-false (isZero (part (a .s .now) (a .at) (a .n % 8)))))
-
-zero-bytes-requires : tie.Need-zero-bytes-requires
-zero-bytes-requires c κs = search needs
-
-returns-2 : tie.Need-returns-2
-returns-2 c =
-    let a = c .before .before .before .before .args in
-    c .zero-bytes .ensures ∙ sym (zero-split (a .s .now) (a .at) (a .n) ∙ rw (← c .before .before .zero-words .ensures, not-false (c .before .before .zero-words .result) (c .before .if1 .left)) (and-true (isZero (part (a .s .now) (a .at) (a .n % 8)))))
+    let e : c .before .loop .i ≡ c .before .before .args .n = omega arith in
+    rw e at (c .before .loop .inv .1)
 
 pub is-zero-spec : {M : Type 1} → statement M
 is-zero-spec =
-    tie.close (tie.spec add-zero-words zero-words-requires returns zero-bytes-requires returns-2)
+    tie.close
+    (tie.spec
+    Inv-loop
+    μ-loop
+    loop-holds
+    add-other
+    shared-slice-read-other
+    add-i
+    loop-less
+    loop-again
+    returns)

@@ -29,7 +29,7 @@ cast-result c = search needs
 
 returns : tie.Need-returns
 unfolding blocks
-returns c = cc
+returns c = rw (c .get-u32 .ensures, c .before .name-count .ensures, c .before .before .object-count .ensures)
 
 pub block-count-spec : {M : Type 1} → statement M
 block-count-spec =

@@ -20,7 +20,7 @@ cast-result c = search needs
 
 returns : tie.Need-returns
 unfolding names
-returns c = cc
+returns c = rw (c .get-u32 .ensures, c .before .object-count .ensures)
 
 pub name-count-spec : {M : Type 1} → statement M
 name-count-spec =

@@ -8,7 +8,7 @@ name-length-requires c κs = search needs
 
 returns : tie.Need-returns
 unfolding isUsedName
-returns c = cc
+returns c = rw (c .name-length .ensures)
 
 pub is-used-name-spec : {M : Type 1} → statement M
 is-used-name-spec = tie.close (tie.spec name-length-requires returns)

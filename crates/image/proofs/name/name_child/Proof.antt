@@ -17,7 +17,7 @@ cast-t6 c = search needs
 
 returns : tie.Need-returns
 unfolding nameAt nameFrom
-returns c = cc
+returns c = rw (c .get-u32 .ensures, c .before .name-start .ensures)
 
 pub name-child-spec : {M : Type 1} → statement M
 name-child-spec =

@@ -14,7 +14,7 @@ cast-t5 c = search needs
 
 returns : tie.Need-returns
 unfolding nameAt nameFrom
-returns c = cc
+returns c = rw (c .get-u32 .ensures, c .before .name-start .ensures)
 
 pub name-directory-spec : {M : Type 1} → statement M
 name-directory-spec = tie.close (tie.spec name-start-requires get-u32-requires cast-t5 returns)

@@ -17,7 +17,7 @@ cast-result c = search needs
 
 returns : tie.Need-returns
 unfolding nameLength
-returns c = cc
+returns c = rw (c .get-u32 .ensures, c .before .name-start .ensures)
 
 pub name-length-spec : {M : Type 1} → statement M
 name-length-spec =

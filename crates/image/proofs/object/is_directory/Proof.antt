@@ -8,7 +8,7 @@ kind-of-requires c κs = search needs
 
 returns : tie.Need-returns
 unfolding isDirectory
-returns c = cc
+returns c = rw (c .kind-of .ensures)
 
 pub is-directory-spec : {M : Type 1} → statement M
 is-directory-spec = tie.close (tie.spec kind-of-requires returns)

@@ -8,7 +8,7 @@ kind-of-requires c κs = search needs
 
 returns : tie.Need-returns
 unfolding isRegular
-returns c = cc
+returns c = rw (c .kind-of .ensures)
 
 pub is-regular-spec : {M : Type 1} → statement M
 is-regular-spec = tie.close (tie.spec kind-of-requires returns)

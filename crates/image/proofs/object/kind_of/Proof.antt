@@ -11,7 +11,7 @@ get-u32-requires c κs = search needs
 
 returns : tie.Need-returns
 unfolding objectAt objectFrom
-returns c = cc
+returns c = rw (c .get-u32 .ensures, c .before .object-start .ensures)
 
 pub kind-of-spec : {M : Type 1} → statement M
 kind-of-spec = tie.close (tie.spec object-start-requires get-u32-requires returns)

@@ -65,7 +65,20 @@ load-blocks-requires c κs = search needs
 
 returns : tie.Need-returns
 unfolding objectAt objectFrom
-returns c = cc
+returns c =
+    rw (
+      c .load-blocks .ensures,
+      c .before .load-time3 .ensures,
+      c .before .before .load-time2 .ensures,
+      c .before .before .before .load-time .ensures,
+      c .before .before .before .before .get-u326 .ensures,
+      c .before .before .before .before .before .get-u325 .ensures,
+      c .before .before .before .before .before .before .get-u324 .ensures,
+      c .before .before .before .before .before .before .before .get-u323 .ensures,
+      c .before .before .before .before .before .before .before .before .get-u322 .ensures,
+      c .before .before .before .before .before .before .before .before .before .get-u32 .ensures,
+      c .before .before .before .before .before .before .before .before .before .before .object-start .ensures,
+    )
 
 pub load-object-spec : {M : Type 1} → statement M
 load-object-spec =

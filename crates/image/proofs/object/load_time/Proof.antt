@@ -14,7 +14,7 @@ get-u32-requires-2 c κs = search needs
 
 returns : tie.Need-returns
 unfolding timeAt
-returns c = cc
+returns c = rw (c .get-u322 .ensures, c .before .get-u32 .ensures)
 
 pub load-time-spec : {M : Type 1} → statement M
 load-time-spec = tie.close (tie.spec get-u32-requires add-get-u32 get-u32-requires-2 returns)

@@ -42,8 +42,16 @@ same-length c = search needs
 
 returns : tie.Need-returns
 returns c =
-    let a = c .before .before .before .before .before .before .before .before .before .before .before .before .before .before .before .before .before .before .before .before .before .before .before .before .before .args in
-    cc (head-run (a .store .now) (a .at) (a .v) (omega arith))
+    let st = c .before .before .before .before .before .before .before .before .before .before .before .before .before .before .before .before .before .before .before .before .before .before .before .before .before in
+    rw (
+      c .before .before .put-u326 .ensures,
+      c .before .before .before .before .before .before .put-u325 .ensures,
+      c .before .before .before .before .before .before .before .before .before .before .put-u324 .ensures,
+      c .before .before .before .before .before .before .before .before .before .before .before .before .before .before .put-u323 .ensures,
+      c .before .before .before .before .before .before .before .before .before .before .before .before .before .before .before .before .before .before .put-u322 .ensures,
+      c .before .before .before .before .before .before .before .before .before .before .before .before .before .before .before .before .before .before .before .before .before .before .put-u32 .ensures,
+    )
+    (head-run (st .args .store .now) (st .args .at) (st .args .v) (st .pre))
 
 pub save-head-spec : {M : Type 1} → statement M
 save-head-spec =

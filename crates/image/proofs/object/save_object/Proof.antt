@@ -27,8 +27,14 @@ same-length c = search needs
 
 returns : tie.Need-returns
 returns c =
-    let a = c .before .before .before .before .before .before .before .before .before .before .before .before .before .before .before .before .args in
-    cc (object-run (a .store .now) (a .o .0) (a .v) (omega arith))
+    let st = c .before .before .before .before .before .before .before .before .before .before .before .before .before .before .before .before in
+    rw (
+      c .before .before .save-blocks .ensures,
+      c .before .before .before .before .before .before .before .save-times .ensures,
+      c .before .before .before .before .before .before .before .before .before .before .before .save-head .ensures,
+      c .before .before .before .before .before .before .before .before .before .before .before .before .before .object-start .ensures,
+    )
+    (object-run (st .args .store .now) (st .args .o .0) (st .args .v) (st .pre))
 
 pub save-object-spec : {M : Type 1} → statement M
 save-object-spec =

@@ -24,8 +24,9 @@ same-length c = search needs
 
 returns : tie.Need-returns
 returns c =
-    let a = c .before .before .before .before .before .before .before .before .before .before .before .before .before .before .before .before .args in
-    cc (times-run (a .store .now) (a .at) (a .v) (omega arith))
+    let st = c .before .before .before .before .before .before .before .before .before .before .before .before .before .before .before .before in
+    rw (c .before .before .save-time3 .ensures, c .before .before .before .before .before .before .before .save-time2 .ensures, c .before .before .before .before .before .before .before .before .before .before .before .before .save-time .ensures)
+    (times-run (st .args .store .now) (st .args .at) (st .args .v) (st .pre))
 
 pub save-times-spec : {M : Type 1} → statement M
 save-times-spec =

@@ -15,7 +15,7 @@ get-u32-requires c κs = search needs
 
 returns : tie.Need-returns
 unfolding sizeOf objectAt objectFrom
-returns c = cc
+returns c = rw (c .get-u32 .ensures, c .before .object-start .ensures)
 
 pub size-of-spec : {M : Type 1} → statement M
 size-of-spec = tie.close (tie.spec object-start-requires add-get-u32 get-u32-requires returns)

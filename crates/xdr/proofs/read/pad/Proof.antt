@@ -1,32 +1,48 @@
-use mathlib.Core.Path.{sym, _∙_}
+use mathlib.Core.Path.{sym, ap, _∙_}
 use native.Mathlib.Omega.{arith}
 use borrow.Author.Needs.{needs}
-use borrow.Author.Tests.{leb-true}
-use Rattle.spec.specs.Xdr.{pad, number}
+use Rattle.kinds.specs.Reading.{partOf}
+use Rattle.spec.specs.Xdr.{pad}
+use Rattle.xdr.proofs.Fields.{number-by-bytes, bytes-fit}
 use Rattle.xdr.proofs.read.pad.Statement.{statement}
 use Rattle.xdr.proofs.read.pad.Tie as tie
 
-holds-requires : tie.Need-holds-requires
-holds-requires c κs = search needs
+field-of-requires : tie.Need-field-of-requires
+field-of-requires c κs = search needs
 
-add-next : tie.Need-add-next
-add-next c = let e = sym (c .before .holds .ensures) ∙ c .if1 .taken in omega (arith, leb-true)
+enum-known-answer : tie.Need-enum-known-answer
+enum-known-answer c = search needs
 
-all-zero-requires : tie.Need-all-zero-requires
-all-zero-requires c κs = let e = sym (c .before .holds .ensures) ∙ c .if1 .taken in omega (arith, leb-true)
+enum-told : tie.Need-enum-told
+enum-told c = search needs
+
+place-requires : tie.Need-place-requires
+place-requires c κs = search needs
 
 returns : tie.Need-returns
-unfolding pad number
-returns c = rw (← c .before .before .before .holds .ensures, c .before .before .if1 .taken, ← c .before .all-zero .ensures, c .if2 .taken)
+unfolding pad
+returns c = let a = c .before .before .before .before .before .args in rw (c .place .ensures, number-by-bytes (a .n) (a .s .now) (a .c .at), ← c .before .before .before .field-of .ensures, c .before .enum-told .given .1)
+
+all-zero-requires : tie.Need-all-zero-requires
+all-zero-requires c κs = let a = c .before .before .before .before .before .args in omega (arith, bytes-fit (a .n) (a .s .now) (a .c .at) _ _ (sym (c .before .before .before .field-of .ensures) ∙ ap partOf (c .before .answer .given .1)))
 
 returns-2 : tie.Need-returns-2
-unfolding pad number
-returns-2 c = rw (← c .before .before .before .holds .ensures, c .before .before .if1 .taken, ← c .before .all-zero .ensures, c .if2 .left)
+unfolding pad
+returns-2 c = let a = c .before .before .before .before .before .before .before .args in rw (number-by-bytes (a .n) (a .s .now) (a .c .at), ← c .before .before .before .before .before .field-of .ensures, c .before .before .before .answer .given .1, ← c .before .all-zero .ensures, c .if1 .taken)
 
 returns-3 : tie.Need-returns-3
-unfolding pad number
-returns-3 c = rw (← c .before .holds .ensures, c .if1 .left)
+unfolding pad
+returns-3 c = let a = c .before .before .before .before .before .before .before .args in rw (number-by-bytes (a .n) (a .s .now) (a .c .at), ← c .before .before .before .before .before .field-of .ensures, c .before .before .before .answer .given .1, ← c .before .all-zero .ensures, c .if1 .left)
 
 pub pad-spec : {M : Type 1} → statement M
 pad-spec =
-    tie.close (tie.spec holds-requires add-next all-zero-requires returns returns-2 returns-3)
+    tie.close
+    (tie.spec
+    field-of-requires
+    enum-known-answer
+    enum-told
+    place-requires
+    returns
+    all-zero-requires
+    returns-2
+    returns-3)

@@ -1,0 +1,109 @@
+use mathlib.Core.Path.{sym, ap, _∙_}
+use Prim.Native.Nat.{ℕ}
+use Rattle.spec.specs.Room.{above}
+use Rattle.fsck_objects.proofs.Passes.{told-true, told-false, fails-leads}
+use Rattle.fsck_objects.proofs.Whole.{live-yes, live-no}
+use Rattle.fsck_names.proofs.Parents.{root-named, named-live, named-free, unnamed-fails}
+use Rattle.fsck.proofs.Steps.{below-p, parents-by, above-root, depth-most, leads-yes, leads-free, leads-no}
+use borrow.Author.Needs.{needs}
+use Rattle.fsck.proofs.tree.leads_by_steps.Statement.{statement}
+use Rattle.fsck.proofs.tree.leads_by_steps.Tie as tie
+
+returns : tie.Need-returns
+returns c =
+    let st = c .before .before in
+    let a = st .args in
+    let s = a .store .now in
+    let m = parents-by s (a .p) (a .parents .now) (st .pre .0) (st .pre .1 .0) (st .pre .1 .1 .0) in
+    let h = below-p (a .o) (a .p) _ (st .pre .1 .0) (st .pre .1 .1 .1 .1) in
+    told-true (record {
+      known = st .pre .1 .1 .1 .0;
+      named = rw (c .if1 .taken) (root-named s (st .pre .0) (a .parents .now) (st .pre .1 .1 .0));
+      leads = rw (c .if1 .taken) (leads-yes s 0 (rw (← st .pre .1 .0) (above-root s (a .p) (a .parents .now) m)));
+    })
+
+kind-of-requires : tie.Need-kind-of-requires
+kind-of-requires c κs = search needs
+
+returns-2 : tie.Need-returns-2
+returns-2 c =
+    let st = c .before .before .before .before in
+    let a = st .args in
+    let s = a .store .now in
+    let m = parents-by s (a .p) (a .parents .now) (st .pre .0) (st .pre .1 .0) (st .pre .1 .1 .0) in
+    let h = below-p (a .o) (a .p) _ (st .pre .1 .0) (st .pre .1 .1 .1 .1) in
+    let f = live-no s (a .o) (sym (c .before .kind-of .ensures) ∙ c .if2 .taken) in
+    told-true (record {
+      known = st .pre .1 .1 .1 .0;
+      named = named-free s (st .pre .0) (a .parents .now) (st .pre .1 .1 .0) (a .o) (c .before .before .if1 .left) f;
+      leads = leads-free s (a .o) f;
+    })
+
+element-copy-out-if3 : tie.Need-element-copy-out-if3
+element-copy-out-if3 c = search needs
+
+returns-3 : tie.Need-returns-3
+returns-3 c =
+    let st = c .before .before .before .before .before .before in
+    let a = st .args in
+    let s = a .store .now in
+    let m = parents-by s (a .p) (a .parents .now) (st .pre .0) (st .pre .1 .0) (st .pre .1 .1 .0) in
+    let h = below-p (a .o) (a .p) _ (st .pre .1 .0) (st .pre .1 .1 .1 .1) in
+    told-false (unnamed-fails s (st .pre .0) (a .parents .now) (st .pre .1 .1 .0) (a .o) h (c .before .before .before .before .if1 .left) (live-yes s (a .o) (λ e. c .before .before .if2 .left (c .before .before .before .kind-of .ensures ∙ e))) (c .if3 .taken))
+
+steps-requires : tie.Need-steps-requires
+steps-requires c κs =
+    let st = c .before .before .before .before .before .before .before in
+    let a = st .args in
+    let s = a .store .now in
+    let m = parents-by s (a .p) (a .parents .now) (st .pre .0) (st .pre .1 .0) (st .pre .1 .1 .0) in
+    let h = below-p (a .o) (a .p) _ (st .pre .1 .0) (st .pre .1 .1 .1 .1) in
+    (m, (st .pre .1 .1 .1 .0, st .pre .1 .1 .1 .1))
+
+returns-4 : tie.Need-returns-4
+returns-4 c =
+    let st = c .before .before .before .before .before .before .before .before .before in
+    let a = st .args in
+    let s = a .store .now in
+    let m = parents-by s (a .p) (a .parents .now) (st .pre .0) (st .pre .1 .0) (st .pre .1 .1 .0) in
+    let h = below-p (a .o) (a .p) _ (st .pre .1 .0) (st .pre .1 .1 .1 .1) in
+    let v = live-yes s (a .o) (λ e. c .before .before .before .before .before .if2 .left (c .before .before .before .before .before .before .kind-of .ensures ∙ e)) in
+    told-false (fails-leads s (a .o) h (leads-no s (a .o) v (λ e. c .before .steps .ensures .lost (c .if4 .taken) (ap (λ (n : ℕ). above s n (a .o)) (st .pre .1 .0) ∙ e))))
+
+note-steps-requires : tie.Need-note-steps-requires
+note-steps-requires c κs =
+    let st = c .before .before .before .before .before .before .before .before .before .before in
+    let a = st .args in
+    let s = a .store .now in
+    let m = parents-by s (a .p) (a .parents .now) (st .pre .0) (st .pre .1 .0) (st .pre .1 .1 .0) in
+    let h = below-p (a .o) (a .p) _ (st .pre .1 .0) (st .pre .1 .1 .1 .1) in
+    (m, (st .pre .1 .1 .1 .0, (st .pre .1 .1 .1 .1, (c .before .if4 .left, c .before .before .steps .ensures .found (c .before .if4 .left)))))
+
+returns-5 : tie.Need-returns-5
+returns-5 c =
+    let st = c .before .before .before .before .before .before .before .before .before .before .before in
+    let a = st .args in
+    let s = a .store .now in
+    let m = parents-by s (a .p) (a .parents .now) (st .pre .0) (st .pre .1 .0) (st .pre .1 .1 .0) in
+    let h = below-p (a .o) (a .p) _ (st .pre .1 .0) (st .pre .1 .1 .1 .1) in
+    let d = c .before .before .before .steps .ensures .found (c .before .before .if4 .left) in
+    let e = depth-most s (a .p) (a .parents .now) m (a .o) (c .before .before .before .steps .result) d (c .before .before .if4 .left) in
+    told-true (record {
+      known = c .note-steps .ensures;
+      named = named-live s (st .pre .0) (a .parents .now) (st .pre .1 .1 .0) (a .o) h (c .before .before .before .before .before .before .before .before .before .if1 .left) (c .before .before .before .before .before .if3 .left);
+      leads = leads-yes s (a .o) (ap (λ (n : ℕ). above s n (a .o)) (sym (st .pre .1 .0)) ∙ e);
+    })
+
+pub leads-by-steps-spec : {M : Type 1} → statement M
+leads-by-steps-spec =
+    tie.close
+    (tie.spec
+    returns
+    kind-of-requires
+    returns-2
+    element-copy-out-if3
+    returns-3
+    steps-requires
+    returns-4
+    note-steps-requires
+    returns-5)

@@ -1,0 +1,109 @@
+-- The 32 bytes of a name record: those of the name, and zero. Assumes nothing.
+use mathlib.Core.Path.{_≡_, refl, sym, ap, ap₂, _∙_}
+use mathlib.Core.Bool.{Bool, true, false, _&&_, _||_, not, cond, Bool·beq}
+use mathlib.Core.List.{List}
+use Prim.Native.Nat.{ℕ, zero, suc, _+_, _-_, _≤_, _<_}
+use native.Mathlib.Nat.{add-zero, add-suc}
+use native.Mathlib.Numerals.{add-one}
+use native.Mathlib.Omega.{arith}
+use lib.Dec.{eqb, ltb}
+use lib.ListN.{length, getD}
+use borrow.Author.Tests.{lt-ltb, le-ltb, eq-eqb, ne-eqb, eqb-true}
+use Rattle.spec.specs.Bytes.{part, beAt, allBytes}
+use Rattle.spec.specs.Count.{every}
+use Rattle.spec.specs.Image.{Store}
+use Rattle.spec.specs.Names.{isDots, goodByte, goodBytes, goodName}
+use Rattle.spec.specs.Check.{isZero}
+use Rattle.spec.proofs.Bytes.{part-length}
+use Rattle.spec.proofs.Count.{by-bool, true-false}
+use Rattle.fsck_objects.specs.Objects.{Inside}
+use Rattle.fsck_objects.proofs.Zeros.{and-true, and-assoc, all-none, all-next, zero-add, be-zero, zero-be}
+use Rattle.fsck_objects.proofs.Marks.{outside}
+use Rattle.fsck_names.specs.Record.{isText}
+use Rattle.fsck_names.proofs.Dots.{name-is}
+
+-- ---- tests of the numbers below a bound
+every-ext : (p q : ℕ → Bool) (n : ℕ) → ((i : ℕ) → i < n → p i ≡ q i) → every n p ≡ every n q
+unfolding every
+every-ext p q zero f = refl
+every-ext p q (suc n) f = ap₂ (λ (t u : Bool). t && u) (every-ext p q n (λ i l. f i (omega arith))) (f n (omega arith))
+
+every-split : (p : ℕ → Bool) (m n : ℕ) → every (m + n) p ≡ every m p && every n (λ i. p (m + i))
+unfolding every
+every-split p m zero = rw add-zero (sym (and-true (every m p)))
+every-split p m (suc n) = rw (add-suc, every-split p m n) (sym (and-assoc (every m p) (every n (λ i. p (m + i))) (p (m + n))))
+
+-- every byte of a part, by its index
+all-every : (p : ℕ → Bool) (b : List ℕ) (at n : ℕ) → at + n ≤ length b → every n (λ i. p (getD b (at + i) 0)) ≡ allBytes p (part b at n)
+unfolding every
+all-every p b at zero h = sym (all-none p b at)
+all-every p b at (suc n) h =
+    ap (λ (t : Bool). t && p (getD b (at + n) 0)) (all-every p b at n (omega arith))
+    ∙ sym (all-next p b at n (omega arith)) ∙ ap (λ (k : ℕ). allBytes p (part b at k)) (add-one n)
+
+pub text-is : (s : Store) (at n : ℕ) → at + 32 ≤ length s → n ≤ 32 → every 32 (isText s at n) ≡ goodBytes (part s at n) && isZero (part s (at + n) (32 - n))
+unfolding goodBytes isZero
+text-is s at n h l =
+    let e : n + (32 - n) ≡ 32 = omega arith in
+    ap (λ (k : ℕ). every k (isText s at n)) (sym e) ∙ every-split (isText s at n) n (32 - n)
+    ∙ ap₂ (λ (t u : Bool). t && u)
+    (every-ext (isText s at n) (λ i. goodByte (getD s (at + i) 0)) n (λ i q. rw (lt-ltb i n q)) ∙ all-every goodByte s at n (omega arith))
+    (every-ext (λ i. isText s at n (n + i)) (λ i. eqb (getD s (at + n + i) 0) 0) (32 - n)
+    (λ i q. let w : at + (n + i) ≡ at + n + i = omega arith in rw (le-ltb (n + i) n (omega arith), w))
+    ∙ all-every (λ x. eqb x 0) s (at + n) (32 - n) (omega arith))
+
+-- ---- one byte
+step-bool : (seen slash blank inside : Bool) → blank && slash ≡ false
+    → not (seen || slash || Bool·beq blank (not (not inside))) ≡ not seen && cond inside (not blank && not slash) blank
+step-bool true slash blank inside e = refl
+step-bool false true true inside e = true-false e
+step-bool false true false true e = refl
+step-bool false true false false e = refl
+step-bool false false true true e = refl
+step-bool false false true false e = refl
+step-bool false false false true e = refl
+step-bool false false false false e = refl
+
+zero-slash : (x : ℕ) → eqb x 0 && eqb x 0x2F ≡ false
+zero-slash x = by-bool (eqb x 0) (λ e. rw (eqb-true x 0 e)) (λ e. rw e)
+
+pub text-step : (inside : List ℕ) → Inside inside → (n i x : ℕ) (seen : Bool) → n ≤ 32 → i < 32
+    → not (seen || eqb x 0x2F || Bool·beq (eqb x 0) (not (eqb (getD inside (32 - n + i) 0) 0))) ≡ not seen && cond (ltb i n) (goodByte x) (eqb x 0)
+unfolding goodByte
+text-step inside v n i x seen h l = rw (outside inside v n i h l) (step-bool seen (eqb x 0x2F) (eqb x 0) (ltb i n) (zero-slash x))
+
+-- ---- a name and its padding, where the bytes of both are tested together
+padded-no : (bytes blank dots : Bool) → bytes && blank ≡ false → bytes && dots && blank ≡ false
+padded-no true blank true e = e
+padded-no true blank false e = refl
+padded-no false blank dots e = refl
+
+padded-yes : (bytes blank dots : Bool) → bytes && blank ≡ true → bytes && dots && blank ≡ dots
+padded-yes true true dots e = and-true dots
+padded-yes true false dots e = true-false (sym e)
+padded-yes false blank dots e = true-false (sym e)
+
+module _ (s : Store) (at n : ℕ) (fits : at + 32 ≤ length s) (least : 1 ≤ n) (most : n ≤ 32) where
+  named : goodName (part s at n) ≡ goodBytes (part s at n) && not (isDots (part s at n))
+  named = let l : length (part s at n) ≡ n = part-length s at n (omega arith) in name-is (part s at n) (omega arith) (omega arith)
+
+  pub text-no : goodBytes (part s at n) && isZero (part s (at + n) (32 - n)) ≡ false → goodName (part s at n) && isZero (part s (at + n) (32 - n)) ≡ false
+  text-no e = rw named (padded-no (goodBytes (part s at n)) (isZero (part s (at + n) (32 - n))) (not (isDots (part s at n))) e)
+
+  pub text-yes : (dots : Bool) → dots ≡ isDots (part s at n) → goodBytes (part s at n) && isZero (part s (at + n) (32 - n)) ≡ true
+      → goodName (part s at n) && isZero (part s (at + n) (32 - n)) ≡ not dots
+  text-yes dots d e = rw (named, d) (padded-yes (goodBytes (part s at n)) (isZero (part s (at + n) (32 - n))) (not (isDots (part s at n))) e)
+
+-- ---- a free record, whose length is 0
+number-zero : (s : Store) (at : ℕ) → isZero (part s at 4) ≡ eqb (beAt s at 4) 0
+number-zero s at =
+    by-bool (isZero (part s at 4)) (λ e. e ∙ sym (eq-eqb (beAt s at 4) 0 (zero-be s at 4 e)))
+    (λ e. e ∙ sym (ne-eqb (beAt s at 4) 0 (λ q. true-false (sym (be-zero s at 4 q) ∙ e))))
+
+pub free-is : (s : Store) (at : ℕ) → beAt s (at + 8) 4 ≡ 0
+    → isZero (part s at 44) ≡ eqb (beAt s at 4) 0 && (eqb (beAt s (at + 4) 4) 0 && isZero (part s (at + 12) 32))
+free-is s at e =
+    let a : at + 4 + 4 ≡ at + 8 = omega arith in
+    let b : at + 8 + 4 ≡ at + 12 = omega arith in
+    let z = number-zero s (at + 8) ∙ eq-eqb (beAt s (at + 8) 4) 0 e in
+    zero-add s at 4 40 ∙ rw (zero-add s (at + 4) 4 36, a, zero-add s (at + 8) 4 32, b, z, number-zero s at, number-zero s (at + 4))

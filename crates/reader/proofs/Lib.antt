@@ -1,0 +1,5 @@
+pub mod Made
+pub mod MadeAlone
+pub mod Shape
+pub mod Taken
+pub mod TakenAlone

@@ -1,0 +1,75 @@
+// Reading the vector file: a record is its kind, a head of a length that the kind gives, and for some kinds further bytes.
+ghost use Prim.Native.Nat.{_+_, _≤_};
+
+// The kinds of records.
+pub struct Kind(pub u32);
+
+impl Kind {
+    pub const END: u32 = 0;
+
+    pub const RUN: u32 = 1;
+
+    pub const FORMAT: u32 = 2;
+
+    pub const PATCH: u32 = 3;
+
+    pub const CHECK: u32 = 4;
+
+    pub const CALL: u32 = 5;
+}
+
+// The kind of the next record, or that the file has no further one.
+pub enum KindRead {
+    Got(u32),
+    Cut,
+}
+
+pub fn read_kind(fd: i32) -> KindRead {
+    let mut bytes = [0u8; 4];
+    if io::read_full(fd, &mut bytes) < 4 {
+        return KindRead::Cut;
+    }
+    KindRead::Got(wire::get_u32(&bytes, 0))
+}
+
+// The length of the head that follows a kind; over 40, that of the longest, for a kind that there is not.
+pub fn head_length(kind: u32) -> usize {
+    match kind {
+        Kind::END => 0,
+        Kind::RUN => 8,
+        Kind::FORMAT => 36,
+        Kind::PATCH => 8,
+        Kind::CHECK => 4,
+        Kind::CALL => 40,
+        _ => 41,
+    }
+}
+
+// Reads n bytes to the start of buf; false where buf is too small or the file too short.
+pub fn read_part(fd: i32, buf: &mut [u8], n: usize) -> bool {
+    if n > buf.len() {
+        return false;
+    }
+    io::read_full(fd, &mut buf[0..n]) == n
+}
+
+// The number in the four bytes of a head from `at`.
+pub fn word(head: &[u8; 40], at: usize) -> u32
+    requires { ⌜ at + 4 ≤ 40 ⌝ }
+{
+    wire::get_u32(head, at)
+}
+
+// The number in the eight bytes of a head from `at`.
+pub fn hyper(head: &[u8; 40], at: usize) -> u64
+    requires { ⌜ at + 8 ≤ 40 ⌝ }
+{
+    wire::get_u64(head, at)
+}
+
+// A length in the four bytes of a head from `at`.
+pub fn size(head: &[u8; 40], at: usize) -> usize
+    requires { ⌜ at + 4 ≤ 40 ⌝ }
+{
+    word(head, at) as usize
+}

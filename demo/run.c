@@ -1,0 +1,235 @@
+/*
+ * Sends calls to a store from C, prints what each reply says and its bytes, and compares answers, replies and the store with bytes written out
+ * here from document 01 and RFC 1813. Exits 1 on a difference.
+ *
+ * Two bag tags are files of the root: 0123456789 and 123456789. The first is removed; its handle is stale then, and the second is as it was.
+ */
+#include "same.h"
+
+#include <string.h>
+
+/* A word of XDR, most significant byte first. */
+#define W(n) (uint8_t)((uint32_t)(n) >> 24), (uint8_t)((uint32_t)(n) >> 16), (uint8_t)((uint32_t)(n) >> 8), (uint8_t)(n)
+
+/* The head of a call: xid, call, RPC version 2, program 100003, version 3, procedure, no credential, no verifier. */
+#define CALL(xid, procedure) W(xid), W(0), W(2), W(100003), W(3), W(procedure), W(0), W(0), W(0), W(0)
+
+/* The head of a reply: xid, reply, accepted, no verifier, success. */
+#define REPLY(xid) W(xid), W(1), W(0), W(0), W(0), W(0)
+
+enum { GETATTR = 1, READ = 6, WRITE = 7, CREATE = 8, REMOVE = 12, READDIR = 16 };
+enum { OK = 0, STALE = 70 };
+
+/* A handle: its length, then the store's stamp, object and generation. */
+#define STAMP 0x01020304
+#define HANDLE(object, generation) W(12), W(STAMP), W(object), W(generation)
+#define ROOT HANDLE(0, 0)
+#define FIRST HANDLE(1, 0)
+#define SECOND HANDLE(2, 0)
+
+/* The names and contents of the two files, as XDR opaque data. */
+#define FIRST_NAME W(10), '0', '1', '2', '3', '4', '5', '6', '7', '8', '9', 0, 0
+#define SECOND_NAME W(9), '1', '2', '3', '4', '5', '6', '7', '8', '9', 0, 0, 0
+#define FIRST_DATA W(11), 'O', 'S', 'L', ' ', 'g', 'a', 't', 'e', ' ', '1', '2', 0
+#define SECOND_DATA W(10), 'T', 'R', 'D', ' ', 'g', 'a', 't', 'e', ' ', '7', 0, 0
+
+/* A 64-bit number that fits a word, and a time of whole seconds. */
+#define HYPER(n) W(0), W(n)
+#define TIME(seconds) W(seconds), W(0)
+
+/* Attributes (fattr3): type, mode, nlink, uid, gid, size, used, rdev, fsid, fileid, atime, mtime, ctime. A change sets mtime and ctime alike. */
+#define ATTRIBUTES(type, mode, nlink, size, used, fileid, atime, changed)                                                                     \
+    W(type), W(mode), W(nlink), W(0), W(0), HYPER(size), HYPER(used), W(0), W(0), HYPER(STAMP), HYPER(fileid), TIME(atime), TIME(changed),    \
+        TIME(changed)
+#define ROOT_ATTRIBUTES(changed) ATTRIBUTES(2, 493, 2, 512, 0, 1, 1000, changed)
+#define FILE_ATTRIBUTES(size, used, fileid, made, changed) ATTRIBUTES(1, 420, 1, size, used, fileid, made, changed)
+
+/* Attributes before a change (wcc_attr), present. */
+#define BEFORE(size, changed) W(1), HYPER(size), TIME(changed), TIME(changed)
+
+/* CREATE's last arguments: GUARDED, mode 420, nothing else set. */
+#define GUARDED_420 W(1), W(1), W(420), W(0), W(0), W(0), W(0), W(0)
+
+/* An entry of READDIR before its name. */
+#define ENTRY(fileid) W(1), HYPER(fileid)
+#define DOTS ENTRY(1), W(1), '.', 0, 0, 0, HYPER(1), ENTRY(1), W(2), '.', '.', 0, 0, HYPER(2)
+
+/* The verifier that the daemon gives with each call; WRITE sends it. */
+#define VERIFIER 0x1122334455667788
+#define FILE_SYNC 2
+
+/* Three objects, two names, two blocks. */
+enum { OBJECTS = 3, NAMES = 2, BLOCKS = 2, LENGTH = 20 + 80 * OBJECTS + 44 * NAMES + 512 * BLOCKS };
+enum { NAME_0 = 16 + 80 * OBJECTS, NAME_1 = NAME_0 + 44, BLOCK_0 = NAME_1 + 48, BLOCK_1 = BLOCK_0 + 512 };
+#define NO_BLOCKS_4 255, 255, 255, 255, 255, 255, 255, 255
+
+/* The store at the end: object 1, its name and its block are free and zero, but for the generation, which is raised by one. */
+static const uint8_t last[LENGTH] = {
+    W(1), W(STAMP),
+    W(OBJECTS),
+    W(2), W(0), W(493), W(0), W(0), W(0), TIME(1000), TIME(1005), TIME(1005), NO_BLOCKS_4, NO_BLOCKS_4, NO_BLOCKS_4, NO_BLOCKS_4,
+    W(0), W(1),
+    [12 + 80 * 2] = W(1), W(0), W(420), W(0), W(0), W(10), TIME(1002), TIME(1004), TIME(1004),
+    0, 1, 255, 255, 255, 255, 255, 255, NO_BLOCKS_4, NO_BLOCKS_4, NO_BLOCKS_4,
+    W(NAMES),
+    [NAME_1] = W(0), W(2), SECOND_NAME,
+    [BLOCK_0 - 4] = W(BLOCKS),
+    [BLOCK_1] = 'T', 'R', 'D', ' ', 'g', 'a', 't', 'e', ' ', '7',
+};
+
+static uint8_t store[LENGTH], reply[4224];
+
+static uint32_t word(const uint8_t *bytes, size_t at) {
+    return (uint32_t)bytes[at] << 24 | (uint32_t)bytes[at + 1] << 16 | (uint32_t)bytes[at + 2] << 8 | bytes[at + 3];
+}
+
+static void print_words(const uint8_t *bytes, size_t len) {
+    for (size_t i = 0; i + 4 <= len; i += 4)
+        printf("%s%08X", i % 32 == 0 ? "\n      " : " ", (unsigned)word(bytes, i));
+    printf("\n");
+}
+
+static void print_text(const uint8_t *bytes, size_t len) {
+    printf("\"%.*s\"", (int)len, (const char *)bytes);
+}
+
+static const char *status_name(uint32_t status) {
+    switch (status) {
+    case OK: return "OK";
+    case STALE: return "STALE, the handle of an object that is no more";
+    default: return "another status";
+    }
+}
+
+/* The entries of a READDIR reply, from its first one. */
+static void tell_entries(size_t len) {
+    size_t at = 124;
+    while (at + 16 <= len && word(reply, at) == 1) {
+        uint32_t name = word(reply, at + 12);
+        if (name > 32 || at + 24 + name > len)
+            return;
+        printf(", ");
+        print_text(reply + at + 16, name);
+        printf(" with fileid %u", (unsigned)word(reply, at + 8));
+        at += 24 + (name + 3) / 4 * 4;
+    }
+    if (at + 8 <= len)
+        printf(word(reply, at + 4) ? ", and no more" : ", and more to come");
+}
+
+/* What an OK reply says in plain words. */
+static void tell_result(uint32_t procedure, size_t len) {
+    if (procedure == GETATTR && len == 112)
+        printf(", size %u", (unsigned)word(reply, 52));
+    if (procedure == CREATE && len == 252)
+        printf(", handle: stamp %08X, object %u, generation %u", (unsigned)word(reply, 36), (unsigned)word(reply, 40), (unsigned)word(reply, 44));
+    if (procedure == WRITE && len == 160)
+        printf(", %u bytes written", (unsigned)word(reply, 144));
+    if (procedure == READ && len >= 128 && word(reply, 124) <= len - 128) {
+        printf(", %u bytes: ", (unsigned)word(reply, 124));
+        print_text(reply + 128, word(reply, 124));
+    }
+    if (procedure == READDIR)
+        tell_entries(len);
+}
+
+/* Sends a call, tells what came back, and compares it with the wanted reply. The reply space past the reply stays as it was. */
+static void send(const char *what, uint32_t seconds, const uint8_t *call, size_t call_len, const uint8_t *wanted, size_t wanted_len) {
+    memset(reply, 0x5A, sizeof reply);
+    struct nfs3_answer a = nfs3_call(call, call_len, store, LENGTH, reply, sizeof reply, seconds, 0, VERIFIER);
+    printf("\n%s\n  call, %u bytes:", what, (unsigned)call_len);
+    print_words(call, call_len);
+    printf("  answer %u", (unsigned)a.number);
+    if (a.number == 0 && a.length >= 28 && a.length <= sizeof reply) {
+        printf(", status %u: %s", (unsigned)word(reply, 24), status_name(word(reply, 24)));
+        if (word(reply, 24) == OK)
+            tell_result(word(call, 20), a.length);
+        printf("\n  reply, %u bytes:", (unsigned)a.length);
+        print_words(reply, a.length);
+    } else {
+        printf(", length %u\n", (unsigned)a.length);
+    }
+    same_answer(what, a, 0, wanted_len);
+    same_bytes(what, reply, wanted, wanted_len);
+    for (size_t i = wanted_len; i < sizeof reply; i++) {
+        if (reply[i] != 0x5A) {
+            printf("%s: byte %u, past the reply, is changed\n", what, (unsigned)i);
+            differences++;
+            return;
+        }
+    }
+}
+
+#define SEND(what, seconds, call, wanted) send(what, seconds, call, sizeof call, wanted, sizeof wanted)
+
+static void make(void) {
+    static const uint8_t create_first[] = { CALL(1, CREATE), ROOT, FIRST_NAME, GUARDED_420 };
+    static const uint8_t created_first[] = { REPLY(1), W(OK), W(1), FIRST, W(1), FILE_ATTRIBUTES(0, 0, 2, 1001, 1001),
+                                             BEFORE(512, 1000), W(1), ROOT_ATTRIBUTES(1001) };
+    static const uint8_t create_second[] = { CALL(2, CREATE), ROOT, SECOND_NAME, GUARDED_420 };
+    static const uint8_t created_second[] = { REPLY(2), W(OK), W(1), SECOND, W(1), FILE_ATTRIBUTES(0, 0, 3, 1002, 1002),
+                                              BEFORE(512, 1001), W(1), ROOT_ATTRIBUTES(1002) };
+    static const uint8_t write_first[] = { CALL(3, WRITE), FIRST, HYPER(0), W(11), W(FILE_SYNC), FIRST_DATA };
+    static const uint8_t wrote_first[] = { REPLY(3), W(OK), BEFORE(0, 1001), W(1), FILE_ATTRIBUTES(11, 512, 2, 1001, 1003),
+                                           W(11), W(FILE_SYNC), W(0x11223344), W(0x55667788) };
+    static const uint8_t write_second[] = { CALL(4, WRITE), SECOND, HYPER(0), W(10), W(FILE_SYNC), SECOND_DATA };
+    static const uint8_t wrote_second[] = { REPLY(4), W(OK), BEFORE(0, 1002), W(1), FILE_ATTRIBUTES(10, 512, 3, 1002, 1004),
+                                            W(10), W(FILE_SYNC), W(0x11223344), W(0x55667788) };
+    SEND("CREATE 0123456789", 1001, create_first, created_first);
+    SEND("CREATE 123456789", 1002, create_second, created_second);
+    SEND("WRITE to 0123456789", 1003, write_first, wrote_first);
+    SEND("WRITE to 123456789", 1004, write_second, wrote_second);
+}
+
+static void look(void) {
+    static const uint8_t list[] = { CALL(5, READDIR), ROOT, HYPER(0), HYPER(0), W(4096) };
+    static const uint8_t listed[] = { REPLY(5), W(OK), W(1), ROOT_ATTRIBUTES(1002), HYPER(0), DOTS, ENTRY(2), FIRST_NAME, HYPER(3),
+                                      ENTRY(3), SECOND_NAME, HYPER(4), W(0), W(1) };
+    static const uint8_t read_first[] = { CALL(6, READ), FIRST, HYPER(0), W(4096) };
+    static const uint8_t got_first[] = { REPLY(6), W(OK), W(1), FILE_ATTRIBUTES(11, 512, 2, 1001, 1003), W(11), W(1), FIRST_DATA };
+    static const uint8_t read_second[] = { CALL(7, READ), SECOND, HYPER(0), W(4096) };
+    static const uint8_t got_second[] = { REPLY(7), W(OK), W(1), FILE_ATTRIBUTES(10, 512, 3, 1002, 1004), W(10), W(1), SECOND_DATA };
+    SEND("READDIR of the root", 1005, list, listed);
+    SEND("READ of 0123456789", 1005, read_first, got_first);
+    SEND("READ of 123456789", 1005, read_second, got_second);
+}
+
+static void take_away(void) {
+    static const uint8_t remove_first[] = { CALL(8, REMOVE), ROOT, FIRST_NAME };
+    static const uint8_t removed_first[] = { REPLY(8), W(OK), BEFORE(512, 1002), W(1), ROOT_ATTRIBUTES(1005) };
+    static const uint8_t getattr_first[] = { CALL(9, GETATTR), FIRST };
+    static const uint8_t getattr_stale[] = { REPLY(9), W(STALE) };
+    static const uint8_t read_first[] = { CALL(10, READ), FIRST, HYPER(0), W(4096) };
+    static const uint8_t read_stale[] = { REPLY(10), W(STALE), W(0) };
+    static const uint8_t write_first[] = { CALL(11, WRITE), FIRST, HYPER(0), W(11), W(FILE_SYNC), FIRST_DATA };
+    static const uint8_t write_stale[] = { REPLY(11), W(STALE), W(0), W(0) };
+    SEND("REMOVE 0123456789", 1005, remove_first, removed_first);
+    SEND("GETATTR with the handle of the removed file", 1006, getattr_first, getattr_stale);
+    SEND("READ with the handle of the removed file", 1006, read_first, read_stale);
+    SEND("WRITE with the handle of the removed file", 1006, write_first, write_stale);
+}
+
+static void look_again(void) {
+    static const uint8_t list[] = { CALL(12, READDIR), ROOT, HYPER(0), HYPER(0), W(4096) };
+    static const uint8_t listed[] = { REPLY(12), W(OK), W(1), ROOT_ATTRIBUTES(1005), HYPER(0), DOTS, ENTRY(3), SECOND_NAME, HYPER(4), W(0), W(1) };
+    static const uint8_t getattr_second[] = { CALL(13, GETATTR), SECOND };
+    static const uint8_t attributes_second[] = { REPLY(13), W(OK), FILE_ATTRIBUTES(10, 512, 3, 1002, 1004) };
+    static const uint8_t read_second[] = { CALL(14, READ), SECOND, HYPER(0), W(4096) };
+    static const uint8_t got_second[] = { REPLY(14), W(OK), W(1), FILE_ATTRIBUTES(10, 512, 3, 1002, 1004), W(10), W(1), SECOND_DATA };
+    SEND("READDIR of the root", 1007, list, listed);
+    SEND("GETATTR of 123456789", 1007, getattr_second, attributes_second);
+    SEND("READ of 123456789", 1007, read_second, got_second);
+}
+
+int main(void) {
+    printf("format of a store of %d bytes: %d objects, %d names, %d blocks\n", LENGTH, OBJECTS, NAMES, BLOCKS);
+    same_answer("format", nfs3_format(store, LENGTH, STAMP, OBJECTS, NAMES, BLOCKS, 1000, 0), 0, 0);
+    make();
+    look();
+    take_away();
+    look_again();
+    printf("\nthe store at the end: its check, and each of its bytes\n");
+    same_answer("the check", nfs3_check(store, LENGTH), 0, 0);
+    same_bytes("the store", store, last, LENGTH);
+    return end();
+}

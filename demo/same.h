@@ -1,0 +1,35 @@
+/* Comparing what the library gave with what is wanted. */
+#ifndef SAME_H
+#define SAME_H
+
+#include "nfs3.h"
+
+#include <stdio.h>
+
+static int differences;
+
+static inline void same_answer(const char *what, struct nfs3_answer a, uint32_t number, size_t length) {
+    if (a.number != number || a.length != length) {
+        printf("%s: answer %u, length %u, not %u, %u\n", what, (unsigned)a.number, (unsigned)a.length, (unsigned)number, (unsigned)length);
+        differences++;
+    }
+}
+
+static inline void same_bytes(const char *what, const uint8_t *got, const uint8_t *wanted, size_t len) {
+    for (size_t i = 0; i < len; i++) {
+        if (got[i] != wanted[i]) {
+            printf("%s: byte %u is %u, not %u\n", what, (unsigned)i, got[i], wanted[i]);
+            differences++;
+            return;
+        }
+    }
+}
+
+/* The last line, and the status to exit with. */
+static inline int end(void) {
+    if (differences == 0)
+        printf("no difference\n");
+    return differences != 0;
+}
+
+#endif
