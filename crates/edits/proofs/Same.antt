@@ -10,50 +10,16 @@ use lib.ListN.{length, getD, take, drop, length-take, drop-of-length-le}
 use lib.Seq.{take-take, getD-take, ext-getD}
 use Rattle.kinds.specs.Numbers.{REGULAR}
 use Rattle.kinds.specs.declared.object.Object.{Object}
-use Rattle.spec.specs.Bytes.{part, overlay, zeros, bytesOf}
 use Rattle.spec.specs.Edits.{clearBlocks, clearTail, blockNumbers, withSize, resize}
-use Rattle.spec.specs.Image.{Store, objects, objectStart, timeAt, timeBytes, timesBytes, objectFrom, objectAt, putObject}
+use Rattle.spec.specs.Image.{Store, objects, objectStart, objectFrom, objectAt, putObject}
 use Rattle.spec.specs.Room.{sizeOf, need, held, freeBlocks, byteAt}
-use Rattle.spec.proofs.Bytes.{lt-or-le, part-add, overlay-none}
+use Rattle.spec.proofs.Bytes.{lt-or-le, overlay-none}
 use Rattle.spec.proofs.GoodRecords.{GoodRecords, live-at}
 use Rattle.spec.proofs.Range.{Below}
 use Rattle.spec.proofs.Records.{halves-count}
 use Rattle.spec.proofs.Resize.{numbers-long, numbers-held, numbers-rest}
 use Rattle.spec.proofs.Valid.{LiveObject, live-size}
-use Rattle.metadata.proofs.Kept.{bytes-kept, overlay-kept, attributes-written}
-
--- two parts, one behind the other
-joined : (s : List ℕ) (p q n m : ℕ) (xs ys : List ℕ) → q ≡ p + n → xs ≡ part s p n → ys ≡ part s q m → xs ++ ys ≡ part s p (n + m)
-joined s p q n m xs ys e a b = ap₂ (λ (x y : List ℕ). x ++ y) a (b ∙ ap (λ (k : ℕ). part s k m) e) ∙ sym (part-add s p n m)
-
-module _ (s : Store) (o : ℕ) (f : Below 256 s) (h : objectStart o + 80 ≤ length s) where
-  abbrev at : ℕ
-  at = objectStart o
-
-  time-kept : (p : ℕ) → p + 8 ≤ length s → timeBytes (timeAt s p) ≡ part s p 8
-  unfolding timeBytes timeAt
-  time-kept p k = joined s p (p + 4) 4 4 _ _ refl (bytes-kept s f 4 p (omega arith)) (bytes-kept s f 4 (p + 4) (omega arith))
-
-  owner-kept : bytesOf 4 (objectAt s o .mode) ++ bytesOf 4 (objectAt s o .uid) ++ bytesOf 4 (objectAt s o .gid) ≡ part s (at + 8) 12
-  unfolding objectAt objectFrom
-  owner-kept =
-      joined s (at + 8) (at + 16) 8 4 _ _ (omega arith)
-      (joined s (at + 8) (at + 12) 4 4 _ _ (omega arith) (bytes-kept s f 4 (at + 8) (omega arith)) (bytes-kept s f 4 (at + 12) (omega arith)))
-      (bytes-kept s f 4 (at + 16) (omega arith))
-
-  times-kept : timesBytes (objectAt s o) ≡ part s (at + 24) 24
-  unfolding timesBytes objectAt objectFrom
-  times-kept =
-      joined s (at + 24) (at + 40) 16 8 _ _ (omega arith)
-      (joined s (at + 24) (at + 32) 8 8 _ _ (omega arith) (time-kept (at + 24) (omega arith)) (time-kept (at + 32) (omega arith)))
-      (time-kept (at + 40) (omega arith))
-
-  -- an object written where it was read
-  object-kept : putObject s o (objectAt s o) ≡ s
-  object-kept =
-      sym (attributes-written s o (objectAt s o) f h refl refl refl refl)
-      ∙ ap (λ (z : Store). overlay z (at + 24) (timesBytes (objectAt s o))) (overlay-kept s (at + 8) 12 _ owner-kept (omega arith))
-      ∙ overlay-kept s (at + 24) 24 _ times-kept (omega arith)
+use Rattle.metadata.proofs.Kept.{object-kept}
 
 -- the numbers that an object holds, and 65535 in its other places, are all its numbers
 numbers-same : (v : Object) (r : ℕ) → LiveObject r v → length (v .blocks) ≡ 16 → need (v .size) ≤ 16 → blockNumbers (take (need (v .size)) (v .blocks)) ≡ v .blocks

@@ -11,7 +11,8 @@ use lib.Seq.{drop-drop}
 use Rattle.kinds.specs.declared.object.Object.{Object}
 use Rattle.kinds.specs.declared.object.Time.{Time}
 use Rattle.spec.specs.Bytes.{part, overlay, digits, beOf, beAt, bytesOf}
-use Rattle.spec.specs.Image.{Store, objectStart, halvesAt, halvesBytes, timeBytes, headBytes, timesBytes, objectBytes, objectFrom, objectAt, putObject}
+use Rattle.spec.specs.Edits.{withAttributes, setAttributes, mtimeAndCtime}
+use Rattle.spec.specs.Image.{Store, objectStart, halvesAt, halvesBytes, timeAt, timeBytes, headBytes, timesBytes, objectBytes, objectFrom, objectAt, putObject}
 use Rattle.spec.proofs.Bytes.{part-cons, part-length, part-add, part-after, overlay-join, overlay-length, bytes-length, be-add}
 use Rattle.spec.proofs.Range.{Below, be-below}
 use Rattle.spec.proofs.Records.{half-read, halves-length}
@@ -150,3 +151,51 @@ module _ (s : Store) (o : ℕ) (w : Object) (f : Below 256 s) (h : objectStart o
       ∙ sym (overlay-join first (at + 24) (timesBytes w) (omega (arith, times-length, first-length)) _)
       ∙ ap (λ (k : ℕ). overlay second k (halvesBytes 16 (w .blocks))) behind
       ∙ overlay-kept second (at + 48) 32 _ (end ∙ sym blocks-kept) (omega (arith, second-length)))
+
+-- two parts, one behind the other
+joined : (s : List ℕ) (p q n m : ℕ) (xs ys : List ℕ) → q ≡ p + n → xs ≡ part s p n → ys ≡ part s q m → xs ++ ys ≡ part s p (n + m)
+joined s p q n m xs ys e a b = ap₂ (λ (x y : List ℕ). x ++ y) a (b ∙ ap (λ (k : ℕ). part s k m) e) ∙ sym (part-add s p n m)
+
+module _ (s : Store) (o : ℕ) (f : Below 256 s) (h : objectStart o + 80 ≤ length s) where
+  time-kept : (p : ℕ) → p + 8 ≤ length s → timeBytes (timeAt s p) ≡ part s p 8
+  unfolding timeBytes timeAt
+  time-kept p k = joined s p (p + 4) 4 4 _ _ refl (bytes-kept s f 4 p (omega arith)) (bytes-kept s f 4 (p + 4) (omega arith))
+
+  owner-kept : bytesOf 4 (objectAt s o .mode) ++ bytesOf 4 (objectAt s o .uid) ++ bytesOf 4 (objectAt s o .gid) ≡ part s (objectStart o + 8) 12
+  unfolding objectAt objectFrom
+  owner-kept =
+      joined s (objectStart o + 8) (objectStart o + 16) 8 4 _ _ (omega arith)
+      (joined s (objectStart o + 8) (objectStart o + 12) 4 4 _ _ (omega arith) (bytes-kept s f 4 (objectStart o + 8) (omega arith)) (bytes-kept s f 4 (objectStart o + 12) (omega arith)))
+      (bytes-kept s f 4 (objectStart o + 16) (omega arith))
+
+  times-kept : timesBytes (objectAt s o) ≡ part s (objectStart o + 24) 24
+  unfolding timesBytes objectAt objectFrom
+  times-kept =
+      joined s (objectStart o + 24) (objectStart o + 40) 16 8 _ _ (omega arith)
+      (joined s (objectStart o + 24) (objectStart o + 32) 8 8 _ _ (omega arith) (time-kept (objectStart o + 24) (omega arith)) (time-kept (objectStart o + 32) (omega arith)))
+      (time-kept (objectStart o + 40) (omega arith))
+
+  atime-kept : timeBytes (objectAt s o .atime) ≡ part s (objectStart o + 24) 8
+  unfolding objectAt objectFrom
+  atime-kept = time-kept (objectStart o + 24) (omega arith)
+
+  -- an object written where it was read
+  pub object-kept : putObject s o (objectAt s o) ≡ s
+  object-kept =
+      sym (attributes-written s o (objectAt s o) f h refl refl refl refl)
+      ∙ ap (λ (z : Store). overlay z (objectStart o + 24) (timesBytes (objectAt s o))) (overlay-kept s (objectStart o + 8) 12 _ owner-kept (omega arith))
+      ∙ overlay-kept s (objectStart o + 24) 24 _ times-kept (omega arith)
+
+  -- mtime and ctime written alone
+  pub touched : (clock : Time) → overlay s (objectStart o + 32) (timeBytes clock ++ timeBytes clock) ≡ setAttributes s clock o mtimeAndCtime
+  unfolding setAttributes withAttributes timesBytes
+  touched clock =
+      let v = objectAt s o in
+      let w = withAttributes clock mtimeAndCtime v in
+      let p : objectStart o + 24 + 8 ≡ objectStart o + 32 = omega arith in
+      let atime : timeBytes (v .atime) ≡ part s (objectStart o + 24) 8 = atime-kept in
+      sym (sym (attributes-written s o w f h refl refl refl refl)
+      ∙ ap (λ (z : Store). overlay z (objectStart o + 24) (timeBytes (v .atime) ++ timeBytes clock ++ timeBytes clock)) (overlay-kept s (objectStart o + 8) 12 _ owner-kept (omega arith))
+      ∙ ap (overlay s (objectStart o + 24)) (append-assoc (timeBytes (v .atime)) (timeBytes clock) (timeBytes clock))
+      ∙ skip s (objectStart o + 24) 8 _ _ atime (omega arith)
+      ∙ ap (λ (k : ℕ). overlay s k (timeBytes clock ++ timeBytes clock)) p)

@@ -115,6 +115,16 @@ pub fn set_attributes(store: &mut [u8], clock: Time, o: ObjectNumber, a: Settabl
     save_times(store, at + 24, atime, mtime, clock);
 }
 
+// Sets mtime and ctime to the clock. The other bytes of the record stay.
+pub fn touch(store: &mut [u8], clock: Time, o: ObjectNumber)
+    requires { ⌜ objectStart (o .0) + 80 ≤ length (now store) ⌝ }
+    ensures { λ _. ⌜ now (store .exit) ≡ setAttributes (now (store .entry)) clock (o .0) mtimeAndCtime ⌝ }
+{
+    let at = object_start(store, o);
+    save_time(store, at + 32, clock);
+    save_time(store, at + 40, clock);
+}
+
 // Sets ctime alone.
 pub fn only_ctime() -> Settable
     ensures { λ r. ⌜ r ≡ onlyCtime ⌝ }
