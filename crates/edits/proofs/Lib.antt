@@ -1,2 +1,3 @@
 pub mod ResizedNumbers
 pub mod Resized
+pub mod Same

@@ -92,7 +92,7 @@ fn grow(store: &mut [u8], used: &[u8; 1024], o: ObjectNumber, size: usize)
     save_object(store, o, with_size(size as u32, numbers, v));
 }
 
-// A file's size. The map says which blocks are used.
+// A file's size. The map says which blocks are used. Nothing is written where the size is the old one.
 pub fn resize(store: &mut [u8], used: &[u8; 1024], o: ObjectNumber, size: usize)
     requires { ⌜ GoodRecords (now store) ⌝ }
     requires { ⌜ UsedMap (now store) (now used) ⌝ }
@@ -102,7 +102,11 @@ pub fn resize(store: &mut [u8], used: &[u8; 1024], o: ObjectNumber, size: usize)
     requires { ⌜ need size - need (sizeOf (now store) (o .0)) ≤ freeBlockCount (now store) ⌝ }
     ensures { λ _. ⌜ now (store .exit) ≡ resize (now (store .entry)) (o .0) size ⌝ }
 {
-    if size < size_of(store, o) as usize {
+    let old = size_of(store, o) as usize;
+    if size == old {
+        return;
+    }
+    if size < old {
         shrink(store, o, size);
         return;
     }

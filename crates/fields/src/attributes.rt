@@ -10,6 +10,7 @@ use kinds::object::Before;
 use kinds::object::Change;
 use results::Handle;
 use results::HandleChange;
+use xdr::write::put_sevens;
 use xdr::write::put_word;
 use xdr::write::put_words;
 
@@ -41,7 +42,7 @@ pub fn put_attributes(reply: &mut [u8], at: usize, a: Attributes) -> usize
         a.ctime.seconds,
         a.ctime.nanoseconds,
     ];
-    put_words(reply, at, &ws)
+    put_sevens(reply, at, &ws)
 }
 
 // post_op_attr, present.
@@ -67,7 +68,7 @@ fn put_before(reply: &mut [u8], at: usize, b: Before) -> usize
         b.ctime.seconds,
         b.ctime.nanoseconds,
     ];
-    put_words(reply, at, &ws)
+    put_sevens(reply, at, &ws)
 }
 
 // wcc_data, both parts present.

@@ -1,11 +1,17 @@
 // The first edit of the store: an object's attributes and times.
 ghost use mathlib.Core.Path.{_≡_};
 ghost use Prim.Native.Nat.{_+_, _≤_};
+ghost use mathlib.Core.List.{_++_};
 ghost use lib.ListN.{length};
-ghost use Rattle.spec.specs.Image.{objectStart};
+ghost use Rattle.spec.specs.Bytes.{overlay, bytesOf};
+ghost use Rattle.spec.specs.Image.{objectStart, timeBytes};
 ghost use Rattle.spec.specs.Edits.{numberSet, timeSet, withAttributes, setAttributes, onlyCtime, mtimeAndCtime};
-use image::object::load_object;
-use image::object::save_object;
+use image::counts::object_start;
+use image::object::atime_of;
+use image::object::gid_of;
+use image::object::mode_of;
+use image::object::mtime_of;
+use image::object::uid_of;
 use kinds::call::SetNumber;
 use kinds::call::SetSize;
 use kinds::call::SetTime;
@@ -61,12 +67,62 @@ pub fn with_attributes(clock: Time, a: Settable, v: Object) -> Object
     }
 }
 
+// Writes the mode, uid and gid of an object.
+fn save_owner(store: &mut [u8], at: usize, mode: u32, uid: u32, gid: u32)
+    requires { ⌜ at + 12 ≤ length (now store) ⌝ }
+    ensures { λ _. ⌜ now (store .exit) ≡ overlay (now (store .entry)) at (bytesOf 4 mode ++ bytesOf 4 uid ++ bytesOf 4 gid) ⌝ }
+{
+    wire::put_u32(store, at, mode);
+    wire::put_u32(store, at + 4, uid);
+    wire::put_u32(store, at + 8, gid);
+}
+
+fn save_time(store: &mut [u8], at: usize, t: Time)
+    requires { ⌜ at + 8 ≤ length (now store) ⌝ }
+    ensures { λ _. ⌜ now (store .exit) ≡ overlay (now (store .entry)) at (timeBytes t) ⌝ }
+{
+    wire::put_u32(store, at, t.seconds);
+    wire::put_u32(store, at + 4, t.nanoseconds);
+}
+
+// Writes the times of an object.
+fn save_times(store: &mut [u8], at: usize, atime: Time, mtime: Time, ctime: Time)
+    requires { ⌜ at + 24 ≤ length (now store) ⌝ }
+    ensures { λ _. ⌜ now (store .exit) ≡ overlay (now (store .entry)) at (timeBytes atime ++ timeBytes mtime ++ timeBytes ctime) ⌝ }
+{
+    save_time(store, at, atime);
+    save_time(store, at + 8, mtime);
+    save_time(store, at + 16, ctime);
+}
+
+// Sets attributes, but for the size. The other bytes of the record stay.
 pub fn set_attributes(store: &mut [u8], clock: Time, o: ObjectNumber, a: Settable)
     requires { ⌜ objectStart (o .0) + 80 ≤ length (now store) ⌝ }
     ensures { λ _. ⌜ now (store .exit) ≡ setAttributes (now (store .entry)) clock (o .0) a ⌝ }
 {
-    let v = load_object(store, o);
-    save_object(store, o, with_attributes(clock, a, v));
+    let mode_set = a.mode;
+    let uid_set = a.uid;
+    let gid_set = a.gid;
+    let atime_set = a.atime;
+    let mtime_set = a.mtime;
+    let mode = number_set(mode_set, mode_of(store, o));
+    let uid = number_set(uid_set, uid_of(store, o));
+    let gid = number_set(gid_set, gid_of(store, o));
+    let atime = time_set(clock, atime_set, atime_of(store, o));
+    let mtime = time_set(clock, mtime_set, mtime_of(store, o));
+    let at = object_start(store, o);
+    save_owner(store, at + 8, mode, uid, gid);
+    save_times(store, at + 24, atime, mtime, clock);
+}
+
+// Sets mtime and ctime to the clock. The other bytes of the record stay.
+pub fn touch(store: &mut [u8], clock: Time, o: ObjectNumber)
+    requires { ⌜ objectStart (o .0) + 80 ≤ length (now store) ⌝ }
+    ensures { λ _. ⌜ now (store .exit) ≡ setAttributes (now (store .entry)) clock (o .0) mtimeAndCtime ⌝ }
+{
+    let at = object_start(store, o);
+    save_time(store, at + 32, clock);
+    save_time(store, at + 40, clock);
 }
 
 // Sets ctime alone.

@@ -3,19 +3,19 @@ use borrow.Author.Needs.{needs}
 use Rattle.fields.proofs.attributes.put_attributes.Statement.{statement}
 use Rattle.fields.proofs.attributes.put_attributes.Tie as tie
 
-slice-aggregate-put-words : tie.Need-slice-aggregate-put-words
-slice-aggregate-put-words c = search needs
+slice-aggregate-put-sevens : tie.Need-slice-aggregate-put-sevens
+slice-aggregate-put-sevens c = search needs
 
-put-words-requires : tie.Need-put-words-requires
-put-words-requires c κs = search needs
+put-sevens-requires : tie.Need-put-sevens-requires
+put-sevens-requires c κs = search needs
 
 same-length : tie.Need-same-length
 same-length c = search needs
 
 returns : tie.Need-returns
 unfolding fattr3
-returns c = c .before .before .put-words .ensures
+returns c = c .before .before .put-sevens .ensures
 
 pub put-attributes-spec : {M : Type 1} → statement M
 put-attributes-spec =
-    tie.close (tie.spec slice-aggregate-put-words put-words-requires same-length returns)
+    tie.close (tie.spec slice-aggregate-put-sevens put-sevens-requires same-length returns)

@@ -44,7 +44,20 @@ cast-t16 c = search needs
 
 returns : tie.Need-returns
 unfolding attributes
-returns c = rw (c .stamp-of .ensures, c .before .used-bytes .ensures, c .before .before .shown-size .ensures, c .before .before .before .link-count .ensures, c .before .before .before .before .before .before .before .load-object .ensures)
+returns c =
+    rw (
+      c .stamp-of .ensures,
+      c .before .used-bytes .ensures,
+      c .before .before .gid-of .ensures,
+      c .before .before .before .uid-of .ensures,
+      c .before .before .before .before .mode-of .ensures,
+      c .before .before .before .before .before .kind-of .ensures,
+      c .before .before .before .before .before .before .ctime-of .ensures,
+      c .before .before .before .before .before .before .before .mtime-of .ensures,
+      c .before .before .before .before .before .before .before .before .atime-of .ensures,
+      c .before .before .before .before .before .before .before .before .before .shown-size .ensures,
+      c .before .before .before .before .before .before .before .before .before .before .link-count .ensures,
+    )
 
 pub attributes-spec : {M : Type 1} → statement M
 attributes-spec =

@@ -14,7 +14,7 @@ ctime-of-requires c κs = search needs
 
 returns : tie.Need-returns
 unfolding before
-returns c = rw (c .shown-size .ensures, c .before .before .before .load-object .ensures)
+returns c = rw (c .ctime-of .ensures, c .before .mtime-of .ensures, c .before .before .shown-size .ensures)
 
 pub before-spec : {M : Type 1} → statement M
 before-spec = tie.close (tie.spec shown-size-requires mtime-of-requires ctime-of-requires returns)

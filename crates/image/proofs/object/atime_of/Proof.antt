@@ -14,7 +14,7 @@ load-time-requires c κs = search needs
 
 returns : tie.Need-returns
 unfolding objectAt objectFrom
-returns c = cc
+returns c = rw (c .load-time .ensures, c .before .object-start .ensures)
 
 pub atime-of-spec : {M : Type 1} → statement M
 atime-of-spec =

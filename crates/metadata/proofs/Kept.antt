@@ -1,0 +1,201 @@
+-- Numbers that were read from a store, written again in their place, leave it as it was; and attributes written alone are a record written
+-- whole. Assumes nothing.
+use mathlib.Core.Path.{_≡_, refl, sym, ap, ap₂, _∙_}
+use mathlib.Core.List.{List, [], _∷_, _++_, append-assoc}
+use Prim.Native.Nat.{ℕ, zero, suc, _+_, _*_, _/_, _%_, _^_, _≤_, _<_}
+use native.Mathlib.Nat.{mul-add-div-right, div-eq-of-lt, one-le-pow}
+use native.Mathlib.Omega.{arith}
+use lib.Dec.{lit<}
+use lib.ListN.{length, getD, take, drop, length-append, take-append-drop, length-take, length-drop}
+use lib.Seq.{drop-drop}
+use Rattle.kinds.specs.declared.object.Object.{Object}
+use Rattle.kinds.specs.declared.object.Time.{Time}
+use Rattle.spec.specs.Bytes.{part, overlay, digits, beOf, beAt, bytesOf}
+use Rattle.spec.specs.Edits.{withAttributes, setAttributes, mtimeAndCtime}
+use Rattle.spec.specs.Image.{Store, objectStart, halvesAt, halvesBytes, timeAt, timeBytes, headBytes, timesBytes, objectBytes, objectFrom, objectAt, putObject}
+use Rattle.spec.proofs.Bytes.{part-cons, part-length, part-add, part-after, overlay-join, overlay-length, bytes-length, be-add}
+use Rattle.spec.proofs.Range.{Below, be-below}
+use Rattle.spec.proofs.Records.{half-read, halves-length}
+
+-- one byte, as a number
+byte-at : (b : List ℕ) (p : ℕ) → p < length b → beAt b p 1 ≡ getD b p 0
+unfolding beAt beOf digits part
+byte-at b p h = ap (digits 0) (part-cons b p 0 h) ∙ omega arith
+
+-- the lowest w bytes of a number of k + w bytes
+bytes-low : (b : List ℕ) → Below 256 b → (w at k : ℕ) → at + (k + w) ≤ length b → bytesOf w (beAt b at (k + w)) ≡ part b (at + k) w
+unfolding bytesOf part
+bytes-low b f zero at k h = refl
+bytes-low b f (suc w) at k h =
+    let e : k + suc w ≡ k + 1 + w = omega arith in
+    let number : beAt b at (k + suc w) ≡ beAt b at (k + 1) * 256 ^ w + beAt b (at + (k + 1)) w = ap (beAt b at) e ∙ be-add b at (k + 1) w (omega arith) in
+    let front : beAt b at (k + 1) ≡ beAt b at k * 256 + beAt b (at + k) 1 = be-add b at k 1 (omega arith) in
+    let high : beAt b at (k + suc w) / 256 ^ w ≡ beAt b at (k + 1) =
+        ap (λ (x : ℕ). x / 256 ^ w) number ∙ mul-add-div-right (one-le-pow w 256 (lit< tt)) (beAt b at (k + 1)) (beAt b (at + (k + 1)) w)
+        ∙ rw (div-eq-of-lt (be-below b (at + (k + 1)) w f)) (omega arith) in
+    let head : beAt b at (k + suc w) / 256 ^ w % 256 ≡ getD b (at + k) 0 =
+        ap (λ (x : ℕ). x % 256) high ∙ omega (arith, front, byte-at b (at + k) (omega arith), f (at + k)) in
+    let behind : at + (k + 1) ≡ suc (at + k) = omega arith in
+    let tail : bytesOf w (beAt b at (k + suc w)) ≡ part b (suc (at + k)) w =
+        ap (λ (x : ℕ). bytesOf w (beAt b at x)) e ∙ bytes-low b f w at (k + 1) (omega arith) ∙ ap (λ (p : ℕ). part b p w) behind in
+    ap₂ (λ (x : ℕ) (xs : List ℕ). x ∷ xs) head tail ∙ sym (part-cons b (at + k) w (omega arith))
+
+-- a number of w bytes
+pub bytes-kept : (b : List ℕ) → Below 256 b → (w at : ℕ) → at + w ≤ length b → bytesOf w (beAt b at w) ≡ part b at w
+bytes-kept b f w at h =
+    let e : at + 0 ≡ at = omega arith in
+    let z : w ≡ 0 + w = omega arith in
+    ap (λ (x : ℕ). bytesOf w (beAt b at x)) z ∙ bytes-low b f w at 0 (omega arith) ∙ ap (λ (p : ℕ). part b p w) e
+
+-- the first k of n block numbers
+halves-low : (b : List ℕ) → Below 256 b → (at n k : ℕ) → k ≤ n → at + 2 * n ≤ length b → halvesBytes k (halvesAt b at n) ≡ part b at (2 * k)
+unfolding halvesBytes part
+halves-low b f at n zero h l = refl
+halves-low b f at n (suc k) h l =
+    let e : 2 * k + 2 ≡ 2 * suc k = omega arith in
+    ap₂ (λ (xs ys : List ℕ). xs ++ ys) (halves-low b f at n k (omega arith) l)
+    (ap (bytesOf 2) (half-read b at n k h) ∙ bytes-kept b f 2 (at + 2 * k) (omega arith))
+    ∙ sym (part-add b at (2 * k) 2) ∙ ap (part b at) e
+
+-- bytes that stand there already
+pub overlay-kept : (s : List ℕ) (p n : ℕ) (xs : List ℕ) → xs ≡ part s p n → p + n ≤ length s → overlay s p xs ≡ s
+unfolding overlay part
+overlay-kept s p n xs e h =
+    let l : length xs ≡ n = ap length e ∙ part-length s p n h in
+    ap₂ (λ (x : List ℕ) (k : ℕ). take p s ++ x ++ drop (p + k) s) e l
+    ∙ ap (λ (x : List ℕ). take p s ++ take n (drop p s) ++ x) (sym (drop-drop n p s))
+    ∙ append-assoc (take p s) (take n (drop p s)) (drop n (drop p s))
+    ∙ ap (λ (x : List ℕ). take p s ++ x) (take-append-drop n (drop p s)) ∙ take-append-drop p s
+
+-- bytes that stand there already, before others
+skip : (s : List ℕ) (p n : ℕ) (xs ys : List ℕ) → xs ≡ part s p n → p + n ≤ length s → overlay s p (xs ++ ys) ≡ overlay s (p + n) ys
+skip s p n xs ys e h =
+    let l : length xs ≡ n = ap length e ∙ part-length s p n h in
+    sym (overlay-join s p xs (omega (arith, l)) ys) ∙ ap₂ (λ (z : List ℕ) (k : ℕ). overlay z (p + k) ys) (overlay-kept s p n xs e h) l
+
+-- the bytes of a mode, uid and gid, and of a time
+pub owner-size : (mode uid gid : ℕ) → length (bytesOf 4 mode ++ bytesOf 4 uid ++ bytesOf 4 gid) ≡ 12
+owner-size mode uid gid = simp (length-append, bytes-length)
+
+pub time-length : (t : Time) → length (timeBytes t) ≡ 8
+unfolding timeBytes
+time-length t = simp (length-append, bytes-length)
+
+module _ (s : Store) (o : ℕ) (w : Object) (f : Below 256 s) (h : objectStart o + 80 ≤ length s)
+    (kind : w .kind ≡ objectAt s o .kind) (generation : w .generation ≡ objectAt s o .generation) (size : w .size ≡ objectAt s o .size)
+    (blocks : w .blocks ≡ objectAt s o .blocks) where
+  abbrev at : ℕ
+  at = objectStart o
+
+  front : bytesOf 4 (w .kind) ++ bytesOf 4 (w .generation) ≡ part s at 8
+  unfolding objectAt objectFrom
+  front =
+      ap₂ (λ (x y : ℕ). bytesOf 4 x ++ bytesOf 4 y) kind generation
+      ∙ ap₂ (λ (x y : List ℕ). x ++ y) (bytes-kept s f 4 at (omega arith)) (bytes-kept s f 4 (at + 4) (omega arith)) ∙ sym (part-add s at 4 4)
+
+  middle : bytesOf 4 (w .size) ≡ part s (at + 20) 4
+  unfolding objectAt objectFrom
+  middle = ap (bytesOf 4) size ∙ bytes-kept s f 4 (at + 20) (omega arith)
+
+  end : halvesBytes 16 (w .blocks) ≡ part s (at + 48) 32
+  unfolding objectAt objectFrom
+  end = ap (halvesBytes 16) blocks ∙ halves-low s f (at + 48) 16 16 (omega arith) (omega arith)
+
+  abbrev owner : List ℕ
+  owner = bytesOf 4 (w .mode) ++ bytesOf 4 (w .uid) ++ bytesOf 4 (w .gid)
+
+  owner-length : length owner ≡ 12
+  owner-length = owner-size (w .mode) (w .uid) (w .gid)
+
+  times-length : length (timesBytes w) ≡ 24
+  unfolding timesBytes
+  times-length = simp (length-append, time-length)
+
+  abbrev first : Store
+  first = overlay s (at + 8) owner
+
+  abbrev second : Store
+  second = overlay first (at + 24) (timesBytes w)
+
+  first-length : length first ≡ length s
+  first-length = overlay-length s (at + 8) owner (omega (arith, owner-length))
+
+  second-length : length second ≡ length s
+  second-length = overlay-length first (at + 24) (timesBytes w) (omega (arith, times-length, first-length)) ∙ first-length
+
+  size-kept : part first (at + 20) 4 ≡ part s (at + 20) 4
+  size-kept = part-after s (at + 8) owner (omega (arith, owner-length)) (at + 20) 4 (omega (arith, owner-length))
+
+  blocks-kept : part second (at + 48) 32 ≡ part s (at + 48) 32
+  blocks-kept =
+      part-after first (at + 24) (timesBytes w) (omega (arith, times-length, first-length)) (at + 48) 32 (omega (arith, times-length))
+      ∙ part-after s (at + 8) owner (omega (arith, owner-length)) (at + 48) 32 (omega (arith, owner-length))
+
+  spelt : objectBytes w ≡ (bytesOf 4 (w .kind) ++ bytesOf 4 (w .generation)) ++ (owner ++ (bytesOf 4 (w .size) ++ (timesBytes w ++ halvesBytes 16 (w .blocks))))
+  unfolding objectBytes headBytes
+  spelt = simp append-assoc
+
+  -- the attributes written are the record written
+  pub attributes-written : second ≡ putObject s o w
+  unfolding putObject
+  attributes-written =
+      let past : at + 8 + length owner ≡ at + 20 = omega (arith, owner-length) in
+      let behind : at + 24 + length (timesBytes w) ≡ at + 48 = omega (arith, times-length) in
+      let sized : at + 20 + 4 ≡ at + 24 = omega arith in
+      sym (ap (overlay s at) spelt
+      ∙ skip s at 8 _ _ front (omega arith)
+      ∙ sym (overlay-join s (at + 8) owner (omega (arith, owner-length)) _)
+      ∙ ap (λ (k : ℕ). overlay first k (bytesOf 4 (w .size) ++ (timesBytes w ++ halvesBytes 16 (w .blocks)))) past
+      ∙ skip first (at + 20) 4 _ _ (middle ∙ sym size-kept) (omega (arith, first-length))
+      ∙ ap (λ (k : ℕ). overlay first k (timesBytes w ++ halvesBytes 16 (w .blocks))) sized
+      ∙ sym (overlay-join first (at + 24) (timesBytes w) (omega (arith, times-length, first-length)) _)
+      ∙ ap (λ (k : ℕ). overlay second k (halvesBytes 16 (w .blocks))) behind
+      ∙ overlay-kept second (at + 48) 32 _ (end ∙ sym blocks-kept) (omega (arith, second-length)))
+
+-- two parts, one behind the other
+joined : (s : List ℕ) (p q n m : ℕ) (xs ys : List ℕ) → q ≡ p + n → xs ≡ part s p n → ys ≡ part s q m → xs ++ ys ≡ part s p (n + m)
+joined s p q n m xs ys e a b = ap₂ (λ (x y : List ℕ). x ++ y) a (b ∙ ap (λ (k : ℕ). part s k m) e) ∙ sym (part-add s p n m)
+
+module _ (s : Store) (o : ℕ) (f : Below 256 s) (h : objectStart o + 80 ≤ length s) where
+  time-kept : (p : ℕ) → p + 8 ≤ length s → timeBytes (timeAt s p) ≡ part s p 8
+  unfolding timeBytes timeAt
+  time-kept p k = joined s p (p + 4) 4 4 _ _ refl (bytes-kept s f 4 p (omega arith)) (bytes-kept s f 4 (p + 4) (omega arith))
+
+  owner-kept : bytesOf 4 (objectAt s o .mode) ++ bytesOf 4 (objectAt s o .uid) ++ bytesOf 4 (objectAt s o .gid) ≡ part s (objectStart o + 8) 12
+  unfolding objectAt objectFrom
+  owner-kept =
+      joined s (objectStart o + 8) (objectStart o + 16) 8 4 _ _ (omega arith)
+      (joined s (objectStart o + 8) (objectStart o + 12) 4 4 _ _ (omega arith) (bytes-kept s f 4 (objectStart o + 8) (omega arith)) (bytes-kept s f 4 (objectStart o + 12) (omega arith)))
+      (bytes-kept s f 4 (objectStart o + 16) (omega arith))
+
+  times-kept : timesBytes (objectAt s o) ≡ part s (objectStart o + 24) 24
+  unfolding timesBytes objectAt objectFrom
+  times-kept =
+      joined s (objectStart o + 24) (objectStart o + 40) 16 8 _ _ (omega arith)
+      (joined s (objectStart o + 24) (objectStart o + 32) 8 8 _ _ (omega arith) (time-kept (objectStart o + 24) (omega arith)) (time-kept (objectStart o + 32) (omega arith)))
+      (time-kept (objectStart o + 40) (omega arith))
+
+  atime-kept : timeBytes (objectAt s o .atime) ≡ part s (objectStart o + 24) 8
+  unfolding objectAt objectFrom
+  atime-kept = time-kept (objectStart o + 24) (omega arith)
+
+  -- an object written where it was read
+  pub object-kept : putObject s o (objectAt s o) ≡ s
+  object-kept =
+      sym (attributes-written s o (objectAt s o) f h refl refl refl refl)
+      ∙ ap (λ (z : Store). overlay z (objectStart o + 24) (timesBytes (objectAt s o))) (overlay-kept s (objectStart o + 8) 12 _ owner-kept (omega arith))
+      ∙ overlay-kept s (objectStart o + 24) 24 _ times-kept (omega arith)
+
+  -- mtime and ctime written alone
+  pub touched : (clock : Time) → overlay s (objectStart o + 32) (timeBytes clock ++ timeBytes clock) ≡ setAttributes s clock o mtimeAndCtime
+  unfolding setAttributes withAttributes timesBytes
+  touched clock =
+      let v = objectAt s o in
+      let w = withAttributes clock mtimeAndCtime v in
+      let p : objectStart o + 24 + 8 ≡ objectStart o + 32 = omega arith in
+      let atime : timeBytes (v .atime) ≡ part s (objectStart o + 24) 8 = atime-kept in
+      sym (sym (attributes-written s o w f h refl refl refl refl)
+      ∙ ap (λ (z : Store). overlay z (objectStart o + 24) (timeBytes (v .atime) ++ timeBytes clock ++ timeBytes clock)) (overlay-kept s (objectStart o + 8) 12 _ owner-kept (omega arith))
+      ∙ ap (overlay s (objectStart o + 24)) (append-assoc (timeBytes (v .atime)) (timeBytes clock) (timeBytes clock))
+      ∙ skip s (objectStart o + 24) 8 _ _ atime (omega arith)
+      ∙ ap (λ (k : ℕ). overlay s k (timeBytes clock ++ timeBytes clock)) p)

@@ -1,0 +1,1 @@
+pub mod Kept -- a record written with what was read from it
