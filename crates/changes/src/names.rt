@@ -37,9 +37,8 @@ use making::answers::mkdir_status;
 use making::checks::MkdirChecked;
 use making::checks::Target;
 use making::checks::check_mkdir;
-use metadata::mtime_and_ctime;
 use metadata::only_ctime;
-use metadata::set_attributes;
+use metadata::touch;
 use metadata::with_attributes;
 use naming::create_object;
 use results::Reply;
@@ -87,7 +86,7 @@ fn new_edit(
     create_object(store, o, n, v, d, call, name);
     let size = a.size;
     resize_to(store, used, o, size);
-    set_attributes(store, clock, d, mtime_and_ctime());
+    touch(store, clock, d);
 }
 
 // What CREATE does to the store for a file that has the name: it obeys the size.
@@ -108,7 +107,7 @@ fn existing_edit(
     };
     resize(store, used, o, n as usize);
     let clock = context.clock;
-    set_attributes(store, clock, o, mtime_and_ctime());
+    touch(store, clock, o);
 }
 
 // Makes a new object in a directory, and shows it.

@@ -15,9 +15,9 @@ use kinds::numbers::NameNumber;
 use kinds::numbers::ObjectNumber;
 use kinds::object::Context;
 use kinds::object::Time;
-use metadata::mtime_and_ctime;
 use metadata::only_ctime;
 use metadata::set_attributes;
+use metadata::touch;
 use naming::move_name;
 use naming::remove_object;
 
@@ -26,7 +26,7 @@ fn touch_directory(store: &mut [u8], clock: Time, d: ObjectNumber)
     requires { ⌜ objectStart (d .0) + 80 ≤ length (now store) ⌝ }
     ensures { λ _. ⌜ now (store .exit) ≡ setAttributes (now (store .entry)) clock (d .0) mtimeAndCtime ⌝ }
 {
-    set_attributes(store, clock, d, mtime_and_ctime());
+    touch(store, clock, d);
 }
 
 // An object and its name are removed, and the directory's times are set.

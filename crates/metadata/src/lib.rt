@@ -138,17 +138,3 @@ pub fn only_ctime() -> Settable
         mtime: SetTime::Keep,
     }
 }
-
-// Sets mtime and ctime.
-pub fn mtime_and_ctime() -> Settable
-    ensures { λ r. ⌜ r ≡ mtimeAndCtime ⌝ }
-{
-    Settable {
-        mode: SetNumber::Keep,
-        uid: SetNumber::Keep,
-        gid: SetNumber::Keep,
-        size: SetSize::Keep,
-        atime: SetTime::Keep,
-        mtime: SetTime::ToServer,
-    }
-}

@@ -1,13 +1,14 @@
 -- The object that a used name record names, as it is removed. Assumes nothing.
 use Prim.Native.Nat.{ℕ, _+_, _-_, _<_}
-use mathlib.Core.Path.{_≡_, ap, ap₂, _∙_}
+use mathlib.Core.Path.{_≡_, refl, ap, ap₂, _∙_}
+use mathlib.Core.List.{_++_}
 use native.Mathlib.Omega.{arith}
 use lib.ListN.{take}
 use Rattle.kinds.specs.Objects.{freeObject}
 use Rattle.kinds.specs.declared.object.Object.{Object}
-use Rattle.spec.specs.Bytes.{part}
+use Rattle.spec.specs.Bytes.{part, bytesOf, zeros}
 use Rattle.spec.specs.Edits.{clearBlocks, removeObject}
-use Rattle.spec.specs.Image.{Store, objects, names, blocks, objectAt, putObject, nameAt, putName, freeName}
+use Rattle.spec.specs.Image.{Store, objects, names, blocks, objectAt, timeBytes, headBytes, timesBytes, halvesBytes, objectBytes, putObject, nameAt, putName, freeName}
 use Rattle.spec.specs.Room.{sizeOf, need, held}
 use Rattle.spec.proofs.BlockLists.{InRange, held-range}
 use Rattle.spec.proofs.BlockWrites.{clear-blocks}
@@ -59,3 +60,8 @@ module _ {s : Store} {n o : ℕ} {v : Object} (r : Removing s n o v) where
         rw (← r .child)
         (e ∙ ap (λ (x : Store). putName x n freeName)
         (d ∙ ap₂ (λ (x : Store) (y : Object). putObject x o y) (a ∙ ap (clearBlocks s) child-held) (b ∙ ap (λ (x : Object). freeObject (x .generation + 1)) (r .object))))
+
+-- the bytes of a free object
+pub free-bytes : (g : ℕ) → bytesOf 4 0 ++ bytesOf 4 g ++ zeros 72 ≡ objectBytes (freeObject g)
+unfolding objectBytes headBytes timesBytes timeBytes halvesBytes bytesOf
+free-bytes g = refl

@@ -2,13 +2,15 @@
 ghost use mathlib.Core.Path.{_≡_};
 ghost use Prim.Native.Nat.{_+_, _≤_, _<_};
 ghost use lib.ListN.{length};
-ghost use Rattle.spec.specs.Image.{objects, names, nameAt};
+ghost use Rattle.kinds.specs.Objects.{freeObject};
+ghost use Rattle.spec.specs.Image.{objectStart, objects, names, nameAt, putObject};
 ghost use Rattle.spec.specs.Edits.{withGeneration, createObject, removeObject, moveName};
 ghost use Rattle.spec.specs.Procedures.{cut};
 ghost use Rattle.spec.proofs.GoodRecords.{GoodRecords};
 ghost use Rattle.spec.proofs.Valid.{Used};
 use blocks::clear_blocks;
 use blocks::need;
+use image::counts::object_start;
 use image::name::clear_name;
 use image::name::name_child;
 use image::name::save_name;
@@ -16,6 +18,7 @@ use image::object::generation_of;
 use image::object::load_object;
 use image::object::save_object;
 use kinds::call::Part;
+use kinds::numbers::Kind;
 use kinds::numbers::NameNumber;
 use kinds::numbers::ObjectNumber;
 use kinds::object::Object;
@@ -52,6 +55,17 @@ pub fn create_object(
     save_name(store, n, directory, o, call, name);
 }
 
+// Frees an object's record, which keeps a generation.
+fn clear_object(store: &mut [u8], o: ObjectNumber, generation: u32)
+    requires { ⌜ objectStart (o .0) + 80 ≤ length (now store) ⌝ }
+    ensures { λ _. ⌜ now (store .exit) ≡ putObject (now (store .entry)) (o .0) (freeObject generation) ⌝ }
+{
+    let at = object_start(store, o);
+    wire::put_u32(store, at, Kind::FREE);
+    wire::put_u32(store, at + 4, generation);
+    wire::clear_bytes(store, at + 8, 72);
+}
+
 // The object that a used name record names, its blocks and the name record are free.
 pub fn remove_object(store: &mut [u8], n: NameNumber)
     requires { ⌜ GoodRecords (now store) ⌝ }
@@ -64,7 +78,7 @@ pub fn remove_object(store: &mut [u8], n: NameNumber)
     let blocks = v.blocks;
     let held = need(v.size as usize);
     clear_blocks(store, blocks, 0, held);
-    save_object(store, o, Object::free(v.generation + 1));
+    clear_object(store, o, v.generation + 1);
     clear_name(store, n);
 }
 

@@ -19,8 +19,7 @@ use image::object::size_of;
 use kinds::call::Part;
 use kinds::numbers::ObjectNumber;
 use kinds::object::Context;
-use metadata::mtime_and_ctime;
-use metadata::set_attributes;
+use metadata::touch;
 use results::Reply;
 use room::transferred;
 
@@ -55,7 +54,7 @@ fn write_edit(
     resize(store, used, o, larger(old, offset + n));
     write_file(store, o, offset, call, start, n);
     let clock = context.clock;
-    set_attributes(store, clock, o, mtime_and_ctime());
+    touch(store, clock, o);
 }
 
 // Writes bytes of the call at an offset of a file that the checks passed: the file as it was and as it is, the bytes written and the verifier.

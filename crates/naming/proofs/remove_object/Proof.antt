@@ -1,3 +1,5 @@
+use mathlib.Core.Path.{refl}
+use Rattle.kinds.specs.Objects.{freeObject}
 use Prim.Native.Nat.{zero-le}
 use native.Mathlib.Omega.{arith}
 use borrow.Author.Needs.{needs}
@@ -36,26 +38,23 @@ clear-blocks-requires c κs =
     let n = c .before .need in
     (r .good .sound, (zero-le, (omega (arith, n .ensures, live-size _ _ (child-record r)), child-range r (n .result) (n .ensures))))
 
-add-free : tie.Need-add-free
-add-free c = omega (arith, child-record (removing (c .before .before .before .before .before .before .before .before .before)) .generation)
+add-clear-object : tie.Need-add-clear-object
+add-clear-object c = omega (arith, child-record (removing (c .before .before .before .before .before .before .before .before .before)) .generation)
 
-free-requires : tie.Need-free-requires
-free-requires c κs = search needs
-
-save-object-requires : tie.Need-save-object-requires
-save-object-requires c κs =
-    let r = removing (c .before .before .before .before .before .before .before .before .before .before) in
+clear-object-requires : tie.Need-clear-object-requires
+clear-object-requires c κs =
+    let r = removing (c .before .before .before .before .before .before .before .before .before) in
     let w = r .good .sound .shaped in
     omega (arith, child-below r)
 
 clear-name-requires : tie.Need-clear-name-requires
 clear-name-requires c κs =
     let u = c .before .before .before in
-    let t = u .before .before .before .before .before .before in
+    let t = u .before .before .before .before .before in
     let n = t .before .before in
     let r = removing (n .before .before .before) in
-    let k = freed-shape r (n .need .result) (n .need .ensures) (t .clear-blocks .last .0) (u .save-object .last .0) (u .before .free .result)
-    (t .clear-blocks .ensures) (u .save-object .ensures) in
+    let k = freed-shape r (n .need .result) (n .need .ensures) (t .clear-blocks .last .0) (u .clear-object .last .0) (freeObject _)
+    (t .clear-blocks .ensures) (u .clear-object .ensures) in
     let w = r .good .sound .shaped in
     omega (arith, r .below)
 
@@ -66,10 +65,10 @@ returns : tie.Need-returns
 returns c =
     let z = c .before .before in
     let u = z .before .before .before .before in
-    let t = u .before .before .before .before .before .before in
+    let t = u .before .before .before .before .before in
     let n = t .before .before in
-    removed (removing (n .before .before .before)) (n .need .result) (n .need .ensures) (t .clear-blocks .last .0) (u .save-object .last .0) (z .clear-name .last .0) (u .before .free .result)
-    (t .clear-blocks .ensures) (u .before .free .ensures) (u .save-object .ensures) (z .clear-name .ensures)
+    removed (removing (n .before .before .before)) (n .need .result) (n .need .ensures) (t .clear-blocks .last .0) (u .clear-object .last .0) (z .clear-name .last .0) (freeObject _)
+    (t .clear-blocks .ensures) refl (u .clear-object .ensures) (z .clear-name .ensures)
 
 pub remove-object-spec : {M : Type 1} → statement M
 remove-object-spec =
@@ -80,9 +79,8 @@ remove-object-spec =
     cast-need
     need-requires
     clear-blocks-requires
-    add-free
-    free-requires
-    save-object-requires
+    add-clear-object
+    clear-object-requires
     clear-name-requires
     same-length
     returns)

@@ -39,17 +39,14 @@ write-file-requires c κs =
     let f = grown-file (st .args .store .now) (st .args .o .0) (st .args .offset) (st .args .n) (st .pre .0) (st .pre .1 .1 .0) (c .before .before .before .resize .last .0) (c .before .before .before .resize .ensures ∙ ap (resize (st .args .store .now) (st .args .o .0)) e) in
     (f .still .good, (f .below, (f .live, (f .inside, st .pre .1 .1 .1))))
 
-mtime-and-ctime-requires : tie.Need-mtime-and-ctime-requires
-mtime-and-ctime-requires c κs = search needs
-
-set-attributes-requires : tie.Need-set-attributes-requires
-set-attributes-requires c κs =
-    let st = c .before .before .before .before .before .before .before .before .before .before .before .before .before .before .before .before in
-    let e : c .before .before .before .before .before .before .before .before .before .before .larger .result ≡ grown (st .args .store .now) (st .args .o .0) (st .args .offset) (st .args .n) = rw (← c .before .before .before .before .before .before .before .before .before .before .before .before .size-of .ensures) (c .before .before .before .before .before .before .before .before .before .before .larger .ensures) in
-    let f = grown-file (st .args .store .now) (st .args .o .0) (st .args .offset) (st .args .n) (st .pre .0) (st .pre .1 .1 .0) (c .before .before .before .before .before .before .before .before .before .resize .last .0) (c .before .before .before .before .before .before .before .before .before .resize .ensures ∙ ap (resize (st .args .store .now) (st .args .o .0)) e) in
-    let w = below-part 256 (st .args .call .now) (st .args .start) (st .args .n) (lit< tt) (λ k. c .before .before .before .before .before .before .before .before .before .before .before .before .before .before .shared-slice-known .given k .fits) in
-    let h = written-shape (st .args .store .now) (st .args .o .0) (st .args .offset) (st .args .n) (st .pre .0) (st .pre .1 .1 .0) (c .before .before .before .before .before .before .before .before .before .resize .last .0) (c .before .before .before .before .before .write-file .last .0) (part (st .args .call .now) (st .args .start) (st .args .n)) f w (part-length _ _ _ (st .pre .1 .1 .1)) (c .before .before .before .before .before .write-file .ensures) in
-    record-inside (st .args .store .now) (c .before .before .before .before .before .write-file .last .0) (st .args .o .0) (st .pre .0) h (st .pre .1 .1 .0 .below)
+touch-requires : tie.Need-touch-requires
+touch-requires c κs =
+    let st = c .before .before .before .before .before .before .before .before .before .before .before .before .before .before .before in
+    let e : c .before .before .before .before .before .before .before .before .before .larger .result ≡ grown (st .args .store .now) (st .args .o .0) (st .args .offset) (st .args .n) = rw (← c .before .before .before .before .before .before .before .before .before .before .before .size-of .ensures) (c .before .before .before .before .before .before .before .before .before .larger .ensures) in
+    let f = grown-file (st .args .store .now) (st .args .o .0) (st .args .offset) (st .args .n) (st .pre .0) (st .pre .1 .1 .0) (c .before .before .before .before .before .before .before .before .resize .last .0) (c .before .before .before .before .before .before .before .before .resize .ensures ∙ ap (resize (st .args .store .now) (st .args .o .0)) e) in
+    let w = below-part 256 (st .args .call .now) (st .args .start) (st .args .n) (lit< tt) (λ k. c .before .before .before .before .before .before .before .before .before .before .before .before .before .shared-slice-known .given k .fits) in
+    let h = written-shape (st .args .store .now) (st .args .o .0) (st .args .offset) (st .args .n) (st .pre .0) (st .pre .1 .1 .0) (c .before .before .before .before .before .before .before .before .resize .last .0) (c .before .before .before .before .write-file .last .0) (part (st .args .call .now) (st .args .start) (st .args .n)) f w (part-length _ _ _ (st .pre .1 .1 .1)) (c .before .before .before .before .write-file .ensures) in
+    record-inside (st .args .store .now) (c .before .before .before .before .write-file .last .0) (st .args .o .0) (st .pre .0) h (st .pre .1 .1 .0 .below)
 
 same-length : tie.Need-same-length
 same-length c = search needs
@@ -58,13 +55,12 @@ returns : tie.Need-returns
 unfolding writeEdit
 returns c =
     rw (
-      part-length _ _ _ (c .before .before .before .before .before .before .before .before .before .before .before .before .before .before .before .before .before .before .before .pre .1 .1 .1),
-      c .before .before .set-attributes .ensures,
-      c .before .before .before .mtime-and-ctime .ensures,
-      c .before .before .before .before .before .before .before .before .write-file .ensures,
-      c .before .before .before .before .before .before .before .before .before .before .before .before .resize .ensures,
-      c .before .before .before .before .before .before .before .before .before .before .before .before .before .larger .ensures,
-      c .before .before .before .before .before .before .before .before .before .before .before .before .before .before .before .size-of .ensures,
+      part-length _ _ _ (c .before .before .before .before .before .before .before .before .before .before .before .before .before .before .before .before .before .before .pre .1 .1 .1),
+      c .before .before .touch .ensures,
+      c .before .before .before .before .before .before .before .write-file .ensures,
+      c .before .before .before .before .before .before .before .before .before .before .before .resize .ensures,
+      c .before .before .before .before .before .before .before .before .before .before .before .before .larger .ensures,
+      c .before .before .before .before .before .before .before .before .before .before .before .before .before .before .size-of .ensures,
     )
 
 pub write-edit-spec : {M : Type 1} → statement M
@@ -77,7 +73,6 @@ write-edit-spec =
     larger-requires
     resize-requires
     write-file-requires
-    mtime-and-ctime-requires
-    set-attributes-requires
+    touch-requires
     same-length
     returns)

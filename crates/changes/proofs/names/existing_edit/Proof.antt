@@ -22,16 +22,13 @@ resize-requires c κs =
     let z = rw (c .before .before .size .given .1) at p in
     (st .pre .0, (st .pre .1 .0, (z .below, (z .regular refl, (z .small, z .room)))))
 
-mtime-and-ctime-requires : tie.Need-mtime-and-ctime-requires
-mtime-and-ctime-requires c κs = search needs
-
-set-attributes-requires : tie.Need-set-attributes-requires
-set-attributes-requires c κs =
-    let st = c .before .before .before .before .before .before .before .before .before .before .before in
+touch-requires : tie.Need-touch-requires
+touch-requires c κs =
+    let st = c .before .before .before .before .before .before .before .before .before .before in
     let p : Sizable (st .args .store .now) (st .args .o .0) (st .args .size) = st .pre .1 .1 in
-    let z = rw (c .before .before .before .before .before .before .before .before .size .given .1) at p in
+    let z = rw (c .before .before .before .before .before .before .before .size .given .1) at p in
     let r = resize-still (st .args .store .now) (st .pre .0) (st .args .o .0) _ (z .below) (z .regular refl) (z .small) (z .room) in
-    record-inside (st .args .store .now) (c .before .before .before .before .before .resize .last .0) (st .args .o .0) (st .pre .0) (rw (c .before .before .before .before .before .resize .ensures) (r .shape)) (z .below)
+    record-inside (st .args .store .now) (c .before .before .before .before .resize .last .0) (st .args .o .0) (st .pre .0) (rw (c .before .before .before .before .resize .ensures) (r .shape)) (z .below)
 
 same-length : tie.Need-same-length
 same-length c = search needs
@@ -39,10 +36,9 @@ same-length c = search needs
 returns-2 : tie.Need-returns-2
 returns-2 c =
     rw (
-      c .before .before .before .before .before .before .before .before .before .before .before .size .given .1,
-      c .before .before .set-attributes .ensures,
-      c .before .before .before .mtime-and-ctime .ensures,
-      c .before .before .before .before .before .before .before .before .resize .ensures,
+      c .before .before .before .before .before .before .before .before .before .before .size .given .1,
+      c .before .before .touch .ensures,
+      c .before .before .before .before .before .before .before .resize .ensures,
     )
 
 pub existing-edit-spec : {M : Type 1} → statement M
@@ -53,7 +49,6 @@ existing-edit-spec =
     enum-told
     returns
     resize-requires
-    mtime-and-ctime-requires
-    set-attributes-requires
+    touch-requires
     same-length
     returns-2)
