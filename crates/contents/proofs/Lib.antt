@@ -1,3 +1,4 @@
+pub mod Copies
 pub mod Files
 pub mod Hyper
 pub mod Runs

@@ -10,7 +10,7 @@ use lib.ListN.{length, take, drop, length-append}
 use lib.Seq.{take-nil}
 use borrow.Author.Tests.{lt-ltb, le-ltb}
 use Rattle.spec.specs.Count.{passing, lowest}
-use Rattle.spec.specs.Bytes.{part}
+use Rattle.spec.specs.Bytes.{part, beAt}
 use Rattle.spec.specs.Image.{Store, objects, names, nameStart, nameAt, nameFrom, nameLength}
 use Rattle.spec.specs.Room.{isUsedName, isNaming, isIn, directoryOf, parent}
 use Rattle.spec.specs.Results.{Entry}
@@ -20,7 +20,8 @@ use Rattle.spec.proofs.Count.{and-both, lowest-passes}
 use Rattle.spec.proofs.Listing.{above-append, taken-bytes, passing-more, passing-split, entry-length}
 use Rattle.spec.proofs.GoodKept.{used-of}
 use Rattle.spec.proofs.GoodRecords.{GoodRecords}
-use Rattle.spec.proofs.Valid.{UsedName, used-true}
+use Rattle.spec.proofs.Valid.{UsedName, used-true, true-used, false-used}
+use Rattle.find.proofs.Named.{in-directory}
 use Rattle.xdr.specs.Wrote.{Wrote}
 use Rattle.xdr.proofs.Wrote.{wrote-none, wrote-length, andThen, sized}
 use Rattle.contents.specs.declared.entries.Place.{Place}
@@ -110,6 +111,15 @@ module _ (s : Store) (cookie d : ℕ) where
       let e = ap above (passing-split (entryOf s) (isIn s d) (n + 1) m (omega arith)) ∙ above-append cookie (namedEntries s d (n + 1)) later ∙ ap (λ (es : List Entry). es ++ above later) (above-more n) in
       rest-room (above (namedEntries s d n)) (above (entryIn s d n)) a (front-room p (above (namedEntries s d n) ++ above (entryIn s d n)) (above later) r (rw e at h))
 
+  -- where no more are sent, what was sent of the records below n was sent of those below m
+  pub sent-rest : (n m : ℕ) {r r₁ : List ℕ} {p q : Place} → n ≤ m → q .left ≡ 0 → Sent (above (namedEntries s d n)) r r₁ p q
+      → Sent (above (namedEntries s d m)) r r₁ p q
+  sent-rest n m {r} {r₁} {p} {q} l z a =
+      let later = map (entryOf s) (drop (length (passing n (isIn s d))) (passing m (isIn s d))) in
+      let e = ap above (passing-split (entryOf s) (isIn s d) n m l) ∙ above-append cookie (namedEntries s d n) later in
+      let k = wrote-length (a .wrote) in
+      rw e (sent-append (above (namedEntries s d n)) (above later) a (sent-full (above later) r₁ q z (omega (arith, k, a .wrote .place, a .wrote .fits))))
+
 -- ---- the objects of a used name record, and the parent of an object, are objects
 used-record : (s : Store) (n : ℕ) → GoodRecords s → n < names s → isUsedName s n ≡ true → UsedName s n
 used-record s n g l u = used-of s n (used-true s n u) (g .good-names n l)
@@ -138,6 +148,26 @@ module _ (s : Store) (d n : ℕ) where
       let h = g .sound .shaped in
       let c = used-record s n g l (and-both (isUsedName s n) (eqb (nameAt s n .directory) d) e .0) .child in
       omega arith
+
+-- ---- the fields of the name record that starts at `at`
+module _ (s : Store) (n at : ℕ) (p : at ≡ nameStart s n) where
+  pub directory-here : beAt s at 4 ≡ nameAt s n .directory
+  unfolding nameAt nameFrom
+  directory-here = rw p
+
+  pub child-here : beAt s (at + 4) 4 ≡ nameAt s n .child
+  unfolding nameAt nameFrom
+  child-here = rw p
+
+  pub length-here : beAt s (at + 8) 4 ≡ nameLength s n
+  unfolding nameLength
+  length-here = rw p
+
+pub is-in-used : (s : Store) (d n : ℕ) → nameAt s n .directory ≡ d → 0 < nameLength s n → isIn s d n ≡ true
+is-in-used s d n e h = in-directory s d n e ∙ true-used s n h
+
+pub is-in-free : (s : Store) (d n : ℕ) → nameAt s n .directory ≡ d → nameLength s n ≡ 0 → isIn s d n ≡ false
+is-in-free s d n e h = in-directory s d n e ∙ false-used s n h
 
 pub entry-of : (s : Store) (n c at len : ℕ) → c ≡ nameAt s n .child → at ≡ nameStart s n → len ≡ nameLength s n
     → entry (c + 1) (part s (at + 12) len) (n + 3) ≡ entryOf s n

@@ -14,7 +14,7 @@ use Rattle.spec.specs.Image.{Store}
 use Rattle.spec.specs.Procedures.Listing.{entries, entriesAbove, fitting, isNothing, checkListing}
 use Rattle.spec.specs.Results.{Entry, listed, failShowing}
 use Rattle.spec.proofs.Listing.{fitting-front}
-use Rattle.reads.specs.Run.{startRun, runOf, sentRun, listedIn}
+use Rattle.reads.specs.Run.{openRun, runOf, sentRun, listedIn}
 use Rattle.reads.specs.declared.listing.Run.{Run}
 use Rattle.reads.proofs.Runs.{start-fits}
 
@@ -24,7 +24,7 @@ nothing-test [] (e ∷ es) = rw (eqb·zero-suc (length es))
 nothing-test (x ∷ xs) [] = rw (eqb·suc-zero (length xs))
 nothing-test (x ∷ xs) (e ∷ es) = rw (eqb·suc-zero (length xs)) (sym (and-false (not (eqb (suc (length xs)) (suc (length es))))))
 
-module _ (given limit : ℕ) (es : List Entry) (h : 104 ≤ limit) (run : Run) (is : run ≡ runOf given (startRun (limit - 104)) es) where
+module _ (given limit : ℕ) (es : List Entry) (h : 104 ≤ limit) (run : Run) (is : run ≡ runOf given (openRun (limit - 104) 0) es) where
   abbrev above : List Entry
   above = entriesAbove given es
 

@@ -3,13 +3,14 @@ use Prim.Native.Nat.{ℕ, _+_, _-_, min}
 use lib.Dec.{eqb, leb, ltb}
 use lib.ListN.{length, take}
 use mathlib.Core.Bool.{Bool, true, false, not, cond}
-use mathlib.Core.List.{List, [], _∷_}
+use mathlib.Core.List.{List, [], _∷_, map}
 use Rattle.kinds.specs.Numbers.{BAD-COOKIE}
-use Rattle.spec.specs.Bytes.{padding}
+use Rattle.spec.specs.Bytes.{beAt, padding}
 use Rattle.spec.specs.Checked.{Checked, bind, refuseIf, refused, passed}
 use Rattle.spec.specs.Handles.{attributes}
-use Rattle.spec.specs.Image.{Store, nameAt}
-use Rattle.spec.specs.Procedures.Listing.{entries, entriesAbove, checkListing}
+use Rattle.spec.specs.Count.{passing}
+use Rattle.spec.specs.Image.{Store}
+use Rattle.spec.specs.Procedures.Listing.{entryOf, entries, entriesAbove, checkListing}
 use Rattle.spec.specs.Results.{Entry, Done, unchanged, failShowing, settle, listed}
 use Rattle.spec.specs.Room.{isIn}
 use Rattle.reads.specs.declared.listing.Listing.{Listing}
@@ -20,9 +21,17 @@ use Rattle.reads.specs.declared.listing.Run.{Run}
 abbrev pub cost : ℕ → ℕ
 cost long = 24 + (long + padding long)
 
--- no entry yet, in a room
-abbrev pub startRun : ℕ → Run
-startRun room = record { room = room; count = 0; full = false }
+-- a run of `count` entries that has not ended, with room left
+abbrev pub openRun : ℕ → ℕ → Run
+openRun room count = record { room = room; count = count; full = false }
+
+-- the entries that the name records below n have in directory d
+abbrev pub namedEntries : Store → ℕ → ℕ → List Entry
+namedEntries s d n = map (entryOf s) (passing n (isIn s d))
+
+-- the length of the name of the record that starts at `at`; 0 where the record is not in directory d
+abbrev pub lengthIn : Store → ℕ → ℕ → ℕ
+lengthIn s at d = cond (eqb (beAt s at 4) d) (beAt s (at + 8) 4) 0
 
 -- a run that has not ended, with one entry more where it fits
 unfoldable pub fitted : Run → ℕ → Run
@@ -33,10 +42,6 @@ fitted run long =
 -- a run after an entry, by its cookie and the length of its name
 unfoldable pub extended : ℕ → Run → ℕ → ℕ → Run
 extended given run cookie long = cond (ltb given cookie) (cond (run .full) run (fitted run long)) run
-
--- a run after name record n
-unfoldable pub extendedAt : Store → ℕ → ℕ → Run → ℕ → Run
-extendedAt s d given run n = cond (isIn s d n) (extended given run (n + 3) (length (nameAt s n .text))) run
 
 unfoldable pub runOf : ℕ → Run → List Entry → Run
 runOf given run [] = run

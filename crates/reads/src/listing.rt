@@ -4,26 +4,27 @@ ghost use mathlib.Core.Bool.{_&&_};
 ghost use Prim.Native.Nat.{_+_, _≤_, _<_};
 ghost use lib.Dec.{eqb};
 ghost use lib.ListN.{length};
+ghost use Rattle.spec.specs.Bytes.{beAt};
 ghost use Rattle.spec.specs.Image.{objects, names};
 ghost use Rattle.spec.specs.Procedures.{cut};
 ghost use Rattle.spec.specs.Procedures.Listing.{entries, entriesAbove, readdir};
 ghost use Rattle.spec.proofs.GoodRecords.{GoodRecords};
 ghost use Rattle.results.specs.Meaning.{resultOf};
 ghost use Rattle.results.specs.Writable.{Writable};
-ghost use Rattle.reads.specs.Run.{cost, startRun, extended, extendedAt, runOf, listingOf, sentRun, readdirIn};
+ghost use Rattle.reads.specs.Run.{cost, openRun, namedEntries, lengthIn, extended, runOf, listingOf, sentRun, readdirIn};
 use crate::data::least;
 use files::failure::fail_showing;
 use files::handle::Reached;
 use files::handle::reach_directory;
 use files::shown::attributes;
-use find::name::is_in;
 use image::counts::name_count;
-use image::name::name_length;
+use image::counts::object_count;
 use kinds::call::Part;
 use kinds::numbers::Limit;
 use kinds::numbers::NameNumber;
 use kinds::numbers::ObjectNumber;
 use kinds::numbers::Status;
+use places::name_place;
 use results::Reply;
 
 // A run of entries: the room that is left, how many there are, and whether the next one did not fit.
@@ -76,25 +77,63 @@ fn extend(run: Run, given: u64, cookie: u64, long: usize) -> Run
     }
 }
 
-// Adds the entry of a name record, where it is in the directory.
-fn extend_at(run: Run, store: &[u8], d: ObjectNumber, given: u64, n: NameNumber) -> Run
-    requires { ⌜ GoodRecords (now store) ⌝ }
-    requires { ⌜ n .0 < names (now store) ⌝ }
-    requires { ⌜ run .count ≤ 200 ⌝ }
-    ensures { λ r. ⌜ r ≡ extendedAt (now (store .entry)) (d .0) given run (n .0) ⌝ }
+// The length of the name of the record that starts at `at`; 0 where the record is not in the directory.
+fn length_in(store: &[u8], at: usize, d: ObjectNumber) -> usize
+    requires { ⌜ at + 12 ≤ length (now store) ⌝ }
+    requires { ⌜ beAt (now store) (at + 8) 4 < 256 ⌝ }
+    ensures { λ r. ⌜ r ≡ lengthIn (now (store .entry)) at (d .0) ⌝ }
 {
-    let i = n.0;
-    if is_in(store, n, d) {
-        let long = name_length(store, n);
-        return extend(run, given, i as u64 + 3, long);
+    if wire::get_u32(store, at) as usize != d.0 {
+        return 0;
     }
-    run
+    (wire::get_u32(store, at + 8) % 256) as usize
+}
+
+// The run of a directory's names above a cookie, in a room, behind `count` entries; the first that does not fit ends it.
+fn name_run(store: &[u8], d: ObjectNumber, given: u64, room: usize, count: usize) -> Run
+    requires { ⌜ GoodRecords (now store) ⌝ }
+    requires { ⌜ count ≤ 2 ⌝ }
+    ensures { λ r. ⌜ r ≡ runOf given (openRun room count) (namedEntries (now (store .entry)) (d .0) (names (now (store .entry)))) ⌝ }
+{
+    let total = name_count(store);
+    let objects = object_count(store);
+    let mut at = name_place(objects, NameNumber(0));
+    let mut left = room;
+    let mut found = count;
+    let mut i = 0;
+    while i < total {
+        let long = length_in(store, at, d);
+        let number = i as u64 + 3;
+        at += Limit::NAME_BYTES;
+        i += 1;
+        if long == 0 {
+            continue;
+        }
+        if number <= given {
+            continue;
+        }
+        let price = entry_cost(long);
+        if left < price {
+            return Run {
+                room: left,
+                count: found,
+                full: true,
+            };
+        }
+        left -= price;
+        found += 1;
+    }
+    Run {
+        room: left,
+        count: found,
+        full: false,
+    }
 }
 
 // The run of a directory's entries above a cookie, in a room.
 fn run_of(store: &[u8], d: ObjectNumber, given: u64, room: usize) -> Run
     requires { ⌜ GoodRecords (now store) ⌝ }
-    ensures { λ r. ⌜ r ≡ runOf given (startRun room) (entries (now (store .entry)) (d .0)) ⌝ }
+    ensures { λ r. ⌜ r ≡ runOf given (openRun room 0) (entries (now (store .entry)) (d .0)) ⌝ }
 {
     let start = Run {
         room,
@@ -102,14 +141,13 @@ fn run_of(store: &[u8], d: ObjectNumber, given: u64, room: usize) -> Run
         full: false,
     };
     let dot = extend(start, given, 1, 1);
-    let mut run = extend(dot, given, 2, 2);
-    let total = name_count(store);
-    let mut i = 0;
-    while i < total {
-        run = extend_at(run, store, d, given, NameNumber(i));
-        i += 1;
+    let dots = extend(dot, given, 2, 2);
+    if dots.full {
+        return dots;
     }
-    run
+    let left = dots.room;
+    let count = dots.count;
+    name_run(store, d, given, left, count)
 }
 
 // Whether something remains, and its first does not fit.

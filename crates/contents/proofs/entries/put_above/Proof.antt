@@ -21,8 +21,9 @@ put-entry-requires : tie.Need-put-entry-requires
 put-entry-requires c κs =
     let a = c .before .before .before .before .before .args in
     let e = one-cost (a .p) (a .cookie) (entry (a .fileid) (part (a .src .now) (a .from) (a .len)) (a .number)) (c .before .before .if1 .left) (omega arith) in
-    let l = part-length (a .src .now) (a .from) (a .len) (omega arith) in
-    (omega arith, (omega arith, omega (arith, rw l at e)))
+    let h = c .before .before .before .before .before .pre .0 in
+    let l = part-length (a .src .now) (a .from) (a .len) (omega (arith, h .inside)) in
+    (h, omega (arith, rw l at e))
 
 sub-t16 : tie.Need-sub-t16
 sub-t16 c = search needs

@@ -4,6 +4,7 @@ use native.Mathlib.Omega.{arith}
 use Rattle.spec.specs.Bytes.{part}
 use Rattle.spec.specs.Procedures.Listing.{entriesAbove}
 use Rattle.contents.specs.Entries.{entry}
+use Rattle.contents.proofs.Copies.{padded-dot, padded-dots}
 use Rattle.contents.proofs.Runs.{above-dots, sent-append, front-room, rest-room}
 use borrow.Author.Needs.{needs}
 use Rattle.contents.proofs.entries.put_dots.Statement.{statement}
@@ -22,7 +23,7 @@ put-above-requires : tie.Need-put-above-requires
 unfolding part
 put-above-requires c κs =
     let a = c .before .before .before .before .args in
-    (omega arith, (omega arith, front-room (a .p) (entriesAbove (a .cookie) (entry (a .directory .0 + 1) (0x2E ∷ []) 1 ∷ [])) (entriesAbove (a .cookie) (entry (a .parent .0 + 1) (0x2E ∷ 0x2E ∷ []) 2 ∷ [])) (a .reply .now) (rw (above-dots (a .cookie) (a .directory .0) (a .parent .0)) at (c .before .before .before .before .pre .1 .1))))
+    (padded-dot, front-room (a .p) (entriesAbove (a .cookie) (entry (a .directory .0 + 1) (0x2E ∷ []) 1 ∷ [])) (entriesAbove (a .cookie) (entry (a .parent .0 + 1) (0x2E ∷ 0x2E ∷ []) 2 ∷ [])) (a .reply .now) (rw (above-dots (a .cookie) (a .directory .0) (a .parent .0)) at (c .before .before .before .before .pre .1 .1)))
 
 cast-put-above-2 : tie.Need-cast-put-above-2
 cast-put-above-2 c = search needs
@@ -37,7 +38,7 @@ put-above-requires-2 : tie.Need-put-above-requires-2
 unfolding part
 put-above-requires-2 c κs =
     let a = c .before .before .before .before .before .before .before .before .before .before .args in
-    (omega arith, (omega arith, rest-room (entriesAbove (a .cookie) (entry (a .directory .0 + 1) (0x2E ∷ []) 1 ∷ [])) (entriesAbove (a .cookie) (entry (a .parent .0 + 1) (0x2E ∷ 0x2E ∷ []) 2 ∷ [])) (c .before .before .before .before .before .put-above .ensures) (rw (above-dots (a .cookie) (a .directory .0) (a .parent .0)) at (c .before .before .before .before .before .before .before .before .before .before .pre .1 .1))))
+    (padded-dots, rest-room (entriesAbove (a .cookie) (entry (a .directory .0 + 1) (0x2E ∷ []) 1 ∷ [])) (entriesAbove (a .cookie) (entry (a .parent .0 + 1) (0x2E ∷ 0x2E ∷ []) 2 ∷ [])) (c .before .before .before .before .before .put-above .ensures) (rw (above-dots (a .cookie) (a .directory .0) (a .parent .0)) at (c .before .before .before .before .before .before .before .before .before .before .pre .1 .1)))
 
 same-length : tie.Need-same-length
 same-length c = search needs

@@ -1,49 +1,57 @@
-use Prim.Native.Nat.{_+_}
-use mathlib.Core.Path.{_≡_}
 use native.Mathlib.Omega.{arith}
-use Rattle.spec.specs.Bytes.{padding}
-use Rattle.spec.specs.Replies.{entryBytes}
-use Rattle.xdr.proofs.Wrote.{andThen}
-use Rattle.contents.proofs.Hyper.{hyper-small}
+use Rattle.spec.specs.Bytes.{part}
+use Rattle.spec.proofs.Bytes.{part-length}
+use Rattle.contents.proofs.Copies.{wrote-entry}
 use borrow.Author.Needs.{needs}
 use Rattle.contents.proofs.entries.put_entry.Statement.{statement}
 use Rattle.contents.proofs.entries.put_entry.Tie as tie
 
-slice-aggregate-put-words : tie.Need-slice-aggregate-put-words
-slice-aggregate-put-words c = search needs
+put-word-requires : tie.Need-put-word-requires
+put-word-requires c κs = search needs
 
-put-words-requires : tie.Need-put-words-requires
-put-words-requires c κs = search needs
+put-word-requires-2 : tie.Need-put-word-requires-2
+put-word-requires-2 c κs = search needs
 
-put-opaque-requires : tie.Need-put-opaque-requires
-put-opaque-requires c κs = search needs
+put-word-requires-3 : tie.Need-put-word-requires-3
+put-word-requires-3 c κs = search needs
 
-slice-aggregate-put-words-2 : tie.Need-slice-aggregate-put-words-2
-slice-aggregate-put-words-2 c = search needs
+cast-put-word : tie.Need-cast-put-word
+cast-put-word c = omega (arith, c .before .before .before .before .before .before .before .before .before .before .before .before .before .before .before .pre .0 .short)
 
-put-words-requires-2 : tie.Need-put-words-requires-2
-put-words-requires-2 c κs = search needs
+put-word-requires-4 : tie.Need-put-word-requires-4
+put-word-requires-4 c κs = search needs
+
+put-padded-requires : tie.Need-put-padded-requires
+put-padded-requires c κs = (c .before .before .before .before .before .before .before .before .before .before .before .before .before .before .before .before .before .before .before .pre .0, omega arith)
+
+put-word-requires-5 : tie.Need-put-word-requires-5
+put-word-requires-5 c κs = search needs
+
+put-word-requires-6 : tie.Need-put-word-requires-6
+put-word-requires-6 c κs = search needs
 
 same-length : tie.Need-same-length
 same-length c = search needs
 
 returns : tie.Need-returns
-unfolding entryBytes
 returns c =
-    let a = c .before .before .before .before .before .before .before .before .before .before .before .before .before .before .before .before .args in
-    let n = a .len + padding (a .len) in
-    let e : 24 + n ≡ 12 + (4 + a .len + padding (a .len)) + 8 = omega arith in
-    rw (e, hyper-small (a .fileid) (omega arith), hyper-small (a .number) (omega arith))
-    (andThen (andThen (c .before .before .before .before .before .before .before .before .before .before .before .put-words .ensures) (c .before .before .before .before .before .before .before .put-opaque .ensures)) (c .before .before .put-words2 .ensures))
+    let st = c .before .before .before .before .before .before .before .before .before .before .before .before .before .before .before .before .before .before .before .before .before .before .before .before .before .before .before .before .before .before in
+    let a = st .args in
+    wrote-entry (a .fileid) (a .number) (a .len) (part (a .src .now) (a .from) (a .len)) (omega arith) (omega arith) (part-length (a .src .now) (a .from) (a .len) (omega (arith, st .pre .0 .inside)))
+    (c .before .before .before .before .before .before .before .before .before .before .before .before .before .before .before .before .before .before .before .before .before .before .before .before .before .before .put-word .ensures) (c .before .before .before .before .before .before .before .before .before .before .before .before .before .before .before .before .before .before .before .before .before .before .put-word2 .ensures) (c .before .before .before .before .before .before .before .before .before .before .before .before .before .before .before .before .before .before .put-word3 .ensures) (c .before .before .before .before .before .before .before .before .before .before .before .before .before .before .put-word4 .ensures)
+    (c .before .before .before .before .before .before .before .before .before .before .put-padded .ensures) (c .before .before .before .before .before .before .put-word5 .ensures) (c .before .before .put-word6 .ensures)
 
 pub put-entry-spec : {M : Type 1} → statement M
 put-entry-spec =
     tie.close
     (tie.spec
-    slice-aggregate-put-words
-    put-words-requires
-    put-opaque-requires
-    slice-aggregate-put-words-2
-    put-words-requires-2
+    put-word-requires
+    put-word-requires-2
+    put-word-requires-3
+    cast-put-word
+    put-word-requires-4
+    put-padded-requires
+    put-word-requires-5
+    put-word-requires-6
     same-length
     returns)
