@@ -101,11 +101,7 @@ pub fn before(store: &[u8], o: ObjectNumber) -> Before
     let size = shown_size(store, o);
     let mtime = mtime_of(store, o);
     let ctime = ctime_of(store, o);
-    Before {
-        size,
-        mtime,
-        ctime,
-    }
+    Before { size, mtime, ctime }
 }
 
 // An object that a call has not changed: the same before and after.

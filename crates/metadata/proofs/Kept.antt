@@ -31,13 +31,13 @@ bytes-low b f (suc w) at k h =
     let number : beAt b at (k + suc w) ≡ beAt b at (k + 1) * 256 ^ w + beAt b (at + (k + 1)) w = ap (beAt b at) e ∙ be-add b at (k + 1) w (omega arith) in
     let front : beAt b at (k + 1) ≡ beAt b at k * 256 + beAt b (at + k) 1 = be-add b at k 1 (omega arith) in
     let high : beAt b at (k + suc w) / 256 ^ w ≡ beAt b at (k + 1) =
-        ap (λ (x : ℕ). x / 256 ^ w) number ∙ mul-add-div-right (one-le-pow w 256 (lit< tt)) (beAt b at (k + 1)) (beAt b (at + (k + 1)) w)
-        ∙ rw (div-eq-of-lt (be-below b (at + (k + 1)) w f)) (omega arith) in
+    ap (λ (x : ℕ). x / 256 ^ w) number ∙ mul-add-div-right (one-le-pow w 256 (lit< tt)) (beAt b at (k + 1)) (beAt b (at + (k + 1)) w)
+    ∙ rw (div-eq-of-lt (be-below b (at + (k + 1)) w f)) (omega arith) in
     let head : beAt b at (k + suc w) / 256 ^ w % 256 ≡ getD b (at + k) 0 =
-        ap (λ (x : ℕ). x % 256) high ∙ omega (arith, front, byte-at b (at + k) (omega arith), f (at + k)) in
+    ap (λ (x : ℕ). x % 256) high ∙ omega (arith, front, byte-at b (at + k) (omega arith), f (at + k)) in
     let behind : at + (k + 1) ≡ suc (at + k) = omega arith in
     let tail : bytesOf w (beAt b at (k + suc w)) ≡ part b (suc (at + k)) w =
-        ap (λ (x : ℕ). bytesOf w (beAt b at x)) e ∙ bytes-low b f w at (k + 1) (omega arith) ∙ ap (λ (p : ℕ). part b p w) behind in
+    ap (λ (x : ℕ). bytesOf w (beAt b at x)) e ∙ bytes-low b f w at (k + 1) (omega arith) ∙ ap (λ (p : ℕ). part b p w) behind in
     ap₂ (λ (x : ℕ) (xs : List ℕ). x ∷ xs) head tail ∙ sym (part-cons b (at + k) w (omega arith))
 
 -- a number of w bytes

@@ -1,1 +1,1 @@
-pub mod Kept -- a record written with what was read from it
+pub mod Kept  -- a record written with what was read from it
