@@ -23,7 +23,7 @@ returns-3 c =
     long-call (a .call .now) (a .store .now) (a .reply .now) (a .context) (c .before .before .before .if1 .left) (c .before .if2 .left) (c .if3 .taken)
 
 check-store-requires : tie.Need-check-store-requires
-check-store-requires c κs = (c .before .before .before .before .before .before .before .before .before .pre, blank-of 64)
+check-store-requires c κs = (c .before .before .before .before .before .before .before .before .before .before .pre, blank-of 64)
 
 enum-told : tie.Need-enum-told
 enum-told c = search needs
