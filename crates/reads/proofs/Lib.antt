@@ -1,5 +1,3 @@
 pub mod Found
 pub mod Few
-pub mod Runs
-pub mod Sent
 pub mod Writable

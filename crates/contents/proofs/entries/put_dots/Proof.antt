@@ -1,6 +1,5 @@
 use Prim.Native.Nat.{_+_}
 use mathlib.Core.List.{[], _∷_}
-use native.Mathlib.Omega.{arith}
 use Rattle.spec.specs.Bytes.{part}
 use Rattle.spec.specs.Procedures.Listing.{entriesAbove}
 use Rattle.contents.specs.Entries.{entry}

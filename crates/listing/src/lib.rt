@@ -11,8 +11,7 @@ ghost use Rattle.spec.specs.Procedures.Listing.{entries, entriesAbove, readdir}
 ghost use Rattle.spec.proofs.GoodRecords.{GoodRecords};
 ghost use Rattle.results.specs.Meaning.{resultOf};
 ghost use Rattle.results.specs.Writable.{Writable};
-ghost use Rattle.reads.specs.Run.{cost, openRun, namedEntries, lengthIn, extended, runOf, listingOf, sentRun, readdirIn};
-use crate::data::least;
+ghost use Rattle.listing.specs.Run.{cost, openRun, namedEntries, lengthIn, extended, runOf, listingOf, sentRun, readdirIn};
 use files::failure::fail_showing;
 use files::handle::Reached;
 use files::handle::reach_directory;
@@ -25,6 +24,7 @@ use kinds::numbers::NameNumber;
 use kinds::numbers::ObjectNumber;
 use kinds::numbers::Status;
 use places::name_place;
+use reads::data::least;
 use results::Reply;
 
 // A run of entries: the room that is left, how many there are, and whether the next one did not fit.

@@ -19,8 +19,8 @@ use Rattle.spec.proofs.GoodRecords.{GoodRecords}
 use Rattle.spec.proofs.Listing.{passing-split}
 use Rattle.spec.proofs.RecordRange.{text-length}
 use Rattle.spec.proofs.Valid.{true-used, false-used}
-use Rattle.reads.specs.Run.{cost, openRun, namedEntries, lengthIn, fitted, extended, runOf}
-use Rattle.reads.specs.declared.listing.Run.{Run}
+use Rattle.listing.specs.Run.{cost, openRun, namedEntries, lengthIn, fitted, extended, runOf}
+use Rattle.listing.specs.declared.Run.{Run}
 
 -- ---- an entry adds at most one
 pub extended-few : (given : ℕ) (run : Run) (cookie long : ℕ) → extended given run cookie long .count ≤ run .count + 1

@@ -2,9 +2,9 @@ use mathlib.Core.Path.{sym, _∙_}
 use borrow.Author.Needs.{needs}
 use borrow.Author.Tests.{lt-ltb}
 use Rattle.spec.specs.Procedures.Listing.{entries, checkListing}
-use Rattle.reads.proofs.Sent.{listing-small, listing-sent}
-use Rattle.reads.proofs.listing.check_listing.Statement.{statement}
-use Rattle.reads.proofs.listing.check_listing.Tie as tie
+use Rattle.listing.proofs.Sent.{listing-small, listing-sent}
+use Rattle.listing.proofs.check_listing.Statement.{statement}
+use Rattle.listing.proofs.check_listing.Tie as tie
 
 returns : tie.Need-returns
 unfolding checkListing

@@ -1,9 +1,9 @@
 use borrow.Author.Needs.{needs}
 use Rattle.spec.specs.Procedures.Listing.{checkReaddir, readdir}
 use Rattle.files.proofs.Reach.{directory-reached}
 use Rattle.reads.proofs.Writable.{failure-writable}
-use Rattle.reads.proofs.listing.readdir.Statement.{statement}
-use Rattle.reads.proofs.listing.readdir.Tie as tie
+use Rattle.listing.proofs.readdir.Statement.{statement}
+use Rattle.listing.proofs.readdir.Tie as tie
 
 reach-directory-requires : tie.Need-reach-directory-requires
 reach-directory-requires c κs = search needs

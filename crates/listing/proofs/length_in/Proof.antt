@@ -1,10 +1,9 @@
-use mathlib.Core.Path.{_≡_, sym, _∙_}
-use Prim.Native.Nat.{_%_}
+use mathlib.Core.Path.{sym, _∙_}
 use native.Mathlib.Omega.{arith}
 use borrow.Author.Tests.{eq-eqb, ne-eqb}
 use borrow.Author.Needs.{needs}
-use Rattle.reads.proofs.listing.length_in.Statement.{statement}
-use Rattle.reads.proofs.listing.length_in.Tie as tie
+use Rattle.listing.proofs.length_in.Statement.{statement}
+use Rattle.listing.proofs.length_in.Tie as tie
 
 get-u32-requires : tie.Need-get-u32-requires
 get-u32-requires c κs = search needs

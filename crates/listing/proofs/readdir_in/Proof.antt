@@ -5,11 +5,12 @@ use borrow.Author.Needs.{needs}
 use borrow.Author.Tests.{eq-eqb, ne-eqb}
 use Rattle.spec.specs.Procedures.{cut}
 use Rattle.spec.specs.Procedures.Listing.{entries, entriesAbove, checkListing}
-use Rattle.reads.specs.Run.{listingOf}
-use Rattle.reads.proofs.Sent.{listed-sent, listed-refused}
-use Rattle.reads.proofs.Writable.{failure-writable, listable}
-use Rattle.reads.proofs.listing.readdir_in.Statement.{statement}
-use Rattle.reads.proofs.listing.readdir_in.Tie as tie
+use Rattle.listing.specs.Run.{listingOf}
+use Rattle.listing.proofs.Sent.{listed-sent, listed-refused}
+use Rattle.reads.proofs.Writable.{failure-writable}
+use Rattle.listing.proofs.Writable.{listable}
+use Rattle.listing.proofs.readdir_in.Statement.{statement}
+use Rattle.listing.proofs.readdir_in.Tie as tie
 
 fail-showing-requires : tie.Need-fail-showing-requires
 fail-showing-requires c κs = search needs

@@ -4,10 +4,10 @@ use native.Mathlib.Omega.{arith}
 use borrow.Author.Needs.{needs}
 use Rattle.spec.specs.Count.{passing}
 use Rattle.spec.specs.Image.{names, nameStart}
-use Rattle.reads.specs.Run.{openRun, namedEntries, runOf}
-use Rattle.reads.proofs.Runs.{is-absent, length-at, named-here, over-absent, over-low, over-fitting, over-large}
-use Rattle.reads.proofs.listing.name_run.Statement.{statement}
-use Rattle.reads.proofs.listing.name_run.Tie as tie
+use Rattle.listing.specs.Run.{openRun, namedEntries, runOf}
+use Rattle.listing.proofs.Runs.{is-absent, length-at, named-here, over-absent, over-low, over-fitting, over-large}
+use Rattle.listing.proofs.name_run.Statement.{statement}
+use Rattle.listing.proofs.name_run.Tie as tie
 
 abbrev Inv-loop : tie.InvT-loop
 Inv-loop store d given room count total objects at₀ left₀ found₀ i₀ at left found i =

@@ -1,8 +1,8 @@
 use borrow.Author.Needs.{needs}
 use borrow.Author.Tests.{lt-ltb, le-ltb, le-leb, lt-leb}
-use Rattle.reads.specs.Run.{extended, fitted}
-use Rattle.reads.proofs.listing.extend.Statement.{statement}
-use Rattle.reads.proofs.listing.extend.Tie as tie
+use Rattle.listing.specs.Run.{extended, fitted}
+use Rattle.listing.proofs.extend.Statement.{statement}
+use Rattle.listing.proofs.extend.Tie as tie
 
 returns : tie.Need-returns
 unfolding extended

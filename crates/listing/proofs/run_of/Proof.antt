@@ -2,12 +2,12 @@ use Prim.Native.Nat.{_≤_}
 use mathlib.Core.Path.{sym, ap, _∙_}
 use native.Mathlib.Omega.{arith}
 use Rattle.spec.specs.Image.{names}
-use Rattle.reads.specs.Run.{openRun, namedEntries, extended, runOf}
-use Rattle.reads.specs.declared.listing.Run.{Run}
-use Rattle.reads.proofs.Runs.{extended-few, run-ended, run-open, behind-dots}
+use Rattle.listing.specs.Run.{openRun, namedEntries, extended, runOf}
+use Rattle.listing.specs.declared.Run.{Run}
+use Rattle.listing.proofs.Runs.{extended-few, run-ended, run-open, behind-dots}
 use borrow.Author.Needs.{needs}
-use Rattle.reads.proofs.listing.run_of.Statement.{statement}
-use Rattle.reads.proofs.listing.run_of.Tie as tie
+use Rattle.listing.proofs.run_of.Statement.{statement}
+use Rattle.listing.proofs.run_of.Tie as tie
 
 extend-requires : tie.Need-extend-requires
 extend-requires c κs = search needs

@@ -13,9 +13,9 @@ use Rattle.spec.specs.Image.{Store}
 use Rattle.spec.specs.Procedures.Listing.{entryOf, entries, entriesAbove, checkListing}
 use Rattle.spec.specs.Results.{Entry, Done, unchanged, failShowing, settle, listed}
 use Rattle.spec.specs.Room.{isIn}
-use Rattle.reads.specs.declared.listing.Listing.{Listing}
-use Rattle.reads.specs.declared.listing.Listing.the-variants as Listing
-use Rattle.reads.specs.declared.listing.Run.{Run}
+use Rattle.listing.specs.declared.Listing.{Listing}
+use Rattle.listing.specs.declared.Listing.the-variants as Listing
+use Rattle.listing.specs.declared.Run.{Run}
 
 -- what an entry costs, by the length of its name
 abbrev pub cost : ℕ → ℕ

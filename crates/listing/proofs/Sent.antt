@@ -14,9 +14,9 @@ use Rattle.spec.specs.Image.{Store}
 use Rattle.spec.specs.Procedures.Listing.{entries, entriesAbove, fitting, isNothing, checkListing}
 use Rattle.spec.specs.Results.{Entry, listed, failShowing}
 use Rattle.spec.proofs.Listing.{fitting-front}
-use Rattle.reads.specs.Run.{openRun, runOf, sentRun, listedIn}
-use Rattle.reads.specs.declared.listing.Run.{Run}
-use Rattle.reads.proofs.Runs.{start-fits}
+use Rattle.listing.specs.Run.{openRun, runOf, sentRun, listedIn}
+use Rattle.listing.specs.declared.Run.{Run}
+use Rattle.listing.proofs.Runs.{start-fits}
 
 nothing-test : (xs es : List Entry) → not (isNothing es) && isNothing xs ≡ not (eqb (length xs) (length es)) && eqb (length xs) 0
 nothing-test [] [] = refl

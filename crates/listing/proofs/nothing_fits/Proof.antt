@@ -1,5 +1,5 @@
-use Rattle.reads.proofs.listing.nothing_fits.Statement.{statement}
-use Rattle.reads.proofs.listing.nothing_fits.Tie as tie
+use Rattle.listing.proofs.nothing_fits.Statement.{statement}
+use Rattle.listing.proofs.nothing_fits.Tie as tie
 
 returns : tie.Need-returns
 returns c = rw (c .before .if1 .taken)
