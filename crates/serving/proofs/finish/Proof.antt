@@ -13,7 +13,7 @@ put-result-requires c κs = search needs
 
 cast-result : tie.Need-cast-result
 cast-result c =
-    let h = c .before .before .before .before .before .before .before .before .before .before .before .before .before .args .h in
+    let h = c .before .before .before .before .before .before .before .before .before .before .before .before .args .h in
     let k = reply-short (c .before .before .before .before .before .before .before .run .last .0) (h .procedure) (h .xid) (c .before .before .before .before .before .before .before .run .result) (c .before .before .before .before .before .before .before .run .ensures .writable) in
     omega (arith, c .before .before .put-result .ensures .place)
 
@@ -25,7 +25,7 @@ same-length-2 c = search needs
 
 returns : tie.Need-returns
 returns c =
-    let h = c .before .before .before .before .before .before .before .before .before .before .before .before .before .args .h in
+    let h = c .before .before .before .before .before .before .before .before .before .before .before .before .args .h in
     sends-done h _ (c .before .before .before .before .before .before .before .run .last .0) (c .before .before .before .before .before .before .before .run .result) (c .before .before .before .before .before .before .before .run .ensures .does) (c .before .before .put-result .ensures)
 
 pub finish-spec : {M : Type 1} → statement M
