@@ -6,7 +6,7 @@ use lib.ListN.{length}
 use Rattle.kinds.specs.declared.call.Arguments.{Arguments}
 use Rattle.kinds.specs.declared.call.Cursor.{Cursor}
 use Rattle.spec.specs.Arguments.{arguments}
-use Rattle.spec.proofs.Arguments.{Within, arguments-within}
+use Rattle.laws.proofs.Arguments.{Within, arguments-within}
 use Rattle.args.specs.declared.reading.ArgumentsRead.{ArgumentsRead}
 use Rattle.args.specs.declared.reading.ArgumentsRead.the-variants as ArgumentsRead
 use Rattle.args.specs.Reading.{argumentsOf}

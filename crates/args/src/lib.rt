@@ -4,7 +4,7 @@ ghost use Rattle.spec.specs.Arguments.{arguments};
 ghost use Rattle.args.specs.Reading.{argumentsOf};
 
 pub mod reading; // what reading arguments answers
-pub mod procedures; // the arguments of each procedure
+pub mod of_procedure; // the arguments of each procedure
 
 use crate::reading::ArgumentsRead;
 use kinds::call::Arguments;
@@ -18,23 +18,23 @@ fn arguments_at(s: &[u8], at: usize, procedure: u32) -> ArgumentsRead
 {
     let c = Cursor { at };
     match procedure {
-        Procedure::NULL => procedures::finish(s, c, Arguments::Null),
-        Procedure::GETATTR => procedures::getattr(s, c),
-        Procedure::SETATTR => procedures::setattr(s, c),
-        Procedure::LOOKUP => procedures::lookup(s, c),
-        Procedure::ACCESS => procedures::access(s, c),
-        Procedure::READ => procedures::read(s, c),
-        Procedure::WRITE => procedures::write(s, c),
-        Procedure::CREATE => procedures::create(s, c),
-        Procedure::MKDIR => procedures::mkdir(s, c),
-        Procedure::REMOVE => procedures::remove(s, c),
-        Procedure::RMDIR => procedures::rmdir(s, c),
-        Procedure::RENAME => procedures::rename(s, c),
-        Procedure::READDIR => procedures::readdir(s, c),
-        Procedure::FSSTAT => procedures::fsstat(s, c),
-        Procedure::FSINFO => procedures::fsinfo(s, c),
-        Procedure::PATHCONF => procedures::pathconf(s, c),
-        Procedure::COMMIT => procedures::commit(s, c),
+        Procedure::NULL => of_procedure::finish(s, c, Arguments::Null),
+        Procedure::GETATTR => of_procedure::getattr(s, c),
+        Procedure::SETATTR => of_procedure::setattr(s, c),
+        Procedure::LOOKUP => of_procedure::lookup(s, c),
+        Procedure::ACCESS => of_procedure::access(s, c),
+        Procedure::READ => of_procedure::read(s, c),
+        Procedure::WRITE => of_procedure::write(s, c),
+        Procedure::CREATE => of_procedure::create(s, c),
+        Procedure::MKDIR => of_procedure::mkdir(s, c),
+        Procedure::REMOVE => of_procedure::remove(s, c),
+        Procedure::RMDIR => of_procedure::rmdir(s, c),
+        Procedure::RENAME => of_procedure::rename(s, c),
+        Procedure::READDIR => of_procedure::readdir(s, c),
+        Procedure::FSSTAT => of_procedure::fsstat(s, c),
+        Procedure::FSINFO => of_procedure::fsinfo(s, c),
+        Procedure::PATHCONF => of_procedure::pathconf(s, c),
+        Procedure::COMMIT => of_procedure::commit(s, c),
         _ => ArgumentsRead::Got(Arguments::Unserved, c),
     }
 }

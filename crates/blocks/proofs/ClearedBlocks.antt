@@ -7,11 +7,11 @@ use lib.ListN.{length, getD}
 use Rattle.spec.specs.Bytes.{part, overlay, zeros}
 use Rattle.spec.specs.Edits.{clearBlocks}
 use Rattle.spec.specs.Image.{Store, blocks, blockStart}
-use Rattle.spec.proofs.BlockLists.{InRange}
-use Rattle.spec.proofs.BlockWrites.{clear-blocks, clear-append}
-use Rattle.spec.proofs.Bytes.{getD-part, part-length, part-snoc}
-use Rattle.spec.proofs.Kept.{Sound, RecordsKept}
-use Rattle.spec.proofs.Shape.{SameShape}
+use Rattle.laws.proofs.BlockLists.{InRange}
+use Rattle.laws.proofs.BlockWrites.{clear-blocks, clear-append}
+use Rattle.laws.proofs.Bytes.{getD-part, part-length, part-snoc}
+use Rattle.laws.proofs.Kept.{Sound, RecordsKept}
+use Rattle.laws.proofs.Shape.{SameShape}
 
 module _ (s : Store) (numbers : List ℕ) (start end : ℕ) (h : Sound s) (few : end ≤ length numbers)
     (range : InRange (blocks s) (part numbers start (end - start))) where

@@ -7,8 +7,8 @@ use lib.ListN.{length}
 use Rattle.kinds.specs.Numbers.{REGULAR}
 use Rattle.spec.specs.Image.{Store, objects, blocks, objectAt}
 use Rattle.spec.specs.Room.{sizeOf, byteAt}
-use Rattle.spec.proofs.GoodRecords.{GoodRecords, live-at}
-use Rattle.spec.proofs.Valid.{live-size}
+use Rattle.laws.proofs.GoodRecords.{GoodRecords, live-at}
+use Rattle.laws.proofs.Valid.{live-size}
 
 pub tail-fits : (s : Store) (o start : ℕ) → GoodRecords s → o < objects s → objectAt s o .kind ≡ REGULAR → start ≤ sizeOf s o → start % 512 ≢ 0
     → (start < 8192) × (byteAt s o start + (512 - start % 512) ≤ length s)

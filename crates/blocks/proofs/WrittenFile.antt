@@ -9,16 +9,16 @@ use Rattle.spec.specs.Bytes.{part, overlay}
 use Rattle.spec.specs.Edits.{writeFile}
 use Rattle.spec.specs.Image.{Store, objects, blocks, objectAt}
 use Rattle.spec.specs.Room.{sizeOf, byteAt}
-use Rattle.spec.proofs.BlockWrites.{place-end, write-file}
-use Rattle.spec.proofs.Bytes.{part-add, part-length}
-use Rattle.spec.proofs.FileData.{write-in-block, write-parts}
-use Rattle.spec.proofs.GoodRecords.{GoodRecords, live-at}
-use Rattle.spec.proofs.Kept.{RecordsKept}
-use Rattle.spec.proofs.Range.{Below}
-use Rattle.spec.proofs.RecordRange.{below-part}
-use Rattle.spec.proofs.Shape.{SameShape}
-use Rattle.spec.proofs.Structure.{kept-structure, byteAt-same}
-use Rattle.spec.proofs.Valid.{Live, LiveObject, live-size}
+use Rattle.laws.proofs.BlockWrites.{place-end, write-file}
+use Rattle.laws.proofs.Bytes.{part-add, part-length}
+use Rattle.laws.proofs.FileData.{write-in-block, write-parts}
+use Rattle.laws.proofs.GoodRecords.{GoodRecords, live-at}
+use Rattle.laws.proofs.Kept.{RecordsKept}
+use Rattle.laws.proofs.Range.{Below}
+use Rattle.laws.proofs.RecordRange.{below-part}
+use Rattle.laws.proofs.Shape.{SameShape}
+use Rattle.laws.proofs.Structure.{kept-structure, byteAt-same}
+use Rattle.laws.proofs.Valid.{Live, LiveObject, live-size}
 
 -- the n bytes of the call from `start` are written at an offset of object o's file, all within its size
 pub record Writing (s : Store) (o offset : ℕ) (call : List ℕ) (start n : ℕ) : Type 0 where

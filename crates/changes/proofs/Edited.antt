@@ -17,14 +17,14 @@ use Rattle.spec.specs.Image.{Store, objects, blocks, objectAt}
 use Rattle.spec.specs.Procedures.{cut, act}
 use Rattle.spec.specs.Procedures.Attributes.{resizeTo, checkSetattr, setattrEdit, setattr}
 use Rattle.spec.specs.Procedures.Data.{mostBytes, checkWrite, writeStore, writeDone, write}
-use Rattle.spec.proofs.ActGood.{act-good, regular-of}
-use Rattle.spec.proofs.Bytes.{part-length}
-use Rattle.spec.proofs.GoodRecords.{GoodRecords, StillGood, GoodClock, still-refl, live-at, resize-still}
-use Rattle.spec.proofs.Passed.{SetattrPassed, WritePassed}
-use Rattle.spec.proofs.Range.{Below}
-use Rattle.spec.proofs.Resize.{resize-tree}
-use Rattle.spec.proofs.SetAttributes.{FitsSettable}
-use Rattle.spec.proofs.Valid.{Valid}
+use Rattle.laws.proofs.ActGood.{act-good, regular-of}
+use Rattle.laws.proofs.Bytes.{part-length}
+use Rattle.laws.proofs.GoodRecords.{GoodRecords, StillGood, GoodClock, still-refl, live-at, resize-still}
+use Rattle.laws.proofs.Passed.{SetattrPassed, WritePassed}
+use Rattle.laws.proofs.Range.{Below}
+use Rattle.laws.proofs.Resize.{resize-tree}
+use Rattle.laws.proofs.SetAttributes.{FitsSettable}
+use Rattle.laws.proofs.Valid.{Valid}
 use Rattle.writing.specs.Writable.{Writable}
 use Rattle.changes.specs.Ready.{Sizable}
 

@@ -15,12 +15,12 @@ use Rattle.spec.specs.Image.{Store, blocks, objectAt}
 use Rattle.spec.specs.Procedures.Attributes.{resizeTo}
 use Rattle.spec.specs.Procedures.Names.{newObject, newEdit, existingEdit}
 use Rattle.spec.specs.Room.{uses, sizeOf, freeBlockCount}
-use Rattle.spec.proofs.CreateObject.{create-object, create-object-uses}
-use Rattle.spec.proofs.GoodRecords.{GoodRecords, StillGood, GoodClock, clock-fits, still-refl, still-trans, free-size, set-attributes-still, resize-still, create-object-still}
-use Rattle.spec.proofs.Kept.{BothSet}
-use Rattle.spec.proofs.Range.{Below}
-use Rattle.spec.proofs.SameReads.{isFreeBlock-reads, freeBlockCount-reads}
-use Rattle.spec.proofs.SetAttributes.{mtime-and-ctime-fits, mtime-and-ctime-allowed, new-fits, new-live}
+use Rattle.laws.proofs.CreateObject.{create-object, create-object-uses}
+use Rattle.laws.proofs.GoodRecords.{GoodRecords, StillGood, GoodClock, clock-fits, still-refl, still-trans, free-size, set-attributes-still, resize-still, create-object-still}
+use Rattle.laws.proofs.Kept.{BothSet}
+use Rattle.laws.proofs.Range.{Below}
+use Rattle.laws.proofs.SameReads.{isFreeBlock-reads, freeBlockCount-reads}
+use Rattle.laws.proofs.SetAttributes.{mtime-and-ctime-fits, mtime-and-ctime-allowed, new-fits, new-live}
 use Rattle.find.specs.Blocks.{UsedMap}
 use Rattle.changes.specs.Ready.{Sizable, Makable}
 use Rattle.changes.proofs.Edited.{sized-still, sized-kind}

@@ -16,11 +16,11 @@ use Rattle.kinds.specs.declared.call.How.the-variants as How
 use Rattle.spec.specs.Image.{Store}
 use Rattle.spec.specs.Procedures.Attributes.{isGiven, sizeSet}
 use Rattle.spec.specs.Procedures.Names.{new, existing, settableOf}
-use Rattle.spec.proofs.ArgumentRange.{FitsHow}
-use Rattle.spec.proofs.Count.{true-false}
-use Rattle.spec.proofs.GoodRecords.{GoodRecords, GoodClock, used-at}
-use Rattle.spec.proofs.Passed.{CreatePassed, MkdirPassed, found-record}
-use Rattle.spec.proofs.SetAttributes.{FitsSettable, only-ctime-fits}
+use Rattle.laws.proofs.ArgumentRange.{FitsHow}
+use Rattle.laws.proofs.Count.{true-false}
+use Rattle.laws.proofs.GoodRecords.{GoodRecords, GoodClock, used-at}
+use Rattle.laws.proofs.Passed.{CreatePassed, MkdirPassed, found-record}
+use Rattle.laws.proofs.SetAttributes.{FitsSettable, only-ctime-fits}
 use Rattle.making.specs.Meaning.{madeOf}
 use Rattle.changes.specs.Ready.{Sizable, Makable}
 use Rattle.making.specs.declared.checks.Target.{Target}

@@ -11,11 +11,11 @@ use Rattle.kinds.specs.declared.call.Settable.{Settable}
 use Rattle.spec.specs.Image.{Store, objects, objectAt}
 use Rattle.spec.specs.Room.{sizeOf, need, freeBlockCount}
 use Rattle.spec.specs.Procedures.Attributes.{isGiven, sizeSet}
-use Rattle.spec.proofs.GoodRecords.{GoodClock}
-use Rattle.spec.proofs.Range.{Below}
-use Rattle.spec.proofs.Passed.{NewRoom}
-use Rattle.spec.proofs.SetAttributes.{FitsSettable, Allowed}
-use Rattle.spec.proofs.Valid.{GoodName, Valid}
+use Rattle.laws.proofs.GoodRecords.{GoodClock}
+use Rattle.laws.proofs.Range.{Below}
+use Rattle.laws.proofs.Passed.{NewRoom}
+use Rattle.laws.proofs.SetAttributes.{FitsSettable, Allowed}
+use Rattle.laws.proofs.Valid.{GoodName, Valid}
 use Rattle.find.specs.Blocks.{UsedMap}
 
 -- a valid store of bytes, the map of its used blocks, the number of its free blocks, and a good clock

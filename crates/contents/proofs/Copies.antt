@@ -9,12 +9,12 @@ use lib.ListN.{length}
 use Rattle.spec.specs.Bytes.{part, overlay, padding, zeros, beOf, digits, bytesOf, beAt, words, opaqueBytes}
 use Rattle.spec.specs.Image.{Store, names, nameStart, nameLength}
 use Rattle.spec.specs.Replies.{entryBytes}
-use Rattle.spec.proofs.Bytes.{part-add, part-length, overlay-more}
-use Rattle.spec.proofs.GoodRecords.{GoodRecords}
-use Rattle.spec.proofs.Range.{Below}
-use Rattle.spec.proofs.RecordRange.{below-part, below-zeros}
-use Rattle.spec.proofs.Valid.{Padded, GoodNameRecord}
-use Rattle.spec.proofs.Zeros.{zero-within}
+use Rattle.laws.proofs.Bytes.{part-add, part-length, overlay-more}
+use Rattle.laws.proofs.GoodRecords.{GoodRecords}
+use Rattle.laws.proofs.Range.{Below}
+use Rattle.laws.proofs.RecordRange.{below-part, below-zeros}
+use Rattle.laws.proofs.Valid.{Padded, GoodNameRecord}
+use Rattle.laws.proofs.Zeros.{zero-within}
 use Rattle.xdr.specs.Wrote.{Wrote}
 use Rattle.xdr.proofs.Wrote.{andThen, andWords}
 use Rattle.contents.specs.Entries.{PaddedName, entry}

@@ -7,8 +7,8 @@ use lib.ListN.{length}
 use Rattle.kinds.specs.declared.object.Object.{Object}
 use Rattle.spec.specs.Image.{Store, objectStart, objects, blocks, objectAt}
 use Rattle.spec.specs.Room.{sizeOf, byteAt}
-use Rattle.spec.proofs.GoodRecords.{GoodRecords}
-use Rattle.spec.proofs.Valid.{GoodObject, LiveObject, live-size}
+use Rattle.laws.proofs.GoodRecords.{GoodRecords}
+use Rattle.laws.proofs.Valid.{GoodObject, LiveObject, live-size}
 
 -- an object with a byte is live
 with-byte : (r : ℕ) (v : Object) (i : ℕ) → GoodObject r v → i < v .size → LiveObject r v

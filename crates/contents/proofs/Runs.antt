@@ -16,11 +16,11 @@ use Rattle.spec.specs.Room.{isUsedName, isNaming, isIn, directoryOf, parent}
 use Rattle.spec.specs.Results.{Entry}
 use Rattle.spec.specs.Procedures.Listing.{entryOf, dotEntries, entries, entriesAbove, entryCost}
 use Rattle.spec.specs.Replies.{entryBytes, entriesBytes}
-use Rattle.spec.proofs.Count.{and-both, lowest-passes}
-use Rattle.spec.proofs.Listing.{above-append, taken-bytes, passing-more, passing-split, entry-length}
-use Rattle.spec.proofs.GoodKept.{used-of}
-use Rattle.spec.proofs.GoodRecords.{GoodRecords}
-use Rattle.spec.proofs.Valid.{UsedName, used-true, true-used, false-used}
+use Rattle.laws.proofs.Count.{and-both, lowest-passes}
+use Rattle.laws.proofs.Listing.{above-append, taken-bytes, passing-more, passing-split, entry-length}
+use Rattle.laws.proofs.GoodKept.{used-of}
+use Rattle.laws.proofs.GoodRecords.{GoodRecords}
+use Rattle.laws.proofs.Valid.{UsedName, used-true, true-used, false-used}
 use Rattle.find.proofs.Named.{in-directory}
 use Rattle.xdr.specs.Wrote.{Wrote}
 use Rattle.xdr.proofs.Wrote.{wrote-none, wrote-length, andThen, sized}

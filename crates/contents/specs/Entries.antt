@@ -11,7 +11,7 @@ use Rattle.spec.specs.Room.{isIn}
 use Rattle.spec.specs.Results.{Entry}
 use Rattle.spec.specs.Replies.{entriesBytes}
 use Rattle.spec.specs.Procedures.Listing.{entryOf}
-use Rattle.spec.proofs.Range.{Below}
+use Rattle.laws.proofs.Range.{Below}
 use Rattle.xdr.specs.Wrote.{Wrote}
 use Rattle.contents.specs.declared.entries.Place.{Place}
 

@@ -5,7 +5,7 @@ ghost use lib.ListN.{length};
 ghost use Rattle.spec.specs.Room.{freeBlockCount};
 ghost use Rattle.spec.specs.Procedures.{cut};
 ghost use Rattle.spec.specs.Procedures.Names.{checkHow, checkCreate};
-ghost use Rattle.spec.proofs.GoodRecords.{GoodRecords};
+ghost use Rattle.laws.proofs.GoodRecords.{GoodRecords};
 ghost use Rattle.making.specs.Meaning.{targetOf, statusOf};
 ghost use Rattle.creating.specs.Meaning.{createOf};
 use files::handle::Reached;

@@ -11,14 +11,14 @@ use Rattle.spec.specs.Bytes.{part}
 use Rattle.spec.specs.Edits.{clearBlocks, clearTail, blockNumbers, withSize, resize}
 use Rattle.spec.specs.Image.{Store, objects, blocks, objectAt, putObject}
 use Rattle.spec.specs.Room.{sizeOf, need, held, freeBlocks, freeBlockCount}
-use Rattle.spec.proofs.BlockLists.{InRange, range-take, held-length, held-range, range-drop, free-length, free-range}
-use Rattle.spec.proofs.BlockWrites.{clear-tail}
-use Rattle.spec.proofs.Bytes.{part-part}
-use Rattle.spec.proofs.GoodRecords.{GoodRecords, live-at}
-use Rattle.spec.proofs.Kept.{RecordsKept}
-use Rattle.spec.proofs.RecordRange.{objectAt-fits}
-use Rattle.spec.proofs.Resize.{keptBlocks, freedBlocks, addedBlocks}
-use Rattle.spec.proofs.Valid.{LiveObject, live-size}
+use Rattle.laws.proofs.BlockLists.{InRange, range-take, held-length, held-range, range-drop, free-length, free-range}
+use Rattle.laws.proofs.BlockWrites.{clear-tail}
+use Rattle.laws.proofs.Bytes.{part-part}
+use Rattle.laws.proofs.GoodRecords.{GoodRecords, live-at}
+use Rattle.laws.proofs.Kept.{RecordsKept}
+use Rattle.laws.proofs.RecordRange.{objectAt-fits}
+use Rattle.laws.proofs.Resize.{keptBlocks, freedBlocks, addedBlocks}
+use Rattle.laws.proofs.Valid.{LiveObject, live-size}
 use Rattle.find.specs.Blocks.{blockList}
 use Rattle.edits.specs.Sized.{sized}
 

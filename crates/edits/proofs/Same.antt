@@ -13,12 +13,12 @@ use Rattle.kinds.specs.declared.object.Object.{Object}
 use Rattle.spec.specs.Edits.{clearBlocks, clearTail, blockNumbers, withSize, resize}
 use Rattle.spec.specs.Image.{Store, objects, objectStart, objectFrom, objectAt, putObject}
 use Rattle.spec.specs.Room.{sizeOf, need, held, freeBlocks, byteAt}
-use Rattle.spec.proofs.Bytes.{lt-or-le, overlay-none}
-use Rattle.spec.proofs.GoodRecords.{GoodRecords, live-at}
-use Rattle.spec.proofs.Range.{Below}
-use Rattle.spec.proofs.Records.{halves-count}
-use Rattle.spec.proofs.Resize.{numbers-long, numbers-held, numbers-rest}
-use Rattle.spec.proofs.Valid.{LiveObject, live-size}
+use Rattle.laws.proofs.Bytes.{lt-or-le, overlay-none}
+use Rattle.laws.proofs.GoodRecords.{GoodRecords, live-at}
+use Rattle.laws.proofs.Range.{Below}
+use Rattle.laws.proofs.Records.{halves-count}
+use Rattle.laws.proofs.Resize.{numbers-long, numbers-held, numbers-rest}
+use Rattle.laws.proofs.Valid.{LiveObject, live-size}
 use Rattle.metadata.proofs.Kept.{object-kept}
 
 -- the numbers that an object holds, and 65535 in its other places, are all its numbers

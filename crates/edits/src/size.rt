@@ -7,7 +7,7 @@ ghost use Rattle.kinds.specs.Numbers.{REGULAR};
 ghost use Rattle.spec.specs.Image.{objects, objectAt};
 ghost use Rattle.spec.specs.Room.{need, sizeOf, freeBlockCount};
 ghost use Rattle.spec.specs.Edits.{blockNumbers, resize};
-ghost use Rattle.spec.proofs.GoodRecords.{GoodRecords};
+ghost use Rattle.laws.proofs.GoodRecords.{GoodRecords};
 ghost use Rattle.find.specs.Blocks.{UsedMap};
 ghost use Rattle.edits.specs.Sized.{sized};
 use blocks::clear_blocks;

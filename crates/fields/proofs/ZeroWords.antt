@@ -10,7 +10,7 @@ use lib.Dec.{leb}
 use borrow.Author.Tests.{leb-true}
 use Rattle.kinds.specs.Numbers.{zeroWords}
 use Rattle.spec.specs.Bytes.{allBytes}
-use Rattle.spec.proofs.Count.{and-both}
+use Rattle.laws.proofs.Count.{and-both}
 
 -- a table whose numbers are all at most n, as one computed test
 small-at : (n : ℕ) (xs : List ℕ) → allBytes (λ x. leb x n) xs ≡ true → (k : ℕ) → getD xs k 0 ≤ n

@@ -7,10 +7,10 @@ use native.Mathlib.Omega.{arith}
 use Rattle.kinds.specs.declared.object.Object.{Object}
 use Rattle.spec.specs.Image.{Store, objects, names, blocks, objectAt, nameAt}
 use Rattle.spec.specs.Room.{isDirectory, isIn, isUsedName, sizeOf, subdirectories}
-use Rattle.spec.proofs.Count.{count-bound}
-use Rattle.spec.proofs.GoodKept.{used-of}
-use Rattle.spec.proofs.GoodRecords.{GoodRecords}
-use Rattle.spec.proofs.Valid.{GoodObject, UsedName, live-size, used-true}
+use Rattle.laws.proofs.Count.{count-bound}
+use Rattle.laws.proofs.GoodKept.{used-of}
+use Rattle.laws.proofs.GoodRecords.{GoodRecords}
+use Rattle.laws.proofs.Valid.{GoodObject, UsedName, live-size, used-true}
 use Rattle.image.specs.Shaped.{Shaped, SoundNames}
 
 small : (r : ℕ) (v : Object) → GoodObject r v → v .size ≤ 8192

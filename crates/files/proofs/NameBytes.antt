@@ -10,7 +10,7 @@ use lib.Dec.{eqb}
 use lib.ListN.{length, getD}
 use Rattle.spec.specs.Bytes.{part, sameBytes, allBytes}
 use Rattle.spec.specs.Names.{goodByte, goodBytes, isDot, isDotDot}
-use Rattle.spec.proofs.Bytes.{part-cons, part-length, part-add, part-snoc, same-no}
+use Rattle.laws.proofs.Bytes.{part-cons, part-length, part-add, part-snoc, same-no}
 
 and-assoc : (a b c : Bool) → a && (b && c) ≡ a && b && c
 and-assoc true b c = refl

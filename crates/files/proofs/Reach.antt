@@ -13,9 +13,9 @@ use Rattle.spec.specs.Handles.{reach, reachDirectory}
 use Rattle.spec.specs.Image.{Store, objectAt}
 use Rattle.spec.specs.Procedures.{cut}
 use Rattle.spec.specs.Procedures.Data.{reachRegular}
-use Rattle.spec.proofs.Bytes.{part-length, be-part}
-use Rattle.spec.proofs.Passed as passed
-use Rattle.spec.proofs.Passed.{reach-passed, directory-passed, regular-passed}
+use Rattle.laws.proofs.Bytes.{part-length, be-part}
+use Rattle.laws.proofs.Passed as passed
+use Rattle.laws.proofs.Passed.{reach-passed, directory-passed, regular-passed}
 use Rattle.files.specs.Meaning.{reachedOf}
 use Rattle.files.specs.declared.handle.Reached.{Reached}
 use Rattle.files.specs.declared.handle.Reached.the-variants as Reached

@@ -5,7 +5,7 @@ ghost use lib.ListN.{length};
 ghost use Rattle.spec.specs.Handles.{handleChange};
 ghost use Rattle.spec.specs.Procedures.{cut};
 ghost use Rattle.spec.specs.Results.{failShowing, failChanging};
-ghost use Rattle.spec.proofs.GoodRecords.{GoodRecords};
+ghost use Rattle.laws.proofs.GoodRecords.{GoodRecords};
 ghost use Rattle.results.specs.Meaning.{resultOf, changeOf};
 use crate::handle::Reached;
 use crate::handle::reach;

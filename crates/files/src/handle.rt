@@ -6,7 +6,7 @@ ghost use Rattle.spec.specs.Handles.{reach, reachDirectory, handleOf};
 ghost use Rattle.spec.specs.Procedures.{cut};
 ghost use Rattle.spec.specs.Procedures.Data.{reachRegular};
 ghost use Rattle.spec.specs.Image.{objects};
-ghost use Rattle.spec.proofs.GoodRecords.{GoodRecords};
+ghost use Rattle.laws.proofs.GoodRecords.{GoodRecords};
 ghost use Rattle.results.specs.Meaning.{handleBytes};
 ghost use Rattle.files.specs.Meaning.{reachedOf};
 use image::counts::object_count;

@@ -5,7 +5,7 @@ ghost use Prim.Native.Nat.{_<_, _≤_};
 ghost use Rattle.spec.specs.Image.{objects};
 ghost use Rattle.spec.specs.Room.{need, sizeOf};
 ghost use Rattle.spec.specs.Handles.{shownSize, usedBytes, linkCount, attributes, before, change};
-ghost use Rattle.spec.proofs.GoodRecords.{GoodRecords};
+ghost use Rattle.laws.proofs.GoodRecords.{GoodRecords};
 ghost use Rattle.files.specs.Meaning.{changeFrom};
 use find::name::subdirectory_count;
 use image::counts::stamp_of;

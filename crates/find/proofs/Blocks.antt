@@ -10,7 +10,7 @@ use lib.ListN.{length, take, set, replicate, length-set, length-append}
 use lib.Seq.{set-at, append-snoc, take-all}
 use borrow.Author.Tests.{eq-eqb, ne-eqb}
 use Rattle.spec.specs.Count.{bit, count, passing}
-use Rattle.spec.proofs.Count.{count-more, passing-hit, passing-miss, passing-front}
+use Rattle.laws.proofs.Count.{count-more, passing-hit, passing-miss, passing-front}
 use Rattle.find.specs.Blocks.{blockList}
 
 -- a byte of the map, tested

@@ -14,11 +14,11 @@ use Rattle.spec.specs.Bytes.{overlay, zeros, bytesOf, words}
 use Rattle.spec.specs.Image.{Store, objectBytes, putObject}
 use Rattle.spec.specs.Check.{goodCounts, imageLength, goodTime, passes}
 use Rattle.spec.specs.Serve.{formatted, Formatted, format}
-use Rattle.spec.proofs.Bytes.{bytes-length, overlay-more}
-use Rattle.spec.proofs.Count.{by-bool, true-false, and-both}
-use Rattle.spec.proofs.Records.{object-length}
-use Rattle.spec.proofs.Words.{words-one}
-use Rattle.spec.proofs.Formatted.{FormatAsked, formatted-passes}
+use Rattle.laws.proofs.Bytes.{bytes-length, overlay-more}
+use Rattle.laws.proofs.Count.{by-bool, true-false, and-both}
+use Rattle.laws.proofs.Records.{object-length}
+use Rattle.laws.proofs.Words.{words-one}
+use Rattle.laws.proofs.Formatted.{FormatAsked, formatted-passes}
 use Rattle.fsck.specs.Format.{answerFor, frontOf, Leaves}
 
 take-zeros : (g k : ℕ) → g ≤ k → take g (zeros k) ≡ zeros g

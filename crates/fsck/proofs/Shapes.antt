@@ -9,7 +9,7 @@ use borrow.Author.Tests.{eqb-true, leb-true, eq-eqb, le-leb}
 use Rattle.spec.specs.Bytes.{beAt}
 use Rattle.spec.specs.Image.{Store, volumes, objects, names, blocks}
 use Rattle.spec.specs.Check.{goodCounts, imageLength, goodShape}
-use Rattle.spec.proofs.Count.{by-bool, and-both}
+use Rattle.laws.proofs.Count.{by-bool, and-both}
 use Rattle.fsck_objects.specs.Told.{Shaped}
 use Rattle.fsck.specs.Found.{countsOf, foundIf, shapeOf}
 use Rattle.fsck.specs.declared.shape.Counts.{Counts}

@@ -19,7 +19,7 @@ use Rattle.fsck_objects.specs.Told.{Shaped}
 use Rattle.fsck_objects.specs.Objects.{Blank}
 use Rattle.fsck_names.specs.Named.{NamedBy}
 use Rattle.fsck_names.proofs.Parents.{parent-is}
-use Rattle.spec.proofs.Bytes.{lt-or-le}
+use Rattle.laws.proofs.Bytes.{lt-or-le}
 use Rattle.fsck.specs.Tree.{Depth, Parents, Known, Steps}
 
 pub positive : (n : ℕ) → (n ≡ 0 → ⊥) → 1 ≤ n

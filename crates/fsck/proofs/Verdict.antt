@@ -11,7 +11,7 @@ use Rattle.spec.specs.Count.{sum, every}
 use Rattle.spec.specs.Image.{Store, objects, names, blocks, objectAt}
 use Rattle.spec.specs.Room.{isDirectory, uses, isFreeBlock}
 use Rattle.spec.specs.Check.{goodShape, goodRoot, isNamedOnce, leadsToRoot, passes}
-use Rattle.spec.proofs.Count.{by-bool, true-false}
+use Rattle.laws.proofs.Count.{by-bool, true-false}
 use Rattle.fsck_objects.specs.Told.{Shaped}
 use Rattle.fsck_objects.specs.Objects.{UsedBy, ObjectsPass}
 use Rattle.fsck_objects.proofs.Marks.{used-once}

@@ -16,8 +16,8 @@ use Rattle.spec.specs.Count.{bit, sum, count, every}
 use Rattle.spec.specs.Image.{Store, names, nameAt}
 use Rattle.spec.specs.Room.{isUsedName, isNamed}
 use Rattle.spec.specs.Check.{goodNameRecord, isDistinct, passes}
-use Rattle.spec.proofs.Bytes.{lt-or-le}
-use Rattle.spec.proofs.Count.{by-bool, true-false, and-both, every-at, sum-more, sum-at, sum-zero}
+use Rattle.laws.proofs.Bytes.{lt-or-le}
+use Rattle.laws.proofs.Count.{by-bool, true-false, and-both, every-at, sum-more, sum-at, sum-zero}
 use Rattle.fsck_objects.specs.Told.{Shaped}
 use Rattle.fsck_objects.specs.Objects.{Blank}
 use Rattle.fsck_objects.proofs.Marks.{sum-grows}

@@ -10,8 +10,8 @@ use lib.ListN.{length, getD, length-take, length-drop}
 use borrow.Author.Tests.{le-leb, lt-leb}
 use Rattle.spec.specs.Bytes.{part, sameBytes}
 use Rattle.spec.specs.Names.{isDot, isDotDot, isDots, goodByte, goodBytes, goodName}
-use Rattle.spec.proofs.Bytes.{part-cons}
-use Rattle.spec.proofs.Count.{by-bool}
+use Rattle.laws.proofs.Bytes.{part-cons}
+use Rattle.laws.proofs.Count.{by-bool}
 
 dots-one : (x : ℕ) → isDots (x ∷ []) ≡ eqb x 0x2E
 unfolding isDot isDotDot sameBytes

@@ -12,8 +12,8 @@ use Rattle.spec.specs.Image.{Store, objects, names, nameStart, nameFrom, nameAt
 use Rattle.spec.specs.Names.{goodBytes, isDots, goodName}
 use Rattle.spec.specs.Room.{isDirectory, isLive, isUsedName}
 use Rattle.spec.specs.Check.{isZero, goodUsed, goodNameRecord}
-use Rattle.spec.proofs.Bytes.{lt-or-le}
-use Rattle.spec.proofs.Count.{and-both}
+use Rattle.laws.proofs.Bytes.{lt-or-le}
+use Rattle.laws.proofs.Count.{and-both}
 use Rattle.fsck_names.proofs.Dots.{part-long}
 use mathlib.Core.Logic.{⊎-elim}
 use Rattle.fsck_objects.specs.Told.{Shaped}

@@ -14,8 +14,8 @@ use Rattle.spec.specs.Count.{every}
 use Rattle.spec.specs.Image.{Store}
 use Rattle.spec.specs.Names.{isDots, goodByte, goodBytes, goodName}
 use Rattle.spec.specs.Check.{isZero}
-use Rattle.spec.proofs.Bytes.{part-length}
-use Rattle.spec.proofs.Count.{by-bool, true-false}
+use Rattle.laws.proofs.Bytes.{part-length}
+use Rattle.laws.proofs.Count.{by-bool, true-false}
 use Rattle.fsck_objects.specs.Objects.{Inside}
 use Rattle.fsck_objects.proofs.Zeros.{and-true, and-assoc, all-none, all-next, zero-add, be-zero, zero-be}
 use Rattle.fsck_objects.proofs.Marks.{outside}

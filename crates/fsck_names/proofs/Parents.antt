@@ -15,7 +15,7 @@ use Rattle.spec.specs.Count.{bit, sum, count, passing, lowest}
 use Rattle.spec.specs.Image.{Store, objects, names, nameAt, objectAt}
 use Rattle.spec.specs.Room.{isLive, isUsedName, isNaming, namings, directoryOf, parent}
 use Rattle.spec.specs.Check.{mostNames, isNamedOnce, passes}
-use Rattle.spec.proofs.Count.{by-bool, true-false, sum-more, sum-at, sum-zero, passing-miss, lowest-hit, lowest-none, lowest-passes, Passes}
+use Rattle.laws.proofs.Count.{by-bool, true-false, sum-more, sum-at, sum-zero, passing-miss, lowest-hit, lowest-none, lowest-passes, Passes}
 use Rattle.fsck_objects.specs.Told.{Shaped}
 use Rattle.fsck_objects.specs.Objects.{Blank}
 use Rattle.fsck_objects.proofs.Passes.{fails-named}

@@ -12,9 +12,9 @@ use Rattle.spec.specs.Bytes.{part, beAt, sameBytes, allBytes}
 use Rattle.spec.specs.Image.{Store, objects, names, nameStart, nameFrom, nameAt, nameLength}
 use Rattle.spec.specs.Room.{isUsedName, isIn, isNamed}
 use Rattle.spec.specs.Check.{isZero}
-use Rattle.spec.proofs.Bytes.{part-add, part-length, be-part, same-yes}
-use Rattle.spec.proofs.Count.{by-bool, true-false, and-both}
-use Rattle.spec.proofs.RecordRange.{text-length}
+use Rattle.laws.proofs.Bytes.{part-add, part-length, be-part, same-yes}
+use Rattle.laws.proofs.Count.{by-bool, true-false, and-both}
+use Rattle.laws.proofs.RecordRange.{text-length}
 use Rattle.fsck_objects.specs.Told.{Shaped}
 use Rattle.fsck_names.specs.Distinct.{mix, hash, isSame}
 use Rattle.fsck_names.proofs.Joins.{UsedWell}

@@ -17,9 +17,9 @@ use Rattle.spec.specs.Count.{bit, sum, every, times}
 use Rattle.spec.specs.Image.{Store, objectLength, objects, blocks, objectStart, objectFrom, objectAt}
 use Rattle.spec.specs.Room.{need, sizeOf, held, uses}
 use Rattle.spec.specs.Check.{goodBlock, goodFree, goodLive, goodObject, isUsedOnce, passes}
-use Rattle.spec.proofs.Bytes.{lt-or-le, be-2}
-use Rattle.spec.proofs.Count.{true-false, by-bool, and-both, sum-ext, sum-add, sum-zero, sum-more, times-append, every-more, every-fails, every-at, every-all}
-use Rattle.spec.proofs.Records.{halves-count, half-read}
+use Rattle.laws.proofs.Bytes.{lt-or-le, be-2}
+use Rattle.laws.proofs.Count.{true-false, by-bool, and-both, sum-ext, sum-add, sum-zero, sum-more, times-append, every-more, every-fails, every-at, every-all}
+use Rattle.laws.proofs.Records.{halves-count, half-read}
 use Rattle.fsck_objects.specs.Told.{Shaped}
 use Rattle.fsck_objects.specs.Objects.{goodFields, isUnused, markFor, LiveAt, usesBelow, Blank, UsedBy, MarkedBy, MarkedTo, Inside, AreMarks}
 use Rattle.fsck_objects.proofs.Zeros.{zero-within, zero-be}

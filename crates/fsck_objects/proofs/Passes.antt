@@ -6,7 +6,7 @@ use Rattle.spec.specs.Count.{every}
 use Rattle.spec.specs.Image.{Store, objects, names, blocks}
 use Rattle.spec.specs.Check.{goodShape, goodRoot, goodObject, goodNameRecord, isDistinct, isNamedOnce, isUsedOnce, leadsToRoot, passes}
 use Rattle.fsck_objects.specs.Told.{Told}
-use Rattle.spec.proofs.Count.{by-bool, true-false, and-both, every-at}
+use Rattle.laws.proofs.Count.{by-bool, true-false, and-both, every-at}
 
 pub or-false : (t : Bool) → t || false ≡ t
 or-false true = refl

@@ -13,7 +13,7 @@ use Rattle.spec.specs.Count.{sum, every}
 use Rattle.spec.specs.Image.{Store, objects, blocks, objectAt}
 use Rattle.spec.specs.Room.{need, isLive}
 use Rattle.spec.specs.Check.{goodTime, goodSize, goodBlock, goodFree, goodLive, goodObject, passes}
-use Rattle.spec.proofs.Count.{by-bool, and-both}
+use Rattle.laws.proofs.Count.{by-bool, and-both}
 use Rattle.fsck_objects.specs.Told.{Told}
 use Rattle.fsck_objects.specs.Objects.{goodFields, LiveAt, MarkedBy, MarkedTo, ObjectPasses, ObjectsPass, Counted}
 use Rattle.fsck_objects.specs.declared.object.Uses.the-variants.{Bad, Blocks}

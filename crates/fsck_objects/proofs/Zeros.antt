@@ -12,8 +12,8 @@ use borrow.Author.Tests.{eqb-true, eq-eqb, lt-ltb, le-ltb}
 use Rattle.spec.specs.Bytes.{part, digits, beOf, beAt, allBytes}
 use Rattle.spec.specs.Check.{isZero}
 use Rattle.spec.specs.Count.{every}
-use Rattle.spec.proofs.Bytes.{lt-or-le, part-add, part-snoc}
-use Rattle.spec.proofs.Count.{and-both}
+use Rattle.laws.proofs.Bytes.{lt-or-le, part-add, part-snoc}
+use Rattle.laws.proofs.Count.{and-both}
 
 pub and-true : (t : Bool) → t && true ≡ t
 and-true true = refl

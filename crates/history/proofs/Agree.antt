@@ -10,8 +10,8 @@ use lib.ListN.{length}
 use borrow.Author.Tests.{eq-eqb, ne-eqb}
 use Rattle.spec.specs.Bytes.{sameBytes}
 use Rattle.spec.specs.Count.{bit, times}
-use Rattle.spec.proofs.Bytes.{same-yes}
-use Rattle.spec.proofs.Count.{and-both, true-false, by-bool}
+use Rattle.laws.proofs.Bytes.{same-yes}
+use Rattle.laws.proofs.Count.{and-both, true-false, by-bool}
 use Rattle.history.specs.Book.{Standing, asRoot, under, Line, Book, handleBytes, stands, isAt, someAt, strikeLines, moveLine, moveLines}
 use Rattle.history.proofs.Sum.{or-right, ind, ind-same, ind-yes, ind-no, ind-true}
 use Rattle.history.proofs.Lists.{same-true, All, without, without-same, without-other, all-times, times-without, times-without-other}

@@ -21,10 +21,10 @@ use Rattle.spec.specs.Replies.{resultBytes, fattr3, postOp, hyper}
 use Rattle.spec.specs.Results.{Result, Done, dead, gotAttributes, gotRoom, settle, unchanged, failShowing}
 use Rattle.spec.specs.Room.{isLive, isDirectory, isFreeBlock, isAvailable, sizeOf, freeBlockCount, availableCount}
 use Rattle.spec.specs.Rpc.{accepted}
-use Rattle.spec.proofs.Count.{by-bool, count-bound}
-use Rattle.spec.proofs.Error.{statusOf}
-use Rattle.spec.proofs.Range.{be-below}
-use Rattle.spec.proofs.RecordRange.{objectAt-fits}
+use Rattle.laws.proofs.Count.{by-bool, count-bound}
+use Rattle.laws.proofs.Error.{statusOf}
+use Rattle.laws.proofs.Range.{be-below}
+use Rattle.laws.proofs.RecordRange.{objectAt-fits}
 use Rattle.history.specs.Book.{Ledger, handleBytes, isStatus, isOk}
 use Rattle.history.specs.Run.{Request, replyTo}
 use Rattle.history.specs.Statement as Shown
@@ -35,8 +35,8 @@ use Rattle.history.proofs.Replies.{Begins, begins, word-of, long-of, ok
 use Rattle.history.proofs.Seen.{view, kind-at, gen-at, live-in}
 use Rattle.history.proofs.Inv.{Inv, tree, good, live-seen}
 use Rattle.history.proofs.Making.{handle-seen}
-use Rattle.spec.proofs.Handles.{reach-own}
-use Rattle.spec.proofs.FreeRoom.{good-size-small}
+use Rattle.laws.proofs.Handles.{reach-own}
+use Rattle.laws.proofs.FreeRoom.{good-size-small}
 use Rattle.history.proofs.Lines.{lined-current}
 use Rattle.history.proofs.Later.{small-live}
 use Rattle.history.proofs.Noted.{dead-says}

@@ -25,7 +25,7 @@ use Rattle.spec.specs.Checked.{Checked, refused, passed}
 use Rattle.spec.specs.Header.{header}
 use Rattle.spec.specs.Rpc.{accepted, nfs, judge}
 use Rattle.spec.specs.Serve.{Outcome, refuse, Sent, send, perform, answer, complete, outcome as settled, serve}
-use Rattle.spec.proofs.Count.{by-bool, true-false}
+use Rattle.laws.proofs.Count.{by-bool, true-false}
 use Rattle.history.specs.Book.{Ledger, readArguments, judgedArguments, headedArguments, asked, isOk, noted, note}
 use Rattle.history.specs.Run.{Request, outcome, replyTo}
 use Rattle.history.specs.Statement.{Asks}

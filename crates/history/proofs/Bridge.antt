@@ -10,10 +10,10 @@ use lib.Seq.{getD-take}
 use Rattle.spec.specs.Count.{times}
 use Rattle.spec.specs.Image.{Store, objects, names, blocks, objectAt, objectFrom, objectStart, nameAt}
 use Rattle.spec.specs.Room.{held, sizeOf, need}
-use Rattle.spec.proofs.Count.{sum-zero, sum-at}
-use Rattle.spec.proofs.Records.{halves-count}
-use Rattle.spec.proofs.Valid.{Shaped, GoodObject, GoodObjects, UsedName, GoodNameRecord, GoodNames, BlocksUsedOnce, Valid}
-use Rattle.spec.proofs.FreeRoom.{good-size-small}
+use Rattle.laws.proofs.Count.{sum-zero, sum-at}
+use Rattle.laws.proofs.Records.{halves-count}
+use Rattle.laws.proofs.Valid.{Shaped, GoodObject, GoodObjects, UsedName, GoodNameRecord, GoodNames, BlocksUsedOnce, Valid}
+use Rattle.laws.proofs.FreeRoom.{good-size-small}
 use Rattle.history.proofs.Sum.{ind, ind-yes}
 use Rattle.history.proofs.Lists.{All, all-times, times-all, times-place}
 use Rattle.history.proofs.View.{Live, Used, At, at?, entries, entry-by}

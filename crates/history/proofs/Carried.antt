@@ -18,11 +18,11 @@ use Rattle.spec.specs.Procedures.Names.{childOf, lookIn, checkLookup}
 use Rattle.spec.specs.Procedures.Names as Spec
 use Rattle.spec.specs.Results.{unchanged, failShowing, settle, found}
 use Rattle.spec.specs.Room.{findName, parent}
-use Rattle.spec.proofs.Count.{true-false, lowest-passes}
+use Rattle.laws.proofs.Count.{true-false, lowest-passes}
 use Rattle.history.proofs.Sum.{holds, holds-true}
-use Rattle.spec.proofs.Error.{lookup-store}
-use Rattle.spec.proofs.Passed.{bind-passed, directory-passed}
-use Rattle.spec.proofs.Valid.{passes-valid}
+use Rattle.laws.proofs.Error.{lookup-store}
+use Rattle.laws.proofs.Passed.{bind-passed, directory-passed}
+use Rattle.laws.proofs.Valid.{passes-valid}
 use Rattle.history.specs.Book.{Ledger, asked, foundHandle, madeHandle, isOk}
 use Rattle.history.specs.Run.{Request, Lent, outcome, replyTo}
 use Rattle.history.specs.Statement.{Asks, Carries, lookup, create, mkdir}

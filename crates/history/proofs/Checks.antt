@@ -15,11 +15,11 @@ use Rattle.spec.specs.Names.{goodBytes, isDots}
 use Rattle.spec.specs.Procedures.Attributes.{lacksRoom}
 use Rattle.spec.specs.Procedures.Names.{roomForNew, checkNew}
 use Rattle.spec.specs.Room.{isLive, isDirectory, isNamed, availableObject, availableName, findName}
-use Rattle.spec.proofs.Count.{lowest-passes, lowest-none}
-use Rattle.spec.proofs.Passed.{Reached}
-use Rattle.spec.proofs.Range.{Below}
-use Rattle.spec.proofs.Searches.{count-nothing}
-use Rattle.spec.proofs.Valid.{GoodNames}
+use Rattle.laws.proofs.Count.{lowest-passes, lowest-none}
+use Rattle.laws.proofs.Passed.{Reached}
+use Rattle.laws.proofs.Range.{Below}
+use Rattle.laws.proofs.Searches.{count-nothing}
+use Rattle.laws.proofs.Valid.{GoodNames}
 use Rattle.history.specs.Book.{handleBytes}
 use Rattle.history.proofs.Sum.{holds-true}
 use Rattle.history.proofs.View.{At, at?, entries}

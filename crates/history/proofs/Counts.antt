@@ -16,11 +16,11 @@ use Rattle.spec.specs.Bytes.{sameBytes}
 use Rattle.spec.specs.Count.{bit, sum, count, times}
 use Rattle.spec.specs.Image.{Store, objects, names, blocks, objectAt}
 use Rattle.spec.specs.Room.{isLive, isAvailable, isUsedName, sizeOf, need, held, freeBlockCount, availableCount, freeNameCount}
-use Rattle.spec.proofs.Bytes.{same-yes}
-use Rattle.spec.proofs.Count.{sum-ext, sum-add, by-bool, true-false, and-both}
-use Rattle.spec.proofs.FreeRoom.{free-room}
-use Rattle.spec.proofs.Tests.{and-true, or-one}
-use Rattle.spec.proofs.Valid.{GoodObject, live-true, true-live, false-live}
+use Rattle.laws.proofs.Bytes.{same-yes}
+use Rattle.laws.proofs.Count.{sum-ext, sum-add, by-bool, true-false, and-both}
+use Rattle.laws.proofs.FreeRoom.{free-room}
+use Rattle.laws.proofs.Tests.{and-true, or-one}
+use Rattle.laws.proofs.Valid.{GoodObject, live-true, true-live, false-live}
 use Rattle.history.specs.Book.{Line, Book, Ledger, handleBytes}
 use Rattle.history.specs.Statement.{In, HasLine, liveObjects, objectIn, placesIn, hasName, namedLines, isAmong, isLined, lastHandle, spentRecords}
 use Rattle.history.proofs.Sum.{or-left, or-right, ind, ind-yes, ind-no, holds-same, sum-const}

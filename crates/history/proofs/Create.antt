@@ -25,14 +25,14 @@ use Rattle.spec.specs.Procedures.Attributes.{isGiven, sizeSet}
 use Rattle.spec.specs.Procedures.Names.{newEdit, createdIn, Target, new, existing, checkCreate, settableOf, existingEdit, createEdit, create, checkMkdir, mkdir}
 use Rattle.spec.specs.Results.{created, failChanging, settle}
 use Rattle.spec.specs.Room.{findName}
-use Rattle.spec.proofs.Error.{statusOf}
-use Rattle.spec.proofs.Count.{true-false}
-use Rattle.spec.proofs.Range.{Below}
-use Rattle.spec.proofs.RecordRange.{below-part}
-use Rattle.spec.proofs.SetAttributes.{FitsSettable, Allowed, only-ctime-fits}
-use Rattle.spec.proofs.GoodRecords.{GoodClock}
-use Rattle.spec.proofs.Passed.{Reached, NewRoom, ExistingPassed, CreatePassed, create-passed, MkdirPassed, mkdir-passed}
-use Rattle.spec.proofs.Valid.{GoodName}
+use Rattle.laws.proofs.Error.{statusOf}
+use Rattle.laws.proofs.Count.{true-false}
+use Rattle.laws.proofs.Range.{Below}
+use Rattle.laws.proofs.RecordRange.{below-part}
+use Rattle.laws.proofs.SetAttributes.{FitsSettable, Allowed, only-ctime-fits}
+use Rattle.laws.proofs.GoodRecords.{GoodClock}
+use Rattle.laws.proofs.Passed.{Reached, NewRoom, ExistingPassed, CreatePassed, create-passed, MkdirPassed, mkdir-passed}
+use Rattle.laws.proofs.Valid.{GoodName}
 use Rattle.history.specs.Book.{Ledger, madeHandle, isOk, add, noted, note}
 use Rattle.history.proofs.View.{Live}
 use Rattle.history.proofs.Issue.{Current}
@@ -40,7 +40,7 @@ use Rattle.history.proofs.Seen.{view, kind-at, child-at, live-in}
 use Rattle.history.proofs.Inv.{Inv, Owes, keeps-refl, tree}
 use Rattle.history.proofs.Checks.{found-name, no-name}
 use Rattle.history.proofs.Replies.{made-is}
-use Rattle.spec.proofs.ArgumentRange.{FitsHow}
+use Rattle.laws.proofs.ArgumentRange.{FitsHow}
 use Rattle.history.proofs.Noted.{Answer, created-says, changing-says, not-ok, note-failed, note-ok}
 use Rattle.history.proofs.Making.{handle-seen, withLine, new-keeps, new-handle, new-alive, directory-kind, line-added, line-there, existing-keeps, sure-create, sure-mkdir}
 

@@ -6,7 +6,7 @@ use Prim.Native.Nat.{ℕ}
 use native.Mathlib.Decide.{ℕ-discrete}
 use native.Mathlib.Omega.{arith}
 use lib.ListN.{length}
-use Rattle.spec.proofs.Count.{sum-zero}
+use Rattle.laws.proofs.Count.{sum-zero}
 use Rattle.history.proofs.Sum.{ind, ind-yes, ind-no, ind-le}
 use Rattle.history.proofs.View.{View, Live, Used, names?, at?, namings, entries, Path, SameName, namings-set, entries-set}
 use Rattle.history.proofs.Tree.{Tree}

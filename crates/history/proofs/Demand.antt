@@ -12,9 +12,9 @@ use Rattle.kinds.specs.declared.object.Time.{Time}
 use Rattle.spec.specs.Check.{goodTime, goodCounts, imageLength}
 use Rattle.spec.specs.Image.{Store}
 use Rattle.spec.specs.Serve.{formatted, format}
-use Rattle.spec.proofs.Count.{by-bool, and-both}
-use Rattle.spec.proofs.Formatted.{FormatAsked}
-use Rattle.spec.proofs.Valid.{passes-valid}
+use Rattle.laws.proofs.Count.{by-bool, and-both}
+use Rattle.laws.proofs.Formatted.{FormatAsked}
+use Rattle.laws.proofs.Valid.{passes-valid}
 use Rattle.history.specs.Book.{firstLedger}
 use Rattle.history.specs.Run.{Request, Lent, AllLent, State, step, run}
 use Rattle.history.specs.Statement.{HasLine, Kept, formattedState, Demand3}

@@ -7,8 +7,8 @@ use native.Mathlib.Decide.{decLt}
 use native.Mathlib.Omega.{arith}
 use Rattle.kinds.specs.declared.object.Object.{Object}
 use Rattle.spec.specs.Image.{Store, objects, names, objectAt, Name, nameAt}
-use Rattle.spec.proofs.Kept.{NameKept, NameIs}
-use Rattle.spec.proofs.Shape.{SameShape}
+use Rattle.laws.proofs.Kept.{NameKept, NameIs}
+use Rattle.laws.proofs.Shape.{SameShape}
 use Rattle.history.proofs.View.{SameName, SetName, SetObj}
 use Rattle.history.proofs.Seen.{within, within-yes, within-no, view, kind-at, gen-at, dir-at, child-at, text-at}
 

@@ -6,10 +6,10 @@ use native.Mathlib.Omega.{arith}
 use lib.Dec.{lit<}
 use lib.ListN.{length, getD}
 use Rattle.spec.specs.Bytes.{part, beOf, digits, bytesOf, beAt, words}
-use Rattle.spec.proofs.Bytes.{part-left, part-right, part-whole, part-add, part-length, bytes-length, be-bytes}
-use Rattle.spec.proofs.Words.{words-length}
-use Rattle.spec.proofs.Range.{Below}
-use Rattle.spec.proofs.RecordRange.{below-part}
+use Rattle.laws.proofs.Bytes.{part-left, part-right, part-whole, part-add, part-length, bytes-length, be-bytes}
+use Rattle.laws.proofs.Words.{words-length}
+use Rattle.laws.proofs.Range.{Below}
+use Rattle.laws.proofs.RecordRange.{below-part}
 use Rattle.history.specs.Book.{handleBytes}
 
 -- word k of words that other bytes may follow

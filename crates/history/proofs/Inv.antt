@@ -13,20 +13,20 @@ use Rattle.spec.specs.Edits.{setAttributes, resize, withGeneration, createObjec
 use Rattle.spec.specs.Image.{Store, stamp, objects, names, blocks, objectAt, nameAt, nameLength, freeName}
 use Rattle.spec.specs.Room.{sizeOf, need, freeBlockCount}
 use Rattle.kinds.specs.Objects.{freeObject}
-use Rattle.spec.proofs.BlockLists.{held-range}
-use Rattle.spec.proofs.BlockWrites.{write-file}
-use Rattle.spec.proofs.CreateObject.{newName, create-object}
-use Rattle.spec.proofs.GoodRecords.{GoodRecords, GoodClock, clock-fits, valid-records, live-at, set-attributes-still, resize-still, write-file-still, create-object-still, remove-object-still, move-name-still}
-use Rattle.spec.proofs.Kept.{NameSet, BothSet}
-use Rattle.spec.proofs.MoveName.{movedName, move-name}
-use Rattle.spec.proofs.Range.{Below}
-use Rattle.spec.proofs.Records.{FitsObject}
-use Rattle.spec.proofs.RemoveObject.{remove-object}
-use Rattle.spec.proofs.SetAttributes.{FitsSettable, Allowed, set-attributes-structure}
-use Rattle.spec.proofs.Shape.{SameShape}
-use Rattle.spec.proofs.Structure.{SameTree, kept-structure, tree-distinct, tree-named, tree-leads}
-use Rattle.spec.proofs.Resize.{resize-tree}
-use Rattle.spec.proofs.Valid.{LiveObject, GoodName, Valid, live-kind}
+use Rattle.laws.proofs.BlockLists.{held-range}
+use Rattle.laws.proofs.BlockWrites.{write-file}
+use Rattle.laws.proofs.CreateObject.{newName, create-object}
+use Rattle.laws.proofs.GoodRecords.{GoodRecords, GoodClock, clock-fits, valid-records, live-at, set-attributes-still, resize-still, write-file-still, create-object-still, remove-object-still, move-name-still}
+use Rattle.laws.proofs.Kept.{NameSet, BothSet}
+use Rattle.laws.proofs.MoveName.{movedName, move-name}
+use Rattle.laws.proofs.Range.{Below}
+use Rattle.laws.proofs.Records.{FitsObject}
+use Rattle.laws.proofs.RemoveObject.{remove-object}
+use Rattle.laws.proofs.SetAttributes.{FitsSettable, Allowed, set-attributes-structure}
+use Rattle.laws.proofs.Shape.{SameShape}
+use Rattle.laws.proofs.Structure.{SameTree, kept-structure, tree-distinct, tree-named, tree-leads}
+use Rattle.laws.proofs.Resize.{resize-tree}
+use Rattle.laws.proofs.Valid.{LiveObject, GoodName, Valid, live-kind}
 use Rattle.history.specs.Book.{Ledger, under, strikeLines, moveLines}
 use Rattle.history.proofs.View.{View, Live, Used, entries, namings, Path, Avoids, SameName, not-named}
 use Rattle.history.proofs.Tree.{Tree, lone, one-name}

@@ -9,7 +9,7 @@ use lib.Dec.{eqb}
 use borrow.Author.Tests.{eq-eqb}
 use Rattle.spec.specs.Count.{bit}
 use Rattle.spec.specs.Image.{Store}
-use Rattle.spec.proofs.Count.{sum-ext}
+use Rattle.laws.proofs.Count.{sum-ext}
 use Rattle.history.specs.Book.{Line, Book, Ledger, handleBytes}
 use Rattle.history.specs.Statement.{In, HasLine, IsRemoved, objectIn}
 use Rattle.history.proofs.Sum.{ind, ind-le}

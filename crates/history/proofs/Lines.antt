@@ -11,11 +11,11 @@ use borrow.Author.Tests.{eq-eqb, ne-eqb, eqb-true}
 use Rattle.spec.specs.Count.{bit, sum, times}
 use Rattle.spec.specs.Handles.{handleOf}
 use Rattle.spec.specs.Image.{Store, nameAt}
-use Rattle.spec.proofs.Count.{sum-ext, sum-zero, sum-add}
-use Rattle.spec.proofs.Valid.{true-live}
+use Rattle.laws.proofs.Count.{sum-ext, sum-zero, sum-add}
+use Rattle.laws.proofs.Valid.{true-live}
 use Rattle.history.specs.Book.{asRoot, under, Line, Book, Ledger}
 use Rattle.history.specs.Statement.{In, HasLine, HasName, StoredObject, StoredName, objectIn}
-use Rattle.spec.proofs.FreeCount.{sum-swap}
+use Rattle.laws.proofs.FreeCount.{sum-swap}
 use Rattle.history.proofs.Sum.{ind, ind-yes, ind-no, ind-true, holds-same}
 use Rattle.history.proofs.Lists.{All, all-times}
 use Rattle.history.proofs.View.{Live, Used, names?, namings, named-by}

@@ -11,8 +11,8 @@ use lib.Dec.{eqb}
 use lib.ListN.{length, getD}
 use borrow.Author.Tests.{eq-eqb, ne-eqb}
 use Rattle.spec.specs.Bytes.{sameBytes}
-use Rattle.spec.proofs.Bytes.{same-no}
-use Rattle.spec.proofs.Count.{true-false}
+use Rattle.laws.proofs.Bytes.{same-no}
+use Rattle.laws.proofs.Count.{true-false}
 use Rattle.spec.specs.Count.{bit, times}
 
 -- two lists of bytes are the same

@@ -21,14 +21,14 @@ use Rattle.spec.specs.Image.{Store, objects, names, blocks, objectAt, nameAt}
 use Rattle.spec.specs.Procedures.Attributes.{isGiven, sizeSet, badAttributes, lacksRoom, resizeTo}
 use Rattle.spec.specs.Procedures.Names.{newObject, newEdit, new, existing, isNew, roomForNew, checkExisting, targetOf, checkNew, checkAttributed, checkHow, checkCreate, existingEdit, checkMkdir}
 use Rattle.spec.specs.Room.{isRegular, sizeOf, need, freeBlockCount, findName}
-use Rattle.spec.proofs.CreateObject.{create-object, create-object-uses}
-use Rattle.spec.proofs.GoodRecords.{GoodClock, clock-fits, free-size}
-use Rattle.spec.proofs.Passed.{Reached, NewRoom}
-use Rattle.spec.proofs.Range.{Below}
-use Rattle.spec.proofs.Records.{FitsObject}
-use Rattle.spec.proofs.SameReads.{freeBlockCount-reads}
-use Rattle.spec.proofs.SetAttributes.{FitsSettable, Allowed, new-fits, new-live, mtime-and-ctime-fits, mtime-and-ctime-allowed}
-use Rattle.spec.proofs.Valid.{GoodName, LiveObject}
+use Rattle.laws.proofs.CreateObject.{create-object, create-object-uses}
+use Rattle.laws.proofs.GoodRecords.{GoodClock, clock-fits, free-size}
+use Rattle.laws.proofs.Passed.{Reached, NewRoom}
+use Rattle.laws.proofs.Range.{Below}
+use Rattle.laws.proofs.Records.{FitsObject}
+use Rattle.laws.proofs.SameReads.{freeBlockCount-reads}
+use Rattle.laws.proofs.SetAttributes.{FitsSettable, Allowed, new-fits, new-live, mtime-and-ctime-fits, mtime-and-ctime-allowed}
+use Rattle.laws.proofs.Valid.{GoodName, LiveObject}
 use Rattle.history.specs.Book.{under, Ledger, handleBytes, someAt, add}
 use Rattle.history.proofs.View.{Live, At, entries}
 use Rattle.history.proofs.Agree.{handleIn, none-at, some-at}

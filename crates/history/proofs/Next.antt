@@ -17,12 +17,12 @@ use Rattle.spec.specs.Count.{times}
 use Rattle.spec.specs.Image.{Store, objects, objectAt, Name}
 use Rattle.spec.specs.Procedures.{cut, act}
 use Rattle.spec.specs.Serve.{formatted}
-use Rattle.spec.proofs.Error.{getattr-store, lookup-store, access-store, read-store, readdir-store, fsstat-store, fsinfo-store, pathconf-store, commit-store}
-use Rattle.spec.proofs.Formatted.{FormatAsked, formatted-stamp, formatted-objects, formatted-names, formatted-blocks, formatted-below, formatted-root, formatted-free, formatted-name, formatted-valid}
-use Rattle.spec.proofs.Range.{Below}
-use Rattle.spec.proofs.RecordRange.{below-part}
-use Rattle.spec.proofs.GoodRecords.{GoodClock}
-use Rattle.spec.proofs.Valid.{passes-valid}
+use Rattle.laws.proofs.Error.{getattr-store, lookup-store, access-store, read-store, readdir-store, fsstat-store, fsinfo-store, pathconf-store, commit-store}
+use Rattle.laws.proofs.Formatted.{FormatAsked, formatted-stamp, formatted-objects, formatted-names, formatted-blocks, formatted-below, formatted-root, formatted-free, formatted-name, formatted-valid}
+use Rattle.laws.proofs.Range.{Below}
+use Rattle.laws.proofs.RecordRange.{below-part}
+use Rattle.laws.proofs.GoodRecords.{GoodClock}
+use Rattle.laws.proofs.Valid.{passes-valid}
 use Rattle.history.specs.Book.{Ledger, noted, note, firstLedger, handleBytes, asRoot}
 use Rattle.history.specs.Run.{Request, Lent, AllLent, outcome, replyTo, State, step, run}
 use Rattle.history.specs.Statement.{Asks}
@@ -34,7 +34,7 @@ use Rattle.history.proofs.Issue.{issued}
 use Rattle.history.proofs.Seen.{view, kind-at, gen-at, text-at, used-in, within-no}
 use Rattle.history.proofs.Inv.{Inv, Owes, owes-trans, keeps-refl}
 use Rattle.history.proofs.Asked.{acted, Idle, served}
-use Rattle.spec.proofs.ArgumentRange.{FitsArguments}
+use Rattle.laws.proofs.ArgumentRange.{FitsArguments}
 use Rattle.history.proofs.Ranges.{asked-fits}
 use Rattle.history.proofs.Noted.{Answer, note-quiet}
 use Rattle.history.proofs.Sizes.{setattr-keeps, write-keeps}

@@ -28,9 +28,9 @@ use Rattle.spec.specs.Procedures.Data.{mostBytes, reachRegular, grown, checkWri
 use Rattle.spec.specs.Procedures.Names.{Target, existing, isNew, roomForNew, checkNew, checkExisting, checkAttributed, checkCreate, createEdit, settableOf, create, checkMkdir, mkdir, createdIn, newEdit}
 use Rattle.spec.specs.Results.{Result, failChanging, settle}
 use Rattle.spec.specs.Room.{isRegular, isDirectory, isAvailable, isUsedName, sizeOf, need, freeBlockCount, availableCount, availableObject, freeNameCount, availableName, findName}
-use Rattle.spec.proofs.Count.{by-bool, sum-at, lowest-passes, lowest-none, true-false}
-use Rattle.spec.proofs.Error.{statusOf}
-use Rattle.spec.proofs.Searches.{count-nothing}
+use Rattle.laws.proofs.Count.{by-bool, sum-at, lowest-passes, lowest-none, true-false}
+use Rattle.laws.proofs.Error.{statusOf}
+use Rattle.laws.proofs.Searches.{count-nothing}
 use Rattle.history.specs.Book.{Ledger, isStatus, isOk}
 use Rattle.history.specs.Run.{Request, replyTo}
 use Rattle.history.specs.Statement.{Asks, AnswersRoom, BlocksMissing, RoomMissing, blocksLeft, namesLeft, objectsLeft}

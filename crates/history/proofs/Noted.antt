@@ -18,7 +18,7 @@ use Rattle.spec.specs.Procedures.Removal.{renamedOr, failRenaming}
 use Rattle.spec.specs.Replies.{resultBytes}
 use Rattle.spec.specs.Results.{Result, null, dead, changed, showingOf, changingOf, failShowing, failChanging, renamed, wrote, created}
 use Rattle.spec.specs.Rpc.{accepted}
-use Rattle.spec.proofs.Error.{statusOf}
+use Rattle.laws.proofs.Error.{statusOf}
 use Rattle.history.specs.Book.{under, Ledger, asked, isOk, someAt, add, noted, note}
 use Rattle.history.proofs.Replies.{answered-ok}
 

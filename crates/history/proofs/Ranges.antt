@@ -13,8 +13,8 @@ use Rattle.spec.specs.Arguments.{arguments}
 use Rattle.spec.specs.Checked.{Checked, refused, passed}
 use Rattle.spec.specs.Header.{header}
 use Rattle.spec.specs.Rpc.{nfs, judge}
-use Rattle.spec.proofs.ArgumentRange.{FitsArguments, arguments-fit}
-use Rattle.spec.proofs.Range.{Below}
+use Rattle.laws.proofs.ArgumentRange.{FitsArguments, arguments-fit}
+use Rattle.laws.proofs.Range.{Below}
 use Rattle.history.specs.Book.{readArguments, judgedArguments, headedArguments, asked}
 
 pub asked-fits : (call : List ℕ) → Below 256 call → (a : Arguments) → asked call ≡ some a → FitsArguments a

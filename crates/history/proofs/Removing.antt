@@ -26,14 +26,14 @@ use Rattle.spec.specs.Procedures.Names.{touchDirectory}
 use Rattle.spec.specs.Procedures.Removal.{checkRemove, hasEntries, checkRmdir, removeFrom, remove, rmdir, isWithin, checkRename, renameEdit, failRenaming, renamedTo, rename}
 use Rattle.spec.specs.Results.{failChanging, settle}
 use Rattle.spec.specs.Room.{isDirectory, findName, above}
-use Rattle.spec.proofs.Count.{by-bool, true-false, some-none}
-use Rattle.spec.proofs.Error.{statusOf}
-use Rattle.spec.proofs.Range.{Below}
-use Rattle.spec.proofs.RecordRange.{below-part}
-use Rattle.spec.proofs.SetAttributes.{only-ctime-fits, only-ctime-allowed, mtime-and-ctime-fits, mtime-and-ctime-allowed}
-use Rattle.spec.proofs.GoodRecords.{GoodClock}
-use Rattle.spec.proofs.Passed.{Reached, EntryPassed, remove-passed, rmdir-passed, no-entries, RenamePassed, rename-passed}
-use Rattle.spec.proofs.Valid.{true-directory}
+use Rattle.laws.proofs.Count.{by-bool, true-false, some-none}
+use Rattle.laws.proofs.Error.{statusOf}
+use Rattle.laws.proofs.Range.{Below}
+use Rattle.laws.proofs.RecordRange.{below-part}
+use Rattle.laws.proofs.SetAttributes.{only-ctime-fits, only-ctime-allowed, mtime-and-ctime-fits, mtime-and-ctime-allowed}
+use Rattle.laws.proofs.GoodRecords.{GoodClock}
+use Rattle.laws.proofs.Passed.{Reached, EntryPassed, remove-passed, rmdir-passed, no-entries, RenamePassed, rename-passed}
+use Rattle.laws.proofs.Valid.{true-directory}
 use Rattle.history.specs.Book.{Ledger, strikeLines, strike, moveLines, move, noted, note}
 use Rattle.history.proofs.View.{Live, Used, At, Path, Avoids}
 use Rattle.history.proofs.Tree.{single, path-short, live-bound}

@@ -16,9 +16,9 @@ use Rattle.spec.specs.Count.{bit}
 use Rattle.spec.specs.Replies.{resultBytes, fattr3, postOp, wccData, wccOption, entriesBytes, hyper}
 use Rattle.spec.specs.Results.{Result, null, dead, failed, changed, renamed, gotAttributes, found, granted, gotBytes, wrote, created, listed, gotRoom, gotLimits, gotNaming, committed}
 use Rattle.spec.specs.Rpc.{accepted}
-use Rattle.spec.proofs.Bytes.{part-left, part-right, part-whole, be-add}
-use Rattle.spec.proofs.Error.{statusOf}
-use Rattle.spec.proofs.Words.{words-append, words-length}
+use Rattle.laws.proofs.Bytes.{part-left, part-right, part-whole, be-add}
+use Rattle.laws.proofs.Error.{statusOf}
+use Rattle.laws.proofs.Words.{words-append, words-length}
 use Rattle.history.specs.Book.{handleBytes, isStatus, isOk, handleAt}
 use Rattle.history.proofs.Handles.{word-in}
 

@@ -7,8 +7,8 @@ use native.Mathlib.Decide.{ℕ-discrete, decLt}
 use native.Mathlib.Omega.{arith}
 use lib.ListN.{length, getD}
 use Rattle.spec.specs.Count.{sum, times}
-use Rattle.spec.proofs.Count.{sum-at}
-use Rattle.spec.proofs.Unique.{sum-two}
+use Rattle.laws.proofs.Count.{sum-at}
+use Rattle.laws.proofs.Unique.{sum-two}
 use Rattle.history.proofs.Lists.{All, times-at, times-two}
 
 -- the blocks of each object, in the order of its bytes

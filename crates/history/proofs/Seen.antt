@@ -16,11 +16,11 @@ use Rattle.spec.specs.Count.{bit, sum, count, lowest, iterate, times}
 use Rattle.spec.specs.Image.{Store, objects, names, objectAt, nameAt, nameLength}
 use Rattle.spec.specs.Room.{isUsedName, isNaming, isIn, isNamed, held, uses, parent, directoryOf, above}
 use Rattle.spec.specs.Room as Spec
-use Rattle.spec.proofs.Bytes.{same-yes}
-use Rattle.spec.proofs.Count.{sum-ext, and-both, lowest-ext, lowest-passes}
-use Rattle.spec.proofs.Searches.{iterate-ext}
-use Rattle.spec.proofs.Tests.{and-true}
-use Rattle.spec.proofs.Valid.{GoodNameRecord, GoodNames, used-true, true-used}
+use Rattle.laws.proofs.Bytes.{same-yes}
+use Rattle.laws.proofs.Count.{sum-ext, and-both, lowest-ext, lowest-passes}
+use Rattle.laws.proofs.Searches.{iterate-ext}
+use Rattle.laws.proofs.Tests.{and-true}
+use Rattle.laws.proofs.Valid.{GoodNameRecord, GoodNames, used-true, true-used}
 use Rattle.history.proofs.Sum.{holds, ind, holds-same}
 use Rattle.history.proofs.Lists.{same-true}
 use Rattle.history.proofs.View.{View, Live, Used, names?, at?, namings, entries}

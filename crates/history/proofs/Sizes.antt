@@ -19,18 +19,18 @@ use Rattle.spec.specs.Procedures.Attributes.{isGiven, sizeSet, resizeTo, checkS
 use Rattle.spec.specs.Procedures.Data.{grown, checkWrite, writeEdit, writeStore, writeDone, write}
 use Rattle.spec.specs.Results.{failChanging, settle}
 use Rattle.spec.specs.Room.{isLive, sizeOf, need, freeBlockCount}
-use Rattle.spec.proofs.ActGood.{regular-of}
-use Rattle.spec.proofs.Count.{by-bool}
-use Rattle.spec.proofs.GoodRecords.{GoodClock, live-at}
-use Rattle.spec.proofs.Passed.{SetattrPassed, setattr-passed, WritePassed, write-passed}
-use Rattle.spec.proofs.Range.{Below, below-take}
-use Rattle.spec.proofs.Resize.{resize-size}
-use Rattle.spec.proofs.SetAttributes.{FitsSettable, size-touches-fits, size-touches-allowed, mtime-and-ctime-fits, mtime-and-ctime-allowed}
-use Rattle.spec.proofs.Valid.{live-true}
+use Rattle.laws.proofs.ActGood.{regular-of}
+use Rattle.laws.proofs.Count.{by-bool}
+use Rattle.laws.proofs.GoodRecords.{GoodClock, live-at}
+use Rattle.laws.proofs.Passed.{SetattrPassed, setattr-passed, WritePassed, write-passed}
+use Rattle.laws.proofs.Range.{Below, below-take}
+use Rattle.laws.proofs.Resize.{resize-size}
+use Rattle.laws.proofs.SetAttributes.{FitsSettable, size-touches-fits, size-touches-allowed, mtime-and-ctime-fits, mtime-and-ctime-allowed}
+use Rattle.laws.proofs.Valid.{live-true}
 use Rattle.history.specs.Book.{Ledger}
 use Rattle.history.proofs.View.{Live}
 use Rattle.history.proofs.Seen.{view, kind-at, live-in}
-use Rattle.spec.proofs.FreeRoom.{good-size-small}
+use Rattle.laws.proofs.FreeRoom.{good-size-small}
 use Rattle.history.proofs.Inv.{Inv, Keeps, keeps-refl, keeps-trans, good, touch-inv, resize-inv, write-inv}
 
 pub seen-live : (s : Store) (o : ℕ) → o < objects s → isLive s o ≡ true → Live (view s) o

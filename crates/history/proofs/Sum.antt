@@ -7,7 +7,7 @@ use native.Mathlib.Nat.{not-suc-le-zero}
 use native.Mathlib.Decide.{ℕ-discrete, decLt}
 use native.Mathlib.Omega.{arith}
 use Rattle.spec.specs.Count.{bit, sum}
-use Rattle.spec.proofs.Count.{sum-upd, true-false}
+use Rattle.laws.proofs.Count.{sum-upd, true-false}
 
 -- a decided test, as the Bool that spec counts
 abbrev pub holds : {A : Type 0} → Dec A → Bool

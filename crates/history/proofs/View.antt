@@ -9,8 +9,8 @@ use native.Mathlib.Omega.{arith}
 use lib.ListN.{length}
 use Rattle.history.proofs.Lists.{text?}
 use Rattle.spec.specs.Count.{sum}
-use Rattle.spec.proofs.Count.{sum-upd, sum-at}
-use Rattle.spec.proofs.Unique.{sum-two}
+use Rattle.laws.proofs.Count.{sum-upd, sum-at}
+use Rattle.laws.proofs.Unique.{sum-two}
 use Rattle.history.proofs.Sum.{ind, ind-same, ind-yes, ind-true, sum-find}
 
 pub record View : Type 0 where

@@ -9,7 +9,7 @@ use native.Mathlib.Decide.{ℕ-discrete}
 use native.Mathlib.Omega.{arith}
 use lib.ListN.{length}
 use Rattle.spec.specs.Count.{lowest, iterate}
-use Rattle.spec.proofs.Count.{lowest-passes, lowest-none, true-false}
+use Rattle.laws.proofs.Count.{lowest-passes, lowest-none, true-false}
 use Rattle.history.proofs.Sum.{holds, holds-true, holds-yes}
 use Rattle.history.proofs.View.{View, Live, Names, names?, namings, Path, Avoids, named-by, not-named}
 use Rattle.history.proofs.Tree.{Flat, one-name, single}

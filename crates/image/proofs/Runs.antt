@@ -9,7 +9,7 @@ use Rattle.kinds.specs.declared.object.Object.{Object}
 use Rattle.spec.specs.Bytes.{overlay, bytesOf}
 use Rattle.spec.specs.Image.{objectStart, timeBytes, headBytes, timesBytes, halvesBytes, objectBytes, putObject, nameBytes}
 use Rattle.image.specs.Text.{nameOf}
-use Rattle.spec.proofs.Bytes.{bytes-length, overlay-more}
+use Rattle.laws.proofs.Bytes.{bytes-length, overlay-more}
 
 pub head-run : (b : List ℕ) (at : ℕ) (v : Object) → at + 24 ≤ length b
     → overlay (overlay (overlay (overlay (overlay (overlay b at (bytesOf 4 (v .kind))) (at + 4) (bytesOf 4 (v .generation))) (at + 8) (bytesOf 4 (v .mode))) (at + 12) (bytesOf 4 (v .uid))) (at + 16) (bytesOf 4 (v .gid))) (at + 20) (bytesOf 4 (v .size))

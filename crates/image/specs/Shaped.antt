@@ -5,7 +5,7 @@ use mathlib.Core.Path.{_≡_}
 use mathlib.Core.Bool.{true}
 use Rattle.spec.specs.Image.{Store, objects, names, nameAt, nameLength}
 use Rattle.spec.specs.Room.{isUsedName}
-pub use Rattle.spec.proofs.Valid.{Shaped}
+pub use Rattle.laws.proofs.Valid.{Shaped}
 
 -- a name record states at most 32 bytes, and a used one names an object of the store, in one
 pub record SoundNames (s : Store) : Type 0 where

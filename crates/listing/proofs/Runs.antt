@@ -14,11 +14,11 @@ use Rattle.spec.specs.Image.{Store, names, nameStart, nameAt, nameFrom, nameLen
 use Rattle.spec.specs.Procedures.Listing.{entryOf, dotEntries, entries, entriesAbove, fitting}
 use Rattle.spec.specs.Results.{Entry}
 use Rattle.spec.specs.Room.{isUsedName, isIn}
-use Rattle.spec.proofs.Count.{by-bool, passing-hit, passing-miss}
-use Rattle.spec.proofs.GoodRecords.{GoodRecords}
-use Rattle.spec.proofs.Listing.{passing-split}
-use Rattle.spec.proofs.RecordRange.{text-length}
-use Rattle.spec.proofs.Valid.{true-used, false-used}
+use Rattle.laws.proofs.Count.{by-bool, passing-hit, passing-miss}
+use Rattle.laws.proofs.GoodRecords.{GoodRecords}
+use Rattle.laws.proofs.Listing.{passing-split}
+use Rattle.laws.proofs.RecordRange.{text-length}
+use Rattle.laws.proofs.Valid.{true-used, false-used}
 use Rattle.listing.specs.Run.{cost, openRun, namedEntries, lengthIn, fitted, extended, runOf}
 use Rattle.listing.specs.declared.Run.{Run}
 

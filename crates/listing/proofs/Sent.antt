@@ -13,7 +13,7 @@ use Rattle.spec.specs.Handles.{attributes}
 use Rattle.spec.specs.Image.{Store}
 use Rattle.spec.specs.Procedures.Listing.{entries, entriesAbove, fitting, isNothing, checkListing}
 use Rattle.spec.specs.Results.{Entry, listed, failShowing}
-use Rattle.spec.proofs.Listing.{fitting-front}
+use Rattle.laws.proofs.Listing.{fitting-front}
 use Rattle.listing.specs.Run.{openRun, runOf, sentRun, listedIn}
 use Rattle.listing.specs.declared.Run.{Run}
 use Rattle.listing.proofs.Runs.{start-fits}

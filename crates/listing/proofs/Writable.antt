@@ -13,9 +13,9 @@ use Rattle.spec.specs.Image.{Store, objects}
 use Rattle.spec.specs.Procedures.Listing.{entries, entriesAbove, fitting, isNothing, checkListing}
 use Rattle.spec.specs.Replies.{entriesBytes}
 use Rattle.spec.specs.Results.{Entry}
-use Rattle.spec.proofs.GoodRecords.{GoodRecords}
-use Rattle.spec.proofs.Listing.{fitting-bytes}
-use Rattle.spec.proofs.Passed.{bind-passed, refuse-passed}
+use Rattle.laws.proofs.GoodRecords.{GoodRecords}
+use Rattle.laws.proofs.Listing.{fitting-bytes}
+use Rattle.laws.proofs.Passed.{bind-passed, refuse-passed}
 use Rattle.results.specs.Writable.{Listable}
 use Rattle.listing.specs.Run.{listingOf, sentRun}
 use Rattle.listing.specs.declared.Listing.{Listing}

@@ -8,7 +8,7 @@ ghost use Rattle.spec.specs.Bytes.{beAt};
 ghost use Rattle.spec.specs.Image.{objects, names};
 ghost use Rattle.spec.specs.Procedures.{cut};
 ghost use Rattle.spec.specs.Procedures.Listing.{entries, entriesAbove, readdir};
-ghost use Rattle.spec.proofs.GoodRecords.{GoodRecords};
+ghost use Rattle.laws.proofs.GoodRecords.{GoodRecords};
 ghost use Rattle.results.specs.Meaning.{resultOf};
 ghost use Rattle.results.specs.Writable.{Writable};
 ghost use Rattle.listing.specs.Run.{cost, openRun, namedEntries, lengthIn, extended, runOf, listingOf, sentRun, readdirIn};

@@ -14,9 +14,9 @@ use Rattle.spec.specs.Names.{isDots}
 use Rattle.spec.specs.Procedures.Attributes.{sizeSet, badAttributes}
 use Rattle.spec.specs.Procedures.Names.{checkNew}
 use Rattle.spec.specs.Room.{findName}
-use Rattle.spec.proofs.GoodRecords.{GoodRecords, used-at}
-use Rattle.spec.proofs.Passed.{bind-passed, refuse-passed, found-record}
-use Rattle.spec.proofs.SetAttributes.{allowed}
+use Rattle.laws.proofs.GoodRecords.{GoodRecords, used-at}
+use Rattle.laws.proofs.Passed.{bind-passed, refuse-passed, found-record}
+use Rattle.laws.proofs.SetAttributes.{allowed}
 use Rattle.find.specs.Found.{foundName}
 use Rattle.find.specs.declared.found.FoundName.{FoundName}
 use Rattle.find.specs.declared.found.FoundName.the-variants as FoundName

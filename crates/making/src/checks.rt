@@ -9,7 +9,7 @@ ghost use Rattle.spec.specs.Procedures.{cut};
 ghost use Rattle.spec.specs.Procedures.Attributes.{isGiven, sizeSet, badAttributes};
 ghost use Rattle.spec.specs.Procedures.Names as names;
 ghost use Rattle.spec.specs.Procedures.Names.{roomForNew, isNew, checkExisting, checkAttributed, checkMkdir};
-ghost use Rattle.spec.proofs.GoodRecords.{GoodRecords};
+ghost use Rattle.laws.proofs.GoodRecords.{GoodRecords};
 ghost use Rattle.files.specs.Meaning.{textOf};
 ghost use Rattle.making.specs.Meaning.{NewName, targetOf, mkdirOf};
 use crate::answers::reached_status;

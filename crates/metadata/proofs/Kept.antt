@@ -13,9 +13,9 @@ use Rattle.kinds.specs.declared.object.Time.{Time}
 use Rattle.spec.specs.Bytes.{part, overlay, digits, beOf, beAt, bytesOf}
 use Rattle.spec.specs.Edits.{withAttributes, setAttributes, mtimeAndCtime}
 use Rattle.spec.specs.Image.{Store, objectStart, halvesAt, halvesBytes, timeAt, timeBytes, headBytes, timesBytes, objectBytes, objectFrom, objectAt, putObject}
-use Rattle.spec.proofs.Bytes.{part-cons, part-length, part-add, part-after, overlay-join, overlay-length, bytes-length, be-add}
-use Rattle.spec.proofs.Range.{Below, be-below}
-use Rattle.spec.proofs.Records.{half-read, halves-length}
+use Rattle.laws.proofs.Bytes.{part-cons, part-length, part-add, part-after, overlay-join, overlay-length, bytes-length, be-add}
+use Rattle.laws.proofs.Range.{Below, be-below}
+use Rattle.laws.proofs.Records.{half-read, halves-length}
 
 -- one byte, as a number
 byte-at : (b : List ℕ) (p : ℕ) → p < length b → beAt b p 1 ≡ getD b p 0

@@ -10,12 +10,12 @@ use Rattle.spec.specs.Bytes.{part, bytesOf, zeros}
 use Rattle.spec.specs.Edits.{clearBlocks, removeObject}
 use Rattle.spec.specs.Image.{Store, objects, names, blocks, objectAt, timeBytes, headBytes, timesBytes, halvesBytes, objectBytes, putObject, nameAt, putName, freeName}
 use Rattle.spec.specs.Room.{sizeOf, need, held}
-use Rattle.spec.proofs.BlockLists.{InRange, held-range}
-use Rattle.spec.proofs.BlockWrites.{clear-blocks}
-use Rattle.spec.proofs.GoodRecords.{GoodRecords, live-at, used-at}
-use Rattle.spec.proofs.Shape.{SameShape, same-trans}
-use Rattle.spec.proofs.Valid.{LiveObject, Used}
-use Rattle.spec.proofs.Writes.{object-written}
+use Rattle.laws.proofs.BlockLists.{InRange, held-range}
+use Rattle.laws.proofs.BlockWrites.{clear-blocks}
+use Rattle.laws.proofs.GoodRecords.{GoodRecords, live-at, used-at}
+use Rattle.laws.proofs.Shape.{SameShape, same-trans}
+use Rattle.laws.proofs.Valid.{LiveObject, Used}
+use Rattle.laws.proofs.Writes.{object-written}
 
 -- object o, whose record is v, is the one that the used name record n names
 pub record Removing (s : Store) (n o : ℕ) (v : Object) : Type 0 where

@@ -7,7 +7,7 @@ use native.Mathlib.Omega.{arith}
 use Rattle.spec.specs.Image.{Store}
 use Rattle.spec.specs.Check.{passes}
 use Rattle.spec.specs.Serve.{Outcome, Sent, refuse, send, check}
-use Rattle.spec.proofs.Count.{by-bool}
+use Rattle.laws.proofs.Count.{by-bool}
 use Rattle.fsck.specs.Found.{countsOf, foundIf}
 use Rattle.fsck.specs.declared.shape.Counts.{Counts}
 use Rattle.fsck.specs.declared.shape.Found.the-variants.{Bad, Good}

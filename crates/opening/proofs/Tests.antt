@@ -16,10 +16,10 @@ use Rattle.spec.specs.Header.{header}
 use Rattle.spec.specs.Image.{Store, blocks}
 use Rattle.spec.specs.Room.{isFreeBlock, uses}
 use Rattle.spec.specs.Serve.{refuse, send, respond, serve}
-use Rattle.spec.proofs.Count.{by-bool}
-use Rattle.spec.proofs.GoodRecords.{GoodClock}
-use Rattle.spec.proofs.Range.{Below}
-use Rattle.spec.proofs.Valid.{valid}
+use Rattle.laws.proofs.Count.{by-bool}
+use Rattle.laws.proofs.GoodRecords.{GoodClock}
+use Rattle.laws.proofs.Range.{Below}
+use Rattle.laws.proofs.Valid.{valid}
 use Rattle.fsck.specs.Checked as checked
 use Rattle.fsck.specs.Found.{countsOf, foundIf}
 use Rattle.fsck.specs.declared.shape.Counts.{Counts}

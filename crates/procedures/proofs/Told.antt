@@ -19,8 +19,8 @@ use Rattle.spec.specs.Procedures.Listing.{readdir}
 use Rattle.spec.specs.Procedures.Names.{lookup, create, mkdir}
 use Rattle.spec.specs.Procedures.Removal.{remove, rmdir, rename}
 use Rattle.spec.specs.Procedures.Volume.{fsstat, fsinfo, pathconf}
-use Rattle.spec.proofs.Error.{getattr-store, lookup-store, access-store, read-store, readdir-store, fsstat-store, fsinfo-store, pathconf-store, commit-store}
-use Rattle.spec.proofs.GoodRecords.{GoodRecords, valid-records}
+use Rattle.laws.proofs.Error.{getattr-store, lookup-store, access-store, read-store, readdir-store, fsstat-store, fsinfo-store, pathconf-store, commit-store}
+use Rattle.laws.proofs.GoodRecords.{GoodRecords, valid-records}
 use Rattle.results.specs.declared.Reply.{Reply}
 use Rattle.results.specs.declared.Reply.the-variants as Reply
 use Rattle.results.specs.Meaning.{resultOf, Does}

@@ -2,8 +2,8 @@
 ghost use lib.ListN.{length};
 ghost use Rattle.spec.specs.Procedures.{act};
 ghost use Rattle.spec.specs.Room.{freeBlockCount};
-ghost use Rattle.spec.proofs.Arguments.{Within};
-ghost use Rattle.spec.proofs.ArgumentRange.{FitsArguments};
+ghost use Rattle.laws.proofs.Arguments.{Within};
+ghost use Rattle.laws.proofs.ArgumentRange.{FitsArguments};
 ghost use Rattle.changes.specs.Ready.{Ready};
 ghost use Rattle.procedures.specs.Runs.{Runs};
 use crate::counted::create;

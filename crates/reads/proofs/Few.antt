@@ -2,7 +2,7 @@
 use Prim.Native.Nat.{_≤_}
 use Rattle.spec.specs.Image.{Store, objects, blocks}
 use Rattle.spec.specs.Room.{isFreeBlock, freeBlockCount, isAvailable, availableCount}
-use Rattle.spec.proofs.Count.{count-bound}
+use Rattle.laws.proofs.Count.{count-bound}
 
 pub free-few : (s : Store) → freeBlockCount s ≤ blocks s
 unfolding freeBlockCount

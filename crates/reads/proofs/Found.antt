@@ -15,9 +15,9 @@ use Rattle.spec.specs.Image.{Store, objects, names, nameAt}
 use Rattle.spec.specs.Names.{isDot, isDotDot}
 use Rattle.spec.specs.Procedures.Names.{childOf, lookIn, checkLookup}
 use Rattle.spec.specs.Room.{isUsedName, isNaming, findName, directoryOf, parent}
-use Rattle.spec.proofs.Count.{by-bool, and-both, lowest-passes}
-use Rattle.spec.proofs.GoodRecords.{GoodRecords, used-at}
-use Rattle.spec.proofs.Passed.{bind-passed, directory-passed, found-record}
+use Rattle.laws.proofs.Count.{by-bool, and-both, lowest-passes}
+use Rattle.laws.proofs.GoodRecords.{GoodRecords, used-at}
+use Rattle.laws.proofs.Passed.{bind-passed, directory-passed, found-record}
 use Rattle.find.specs.Found.{foundName}
 use Rattle.find.specs.declared.found.FoundName.{FoundName}
 use Rattle.find.specs.declared.found.FoundName.the-variants as FoundName

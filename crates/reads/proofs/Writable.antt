@@ -6,7 +6,7 @@ use native.Mathlib.Omega.{arith}
 use Rattle.spec.specs.Image.{Store, objects}
 use Rattle.spec.specs.Procedures.Data.{readLength}
 use Rattle.spec.specs.Results.{failShowing}
-use Rattle.spec.proofs.GoodRecords.{GoodRecords}
+use Rattle.laws.proofs.GoodRecords.{GoodRecords}
 use Rattle.results.specs.Meaning.{resultOf}
 use Rattle.results.specs.Writable.{Readable, Writable}
 use Rattle.results.specs.declared.Reply.{Reply}

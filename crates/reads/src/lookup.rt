@@ -5,7 +5,7 @@ ghost use lib.ListN.{length};
 ghost use Rattle.spec.specs.Image.{objects};
 ghost use Rattle.spec.specs.Procedures.{cut};
 ghost use Rattle.spec.specs.Procedures.Names.{lookIn, checkLookup, lookup};
-ghost use Rattle.spec.proofs.GoodRecords.{GoodRecords};
+ghost use Rattle.laws.proofs.GoodRecords.{GoodRecords};
 ghost use Rattle.files.specs.Meaning.{reachedOf};
 ghost use Rattle.results.specs.Meaning.{resultOf};
 ghost use Rattle.reads.specs.Parts.{lookedOf, checkIn, foundOf};

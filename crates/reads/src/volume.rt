@@ -6,7 +6,7 @@ ghost use Rattle.spec.specs.Image.{objects};
 ghost use Rattle.spec.specs.Procedures.{cut};
 ghost use Rattle.spec.specs.Procedures.Volume.{fsstat, fsinfo, pathconf};
 ghost use Rattle.spec.specs.Room.{freeBlockCount};
-ghost use Rattle.spec.proofs.GoodRecords.{GoodRecords};
+ghost use Rattle.laws.proofs.GoodRecords.{GoodRecords};
 ghost use Rattle.results.specs.Meaning.{resultOf};
 ghost use Rattle.reads.specs.Parts.{roomOf};
 use files::failure::fail_showing;

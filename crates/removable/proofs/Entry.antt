@@ -13,8 +13,8 @@ use Rattle.spec.specs.Image.{Store, objects, names, nameAt}
 use Rattle.spec.specs.Names.{isDots}
 use Rattle.spec.specs.Procedures.Removal.{checkRemove, checkRmdir, hasEntries}
 use Rattle.spec.specs.Room.{isDirectory, findName}
-use Rattle.spec.proofs.GoodRecords.{GoodRecords, used-at}
-use Rattle.spec.proofs.Passed.{bind-passed, refuse-passed, present-passed, name-passed, found-record}
+use Rattle.laws.proofs.GoodRecords.{GoodRecords, used-at}
+use Rattle.laws.proofs.Passed.{bind-passed, refuse-passed, present-passed, name-passed, found-record}
 use Rattle.find.specs.Found.{foundName}
 use Rattle.find.specs.declared.found.FoundName.{FoundName}
 use Rattle.find.specs.declared.found.FoundName.the-variants as FoundName

@@ -5,7 +5,7 @@ ghost use lib.ListN.{length};
 ghost use Rattle.spec.specs.Names.{isDots};
 ghost use Rattle.spec.specs.Procedures.{cut};
 ghost use Rattle.spec.specs.Procedures.Removal.{checkRemove, checkRmdir};
-ghost use Rattle.spec.proofs.GoodRecords.{GoodRecords};
+ghost use Rattle.laws.proofs.GoodRecords.{GoodRecords};
 ghost use Rattle.removable.specs.Checks.{checkEntry};
 ghost use Rattle.removable.specs.Meaning.{removableOf};
 use files::handle::Reached;
@@ -23,7 +23,7 @@ use kinds::call::Part;
 use kinds::numbers::NameNumber;
 use kinds::numbers::ObjectNumber;
 use kinds::numbers::Status;
-use tree::has_entries;
+use subtree::has_entries;
 
 // The directory and the name record of what may be removed, or the status.
 pub enum Removable {

@@ -18,14 +18,14 @@ use Rattle.spec.specs.Image.{Store, objects}
 use Rattle.spec.specs.Procedures.{cut, act}
 use Rattle.spec.specs.Procedures.Names.{touchDirectory}
 use Rattle.spec.specs.Procedures.Removal.{checkRemove, checkRmdir, checkRename, removeFrom, remove, rmdir, renameEdit, rename}
-use Rattle.spec.proofs.ActGood.{act-good}
-use Rattle.spec.proofs.Bytes.{part-length}
-use Rattle.spec.proofs.GoodRecords.{GoodRecords, StillGood, GoodClock, used-at}
-use Rattle.spec.proofs.Passed.{EntryPassed, remove-passed, rmdir-passed, rename-passed, found-record}
-use Rattle.spec.proofs.Range.{Below}
-use Rattle.spec.proofs.Valid.{Valid}
+use Rattle.laws.proofs.ActGood.{act-good}
+use Rattle.laws.proofs.Bytes.{part-length}
+use Rattle.laws.proofs.GoodRecords.{GoodRecords, StillGood, GoodClock, used-at}
+use Rattle.laws.proofs.Passed.{EntryPassed, remove-passed, rmdir-passed, rename-passed, found-record}
+use Rattle.laws.proofs.Range.{Below}
+use Rattle.laws.proofs.Valid.{Valid}
 use Rattle.files.specs.Meaning.{changeFrom}
-use Rattle.entries.specs.Records.{RemovableAt, MovableAt}
+use Rattle.entry_edits.specs.Records.{RemovableAt, MovableAt}
 use Rattle.removable.specs.Meaning.{removableOf}
 use Rattle.renamable.specs.Meaning.{renamableOf}
 use Rattle.removable.specs.declared.Removable.{Removable}

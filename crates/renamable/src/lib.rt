@@ -4,7 +4,7 @@ ghost use Prim.Native.Nat.{_+_, _≤_};
 ghost use lib.ListN.{length};
 ghost use Rattle.spec.specs.Procedures.{cut};
 ghost use Rattle.spec.specs.Procedures.Removal.{checkRename};
-ghost use Rattle.spec.proofs.GoodRecords.{GoodRecords};
+ghost use Rattle.laws.proofs.GoodRecords.{GoodRecords};
 ghost use Rattle.renamable.specs.Checks.{checkMove};
 ghost use Rattle.renamable.specs.Meaning.{renamableOf};
 use files::handle::Reached;
@@ -20,7 +20,7 @@ use kinds::numbers::NameNumber;
 use kinds::numbers::ObjectNumber;
 use kinds::numbers::Status;
 use removable::is_dots;
-use tree::is_within;
+use subtree::is_within;
 
 // Both directories and the name record of what may be renamed, or the status.
 pub enum Renamable {

@@ -5,7 +5,7 @@ use Rattle.spec.specs.Image.{Store, objects}
 use Rattle.spec.specs.Room.{sizeOf}
 use Rattle.spec.specs.Replies.{entriesBytes}
 use Rattle.spec.specs.Procedures.Listing.{entries, entriesAbove}
-use Rattle.spec.proofs.GoodRecords.{GoodRecords}
+use Rattle.laws.proofs.GoodRecords.{GoodRecords}
 use Rattle.results.specs.declared.Reply.{Reply}
 use Rattle.results.specs.declared.Reply.the-variants as Reply
 

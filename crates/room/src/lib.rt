@@ -7,7 +7,7 @@ ghost use Rattle.spec.specs.Room.{need, sizeOf, freeBlockCount};
 ghost use Rattle.spec.specs.Procedures.Attributes.{sizeSet, lacksRoom};
 ghost use Rattle.spec.specs.Procedures.Data.{mostBytes, grown};
 ghost use Rattle.spec.specs.Procedures.Names.{roomForNew};
-ghost use Rattle.spec.proofs.GoodRecords.{GoodRecords};
+ghost use Rattle.laws.proofs.GoodRecords.{GoodRecords};
 ghost use Rattle.find.specs.Blocks.{UsedMap};
 ghost use Rattle.room.specs.Meaning.{roomOf};
 use files::shown::need;

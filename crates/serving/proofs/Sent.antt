@@ -14,7 +14,7 @@ use Rattle.spec.specs.Replies.{resultBytes}
 use Rattle.spec.specs.Results.{Done}
 use Rattle.spec.specs.Rpc.{Program, nfs, accepted, judge}
 use Rattle.spec.specs.Serve.{finish}
-use Rattle.spec.proofs.Count.{by-bool}
+use Rattle.laws.proofs.Count.{by-bool}
 use Rattle.results.specs.Meaning.{resultOf, Does}
 use Rattle.results.specs.declared.Reply.{Reply}
 use Rattle.rpc.specs.Meaning.{judgedOf}

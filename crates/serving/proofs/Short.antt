@@ -12,9 +12,9 @@ use Rattle.spec.specs.Count.{bit}
 use Rattle.spec.specs.Procedures.Listing.{entries, entriesAbove}
 use Rattle.spec.specs.Replies.{hyper, fattr3, postOp, preOp, wccData, wccOption, entriesBytes, resultBytes}
 use Rattle.spec.specs.Rpc.{Program, accepted, mismatch}
-use Rattle.spec.proofs.Count.{by-bool}
-use Rattle.spec.proofs.FileBytes.{readFile-length}
-use Rattle.spec.proofs.Words.{words-length, opaque-length}
+use Rattle.laws.proofs.Count.{by-bool}
+use Rattle.laws.proofs.FileBytes.{readFile-length}
+use Rattle.laws.proofs.Words.{words-length, opaque-length}
 use Rattle.results.specs.Meaning.{handleBytes, changeOf, resultOf}
 use Rattle.results.specs.Writable.{Writable}
 use Rattle.results.specs.declared.HandleChange.{HandleChange}

@@ -17,12 +17,12 @@ use Rattle.spec.specs.Procedures.Data.{grown, writeEdit, writeStore, writeDone}
 use Rattle.spec.specs.Edits.{resize, writeFile}
 use Rattle.spec.specs.Room.{sizeOf}
 use Rattle.spec.specs.Results.{wrote}
-use Rattle.spec.proofs.Bytes.{part-length, part-part}
-use Rattle.spec.proofs.GoodRecords.{GoodRecords, StillGood, still-trans, live-at, resize-still, write-file-still}
-use Rattle.spec.proofs.Range.{Below}
-use Rattle.spec.proofs.Resize.{resize-size, resize-tree}
-use Rattle.spec.proofs.Shape.{SameShape}
-use Rattle.spec.proofs.Valid.{Live}
+use Rattle.laws.proofs.Bytes.{part-length, part-part}
+use Rattle.laws.proofs.GoodRecords.{GoodRecords, StillGood, still-trans, live-at, resize-still, write-file-still}
+use Rattle.laws.proofs.Range.{Below}
+use Rattle.laws.proofs.Resize.{resize-size, resize-tree}
+use Rattle.laws.proofs.Shape.{SameShape}
+use Rattle.laws.proofs.Valid.{Live}
 use Rattle.files.proofs.Good.{size-few}
 use Rattle.writing.specs.Writable.{Writable}
 

@@ -6,7 +6,7 @@ ghost use Rattle.spec.specs.Bytes.{part};
 ghost use Rattle.spec.specs.Image.{objects};
 ghost use Rattle.spec.specs.Procedures.{cut};
 ghost use Rattle.spec.specs.Procedures.Data.{mostBytes, writeEdit, writeStore, writeDone};
-ghost use Rattle.spec.proofs.GoodRecords.{GoodRecords, StillGood};
+ghost use Rattle.laws.proofs.GoodRecords.{GoodRecords, StillGood};
 ghost use Rattle.find.specs.Blocks.{UsedMap};
 ghost use Rattle.results.specs.Meaning.{Does};
 ghost use Rattle.writing.specs.Writable.{Writable, WritableSome};

@@ -10,7 +10,7 @@ use Rattle.kinds.specs.Reading.{got}
 use Rattle.kinds.specs.declared.call.Part.{Part}
 use Rattle.spec.specs.Bytes.{beAt}
 use Rattle.spec.specs.Xdr.{bind, only-if, number, bytes}
-use Rattle.spec.proofs.Xdr.{only-if-got}
+use Rattle.laws.proofs.Xdr.{only-if-got}
 
 -- a field whose value is v, by the same field whose value is x
 revalued : {A B : Type 0} (t : Bool) (p q : ℕ) (x : A) (v : B) → only-if t p (got v q) ≡ bind (only-if t p (got x q)) (λ _ next. got v next)

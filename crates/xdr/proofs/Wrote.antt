@@ -7,8 +7,8 @@ use native.Mathlib.Numerals.{add-one}
 use lib.ListN.{length, take, getD, length-append}
 use lib.Seq.{take-suc}
 use Rattle.spec.specs.Bytes.{overlay, words, part}
-use Rattle.spec.proofs.Bytes.{part-cons, part-add, overlay-none, overlay-length, overlay-more}
-use Rattle.spec.proofs.Words.{words-append, words-length}
+use Rattle.laws.proofs.Bytes.{part-cons, part-add, overlay-none, overlay-length, overlay-more}
+use Rattle.laws.proofs.Words.{words-append, words-length}
 use Rattle.xdr.specs.Wrote.{Wrote}
 
 -- nothing is written

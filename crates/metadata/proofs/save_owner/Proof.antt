@@ -2,7 +2,7 @@ use mathlib.Core.List.{_++_}
 use native.Mathlib.Omega.{arith}
 use lib.ListN.{length-append}
 use Rattle.spec.specs.Bytes.{bytesOf}
-use Rattle.spec.proofs.Bytes.{overlay-more, bytes-length}
+use Rattle.laws.proofs.Bytes.{overlay-more, bytes-length}
 use borrow.Author.Needs.{needs}
 use Rattle.metadata.proofs.save_owner.Statement.{statement}
 use Rattle.metadata.proofs.save_owner.Tie as tie

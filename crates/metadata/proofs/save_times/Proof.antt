@@ -2,7 +2,7 @@ use mathlib.Core.List.{_++_}
 use native.Mathlib.Omega.{arith}
 use lib.ListN.{length-append}
 use Rattle.spec.specs.Image.{timeBytes}
-use Rattle.spec.proofs.Bytes.{overlay-more}
+use Rattle.laws.proofs.Bytes.{overlay-more}
 use Rattle.metadata.proofs.Kept.{time-length}
 use borrow.Author.Needs.{needs}
 use Rattle.metadata.proofs.save_times.Statement.{statement}

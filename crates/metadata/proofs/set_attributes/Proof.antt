@@ -4,7 +4,7 @@ use native.Mathlib.Omega.{arith}
 use lib.ListN.{length}
 use Rattle.spec.specs.Edits.{withAttributes, setAttributes}
 use Rattle.spec.specs.Image.{objectAt, timesBytes}
-use Rattle.spec.proofs.Bytes.{overlay-length}
+use Rattle.laws.proofs.Bytes.{overlay-length}
 use Rattle.metadata.proofs.Kept.{owner-size, attributes-written}
 use borrow.Author.Needs.{needs}
 use Rattle.metadata.proofs.set_attributes.Statement.{statement}

@@ -4,7 +4,7 @@ use mathlib.Core.Path.{_≡_, ap, _∙_}
 use native.Mathlib.Omega.{arith}
 use Rattle.spec.specs.Bytes.{overlay}
 use Rattle.spec.specs.Image.{timeBytes}
-use Rattle.spec.proofs.Bytes.{overlay-more}
+use Rattle.laws.proofs.Bytes.{overlay-more}
 use Rattle.metadata.proofs.Kept.{time-length, touched}
 use borrow.Author.Needs.{needs}
 use Rattle.metadata.proofs.touch.Statement.{statement}

@@ -7,7 +7,7 @@ use borrow.Author.Needs.{needs}
 use Rattle.spec.specs.Bytes.{overlay, bytesOf, zeros}
 use Rattle.kinds.specs.Objects.{freeObject}
 use Rattle.spec.specs.Image.{objectBytes, putObject}
-use Rattle.spec.proofs.Bytes.{overlay-more, bytes-length}
+use Rattle.laws.proofs.Bytes.{overlay-more, bytes-length}
 use Rattle.naming.proofs.RemovedObject.{free-bytes}
 use Rattle.naming.proofs.clear_object.Statement.{statement}
 use Rattle.naming.proofs.clear_object.Tie as tie

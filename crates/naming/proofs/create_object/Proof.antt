@@ -1,8 +1,8 @@
 use native.Mathlib.Omega.{arith}
 use borrow.Author.Needs.{needs}
 use Rattle.spec.specs.Edits.{createObject}
-use Rattle.spec.proofs.Shape.{SameShape}
-use Rattle.spec.proofs.Writes.{object-written}
+use Rattle.laws.proofs.Shape.{SameShape}
+use Rattle.laws.proofs.Writes.{object-written}
 use Rattle.naming.proofs.create_object.Statement.{statement}
 use Rattle.naming.proofs.create_object.Tie as tie
 

@@ -1,7 +1,7 @@
 use native.Mathlib.Omega.{arith}
 use borrow.Author.Needs.{needs}
 use Rattle.spec.specs.Edits.{moveName}
-use Rattle.spec.proofs.RecordRange.{nameAt-fits}
+use Rattle.laws.proofs.RecordRange.{nameAt-fits}
 use Rattle.naming.proofs.move_name.Statement.{statement}
 use Rattle.naming.proofs.move_name.Tie as tie
 

@@ -3,8 +3,8 @@ use Rattle.kinds.specs.Objects.{freeObject}
 use Prim.Native.Nat.{zero-le}
 use native.Mathlib.Omega.{arith}
 use borrow.Author.Needs.{needs}
-use Rattle.spec.proofs.GoodRecords.{used-at}
-use Rattle.spec.proofs.Valid.{live-size}
+use Rattle.laws.proofs.GoodRecords.{used-at}
+use Rattle.laws.proofs.Valid.{live-size}
 use Rattle.naming.proofs.RemovedObject.{Removing, child-below, child-record, child-range, freed-shape, removed}
 use Rattle.naming.proofs.remove_object.Statement.{statement}
 use Rattle.naming.proofs.remove_object.Tie as tie

@@ -1,6 +1,6 @@
 use mathlib.Core.Path.{sym, ap, _∙_}
 use Rattle.spec.specs.Rpc.{mismatch}
-use Rattle.spec.proofs.ArgumentRange.{arguments-fit}
+use Rattle.laws.proofs.ArgumentRange.{arguments-fit}
 use Rattle.args.specs.Reading.{argumentsOf}
 use Rattle.args.proofs.Within.{read-within}
 use Rattle.serving.proofs.Sent.{sends-kept}

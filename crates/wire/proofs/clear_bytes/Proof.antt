@@ -6,7 +6,7 @@ use mathlib.Core.List.{_∷_, []}
 use Prim.Native.Nat.{ℕ, _+_, _-_, _≤_, zero-le}
 use lib.ListN.{length, getD, replicate, length-set, length-replicate, replicate-append-replicate}
 use Rattle.spec.specs.Bytes.{overlay, part}
-use Rattle.spec.proofs.Bytes.{overlay-step, overlay-none, part-snoc, part-length}
+use Rattle.laws.proofs.Bytes.{overlay-step, overlay-none, part-snoc, part-length}
 use Rattle.wire.proofs.clear_bytes.Statement.{statement}
 use Rattle.wire.proofs.clear_bytes.Tie as tie
 use Rattle.wire.proofs.clear_bytes.Reads as reads

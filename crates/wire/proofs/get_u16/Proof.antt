@@ -1,6 +1,6 @@
 use borrow.Author.Needs.{needs}
 use native.Mathlib.Omega.{arith}
-use Rattle.spec.proofs.Bytes.{be-2}
+use Rattle.laws.proofs.Bytes.{be-2}
 use Rattle.wire.proofs.get_u16.Statement.{statement}
 use Rattle.wire.proofs.get_u16.Tie as tie
 use Rattle.wire.proofs.get_u16.Reads as reads

@@ -1,6 +1,6 @@
 use borrow.Author.Needs.{needs}
 use native.Mathlib.Omega.{arith}
-use Rattle.spec.proofs.Bytes.{be-4}
+use Rattle.laws.proofs.Bytes.{be-4}
 use Rattle.wire.proofs.get_u32.Statement.{statement}
 use Rattle.wire.proofs.get_u32.Tie as tie
 use Rattle.wire.proofs.get_u32.Reads as reads

@@ -1,6 +1,6 @@
 use borrow.Author.Needs.{needs}
 use native.Mathlib.Omega.{arith}
-use Rattle.spec.proofs.Bytes.{be-add}
+use Rattle.laws.proofs.Bytes.{be-add}
 use Rattle.wire.proofs.get_u64.Statement.{statement}
 use Rattle.wire.proofs.get_u64.Tie as tie
 use Rattle.wire.proofs.get_u64.Reads as reads

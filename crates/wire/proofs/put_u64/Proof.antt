@@ -1,7 +1,7 @@
 use borrow.Author.Needs.{needs}
 use native.Mathlib.Omega.{arith}
 use lib.ListN.{length-set}
-use Rattle.spec.proofs.Bytes.{stores-8}
+use Rattle.laws.proofs.Bytes.{stores-8}
 use Rattle.wire.proofs.put_u64.Statement.{statement}
 use Rattle.wire.proofs.put_u64.Tie as tie
 use Rattle.wire.proofs.put_u64.Reads as reads

@@ -5,7 +5,7 @@ use native.Mathlib.Numerals.{add-one}
 use mathlib.Core.Path.{_≡_, refl, sym, ap, _∙_}
 use Prim.Native.Nat.{ℕ, _+_, _-_, _*_, _≤_, _<_, zero-le}
 use Rattle.spec.specs.Bytes.{part, sameBytes}
-use Rattle.spec.proofs.Bytes.{same-yes, same-no, part-snoc, getD-part}
+use Rattle.laws.proofs.Bytes.{same-yes, same-no, part-snoc, getD-part}
 use lib.ListN.{length, getD}
 use Rattle.wire.proofs.same_bytes.Statement.{statement}
 use Rattle.wire.proofs.same_bytes.Tie as tie

@@ -5,9 +5,9 @@ use lib.Dec.{lit<}
 use Rattle.spec.specs.Bytes.{part}
 use Rattle.spec.specs.Edits.{resize}
 use Rattle.spec.specs.Procedures.Data.{grown, writeEdit}
-use Rattle.spec.proofs.Shape.{same-refl}
-use Rattle.spec.proofs.Bytes.{part-length}
-use Rattle.spec.proofs.RecordRange.{below-part}
+use Rattle.laws.proofs.Shape.{same-refl}
+use Rattle.laws.proofs.Bytes.{part-length}
+use Rattle.laws.proofs.RecordRange.{below-part}
 use Rattle.writing.proofs.Written.{record-inside, grown-small, grown-file, written-shape}
 use Rattle.writing.proofs.write_edit.Statement.{statement}
 use Rattle.writing.proofs.write_edit.Tie as tie

@@ -3,9 +3,9 @@ use borrow.Author.Needs.{needs}
 use Rattle.spec.specs.Procedures.Attributes.{setattr}
 use Rattle.spec.specs.Procedures.{cut}
 use Rattle.spec.specs.Handles.{change}
-use Rattle.spec.proofs.GoodRecords.{valid-records}
+use Rattle.laws.proofs.GoodRecords.{valid-records}
 use Rattle.files.specs.Meaning.{reachedOf}
-use Rattle.spec.proofs.Passed.{setattr-passed}
+use Rattle.laws.proofs.Passed.{setattr-passed}
 use Rattle.changes.proofs.Edited.{setattr-sizable, setattr-left}
 use Rattle.changes.proofs.attributes.setattr.Statement.{statement}
 use Rattle.changes.proofs.attributes.setattr.Tie as tie

@@ -2,9 +2,9 @@ use mathlib.Core.Path.{refl, sym, ap, _∙_}
 use borrow.Author.Needs.{needs}
 use Rattle.spec.specs.Procedures.Data.{write}
 use Rattle.spec.specs.Procedures.{cut}
-use Rattle.spec.proofs.GoodRecords.{valid-records}
+use Rattle.laws.proofs.GoodRecords.{valid-records}
 use Rattle.files.specs.Meaning.{reachedOf}
-use Rattle.spec.proofs.Passed.{write-passed}
+use Rattle.laws.proofs.Passed.{write-passed}
 use Rattle.changes.proofs.Edited.{few-moved, write-writable, write-left}
 use Rattle.changes.proofs.data.write.Statement.{statement}
 use Rattle.changes.proofs.data.write.Tie as tie

@@ -2,8 +2,8 @@ use mathlib.Core.Path.{refl, sym, ap, _∙_}
 use borrow.Author.Needs.{needs}
 use Rattle.spec.specs.Procedures.Names.{create}
 use Rattle.spec.specs.Procedures.{cut}
-use Rattle.spec.proofs.GoodRecords.{valid-records}
-use Rattle.spec.proofs.Passed.{create-passed}
+use Rattle.laws.proofs.GoodRecords.{valid-records}
+use Rattle.laws.proofs.Passed.{create-passed}
 use Rattle.creating.specs.Meaning.{createOf}
 use Rattle.changes.proofs.Makable.{create-makable, create-sizable}
 use Rattle.changes.proofs.names.create.Statement.{statement}

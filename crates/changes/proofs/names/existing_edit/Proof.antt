@@ -1,7 +1,7 @@
 use mathlib.Core.Path.{refl}
 use borrow.Author.Needs.{needs}
 use Rattle.changes.specs.Ready.{Sizable}
-use Rattle.spec.proofs.GoodRecords.{resize-still}
+use Rattle.laws.proofs.GoodRecords.{resize-still}
 use Rattle.writing.proofs.Written.{record-inside}
 use Rattle.changes.proofs.names.existing_edit.Statement.{statement}
 use Rattle.changes.proofs.names.existing_edit.Tie as tie

@@ -2,7 +2,7 @@ use borrow.Author.Needs.{needs}
 use lib.Dec.{lit<}
 use Rattle.spec.specs.Procedures.{cut}
 use Rattle.spec.specs.Handles.{change}
-use Rattle.spec.proofs.RecordRange.{below-part}
+use Rattle.laws.proofs.RecordRange.{below-part}
 use Rattle.changes.proofs.Made.{new-still}
 use Rattle.changes.proofs.names.make_new.Statement.{statement}
 use Rattle.changes.proofs.names.make_new.Tie as tie

@@ -2,8 +2,8 @@ use mathlib.Core.Path.{refl, sym, ap, _∙_}
 use borrow.Author.Needs.{needs}
 use Rattle.spec.specs.Procedures.Names.{mkdir}
 use Rattle.spec.specs.Procedures.{cut}
-use Rattle.spec.proofs.GoodRecords.{valid-records}
-use Rattle.spec.proofs.Passed.{mkdir-passed}
+use Rattle.laws.proofs.GoodRecords.{valid-records}
+use Rattle.laws.proofs.Passed.{mkdir-passed}
 use Rattle.making.specs.Meaning.{mkdirOf}
 use Rattle.changes.proofs.Makable.{mkdir-makable}
 use Rattle.changes.proofs.names.mkdir.Statement.{statement}

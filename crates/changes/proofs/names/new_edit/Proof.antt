@@ -4,9 +4,9 @@ use borrow.Author.Needs.{needs}
 use lib.Dec.{lit<}
 use Rattle.spec.specs.Procedures.{cut}
 use Rattle.spec.specs.Procedures.Names.{newEdit}
-use Rattle.spec.proofs.Bytes.{part-length}
-use Rattle.spec.proofs.RecordRange.{below-part}
-use Rattle.spec.proofs.GoodRecords.{still-trans}
+use Rattle.laws.proofs.Bytes.{part-length}
+use Rattle.laws.proofs.RecordRange.{below-part}
+use Rattle.laws.proofs.GoodRecords.{still-trans}
 use Rattle.writing.proofs.Written.{record-inside}
 use Rattle.changes.proofs.Edited.{sized-still}
 use Rattle.changes.proofs.Made.{created, created-still, created-map, created-sizable}

@@ -4,7 +4,7 @@ use borrow.Author.Needs.{needs}
 use borrow.Author.Tests.{eq-eqb, ltb-false, ne-eqb}
 use Rattle.spec.specs.Procedures.Data.{checkWrite}
 use Rattle.spec.specs.Procedures.{cut}
-use Rattle.spec.proofs.Bytes.{part-length}
+use Rattle.laws.proofs.Bytes.{part-length}
 use Rattle.files.proofs.Reach.{regular-reached}
 use Rattle.changes.proofs.setting.check_write.Statement.{statement}
 use Rattle.changes.proofs.setting.check_write.Tie as tie

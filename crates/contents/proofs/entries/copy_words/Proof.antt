@@ -3,7 +3,7 @@ use Prim.Native.Nat.{_*_, _-_, _≤_, zero-le}
 use native.Mathlib.Omega.{arith}
 use lib.ListN.{length}
 use Rattle.spec.specs.Bytes.{part, overlay}
-use Rattle.spec.proofs.Bytes.{overlay-none}
+use Rattle.laws.proofs.Bytes.{overlay-none}
 use Rattle.contents.proofs.Copies.{copy-more}
 use borrow.Author.Needs.{needs}
 use Rattle.contents.proofs.entries.copy_words.Statement.{statement}

@@ -2,7 +2,7 @@ use native.Mathlib.Omega.{arith}
 use Rattle.spec.specs.Bytes.{part}
 use Rattle.contents.specs.Entries.{entry}
 use Rattle.contents.proofs.Runs.{above-low, above-high, one-cost, sent-none, sent-full, sent-one}
-use Rattle.spec.proofs.Bytes.{part-length}
+use Rattle.laws.proofs.Bytes.{part-length}
 use borrow.Author.Needs.{needs}
 use Rattle.contents.proofs.entries.put_above.Statement.{statement}
 use Rattle.contents.proofs.entries.put_above.Tie as tie

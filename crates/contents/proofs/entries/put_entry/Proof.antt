@@ -1,6 +1,6 @@
 use native.Mathlib.Omega.{arith}
 use Rattle.spec.specs.Bytes.{part}
-use Rattle.spec.proofs.Bytes.{part-length}
+use Rattle.laws.proofs.Bytes.{part-length}
 use Rattle.contents.proofs.Copies.{wrote-entry}
 use borrow.Author.Needs.{needs}
 use Rattle.contents.proofs.entries.put_entry.Statement.{statement}

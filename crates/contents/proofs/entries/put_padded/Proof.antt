@@ -1,5 +1,5 @@
 use native.Mathlib.Omega.{arith}
-use Rattle.spec.proofs.Bytes.{part-length}
+use Rattle.laws.proofs.Bytes.{part-length}
 use Rattle.xdr.proofs.Wrote.{wrote-over}
 use Rattle.contents.proofs.Copies.{padded-words}
 use borrow.Author.Needs.{needs}

@@ -1,7 +1,7 @@
 use native.Mathlib.Omega.{arith}
 use lib.ListN.{length-replicate}
 use Rattle.spec.specs.Bytes.{opaqueBytes}
-use Rattle.spec.proofs.FileBytes.{readFile-length}
+use Rattle.laws.proofs.FileBytes.{readFile-length}
 use Rattle.xdr.proofs.Wrote.{wrote-over, andThen}
 use borrow.Author.Needs.{needs}
 use Rattle.contents.proofs.file.put_file_bytes.Statement.{statement}

@@ -4,7 +4,7 @@ use native.Mathlib.Omega.{arith}
 use lib.ListN.{length}
 use Rattle.spec.specs.Edits.{readFile}
 use Rattle.spec.specs.Room.{sizeOf}
-use Rattle.spec.proofs.FileBytes.{readFile-none, readFile-more}
+use Rattle.laws.proofs.FileBytes.{readFile-none, readFile-more}
 use Rattle.xdr.specs.Wrote.{Wrote}
 use Rattle.xdr.proofs.Wrote.{wrote-none, andThen}
 use Rattle.contents.proofs.Files.{object-in, byte-few, run-in}

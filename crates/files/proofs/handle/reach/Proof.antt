@@ -1,7 +1,7 @@
 use borrow.Author.Tests.{eq-eqb, ne-eqb, le-leb, lt-leb}
 use borrow.Author.Needs.{needs}
 use Rattle.spec.specs.Handles.{reach}
-use Rattle.spec.proofs.Bytes.{part-length}
+use Rattle.laws.proofs.Bytes.{part-length}
 use Rattle.files.proofs.Reach.{handle-read}
 use Rattle.files.proofs.handle.reach.Statement.{statement}
 use Rattle.files.proofs.handle.reach.Tie as tie

@@ -3,7 +3,7 @@ use mathlib.Core.Bool.{not}
 use Rattle.spec.specs.Count.{lowest, passing}
 use Rattle.spec.specs.Image.{names}
 use Rattle.spec.specs.Room.{isUsedName, availableName}
-use Rattle.spec.proofs.Count.{lowest-more, lowest-hit}
+use Rattle.laws.proofs.Count.{lowest-more, lowest-hit}
 use borrow.Author.Needs.{needs}
 use native.Mathlib.Omega.{arith}
 use mathlib.Core.Path.{_≡_, refl, sym, _∙_}

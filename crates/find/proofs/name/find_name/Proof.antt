@@ -2,7 +2,7 @@ use mathlib.Core.Option.{none}
 use Rattle.spec.specs.Count.{lowest, passing}
 use Rattle.spec.specs.Image.{names}
 use Rattle.spec.specs.Room.{isNamed, findName}
-use Rattle.spec.proofs.Count.{lowest-more, lowest-hit}
+use Rattle.laws.proofs.Count.{lowest-more, lowest-hit}
 use Rattle.image.specs.Text.{textOf}
 use borrow.Author.Needs.{needs}
 use native.Mathlib.Omega.{arith}

@@ -2,7 +2,7 @@ use mathlib.Core.Bool.{not}
 use Rattle.spec.specs.Count.{count, sum}
 use Rattle.spec.specs.Image.{names}
 use Rattle.spec.specs.Room.{isUsedName, freeNameCount}
-use Rattle.spec.proofs.Count.{count-more}
+use Rattle.laws.proofs.Count.{count-more}
 use borrow.Author.Needs.{needs}
 use native.Mathlib.Omega.{arith}
 use mathlib.Core.Path.{_≡_, refl}

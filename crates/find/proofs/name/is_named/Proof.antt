@@ -6,7 +6,7 @@ use Prim.Native.Nat.{ℕ, _+_, _-_, _<_}
 use lib.ListN.{getD}
 use Rattle.spec.specs.Bytes.{part, sameBytes}
 use Rattle.spec.specs.Image.{nameStart}
-use Rattle.spec.proofs.Bytes.{part-length, same-no, getD-part}
+use Rattle.laws.proofs.Bytes.{part-length, same-no, getD-part}
 use Rattle.image.specs.Text.{textOf}
 use Rattle.find.proofs.Named.{named-elsewhere, named-longer, named-free, named-same}
 use borrow.Author.Needs.{needs}

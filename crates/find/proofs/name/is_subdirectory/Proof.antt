@@ -2,7 +2,7 @@ use mathlib.Core.Path.{_≡_, sym, _∙_}
 use mathlib.Core.Bool.{true}
 use native.Mathlib.Omega.{arith}
 use Rattle.spec.specs.Room.{isIn, isUsedName}
-use Rattle.spec.proofs.Count.{and-both}
+use Rattle.laws.proofs.Count.{and-both}
 use borrow.Author.Needs.{needs}
 use Rattle.find.proofs.name.is_subdirectory.Statement.{statement}
 use Rattle.find.proofs.name.is_subdirectory.Tie as tie

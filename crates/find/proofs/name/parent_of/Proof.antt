@@ -2,7 +2,7 @@ use mathlib.Core.Path.{sym, ap, _∙_}
 use native.Mathlib.Omega.{arith}
 use Rattle.spec.specs.Image.{names}
 use Rattle.spec.specs.Room.{isNaming, parent}
-use Rattle.spec.proofs.Count.{lowest-passes}
+use Rattle.laws.proofs.Count.{lowest-passes}
 use Rattle.find.specs.Found.{foundName}
 use borrow.Author.Needs.{needs}
 use Rattle.find.proofs.name.parent_of.Statement.{statement}

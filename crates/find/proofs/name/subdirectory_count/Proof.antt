@@ -2,7 +2,7 @@ use mathlib.Core.Bool.{_&&_}
 use Rattle.spec.specs.Count.{count, sum}
 use Rattle.spec.specs.Image.{names, nameAt}
 use Rattle.spec.specs.Room.{isIn, isDirectory, subdirectories}
-use Rattle.spec.proofs.Count.{count-more}
+use Rattle.laws.proofs.Count.{count-more}
 use borrow.Author.Needs.{needs}
 use native.Mathlib.Omega.{arith}
 use mathlib.Core.Path.{_≡_, refl}

@@ -1,7 +1,7 @@
 use Rattle.spec.specs.Count.{count, sum}
 use Rattle.spec.specs.Image.{objects}
 use Rattle.spec.specs.Room.{isAvailable, availableCount}
-use Rattle.spec.proofs.Count.{count-more}
+use Rattle.laws.proofs.Count.{count-more}
 use borrow.Author.Needs.{needs}
 use native.Mathlib.Omega.{arith}
 use mathlib.Core.Path.{_≡_, refl}

@@ -1,7 +1,7 @@
 use borrow.Author.Tests.{not-true, not-false}
 use Rattle.spec.specs.Count.{every}
 use Rattle.spec.specs.Check.{isNamedOnce, leadsToRoot}
-use Rattle.spec.proofs.Count.{every-more}
+use Rattle.laws.proofs.Count.{every-more}
 use Rattle.fsck_objects.proofs.Passes.{told-true, told-false}
 use Rattle.fsck.specs.Tree.{TreePasses}
 use Rattle.fsck.proofs.Steps.{known-start}

@@ -1,7 +1,7 @@
 use mathlib.Core.Path.{sym, _∙_}
 use native.Mathlib.Omega.{arith}
 use borrow.Author.Tests.{eq-eqb, ne-eqb}
-use Rattle.spec.proofs.Bytes.{part-length}
+use Rattle.laws.proofs.Bytes.{part-length}
 use Rattle.fsck_names.proofs.Dots.{dots-1, dots-2, dots-more}
 use borrow.Author.Needs.{needs}
 use Rattle.fsck_names.proofs.text.is_dots.Statement.{statement}

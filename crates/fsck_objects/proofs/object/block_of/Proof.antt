@@ -1,7 +1,7 @@
 use Prim.Native.Nat.{_+_}
 use mathlib.Core.Path.{sym, _∙_}
 use Rattle.spec.specs.Image.{objectAt, objectFrom, objectStart}
-use Rattle.spec.proofs.Records.{half-read}
+use Rattle.laws.proofs.Records.{half-read}
 use borrow.Author.Needs.{needs}
 use Rattle.fsck_objects.proofs.object.block_of.Statement.{statement}
 use Rattle.fsck_objects.proofs.object.block_of.Tie as tie

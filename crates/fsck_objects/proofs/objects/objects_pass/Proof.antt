@@ -3,7 +3,7 @@ use mathlib.Core.Path.{_≡_, refl, sym}
 use Prim.Native.Nat.{_-_, _*_, _≤_, zero-le}
 use mathlib.Core.Bool.{true}
 use Rattle.spec.specs.Count.{every}
-use Rattle.spec.proofs.Count.{every-more}
+use Rattle.laws.proofs.Count.{every-more}
 use Rattle.spec.specs.Check.{goodObject}
 use Rattle.fsck_objects.specs.Objects.{MarkedBy}
 use Rattle.fsck_objects.proofs.Passes.{told-false}

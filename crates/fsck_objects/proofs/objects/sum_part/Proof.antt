@@ -3,7 +3,7 @@ use mathlib.Core.Path.{_≡_, refl}
 use Prim.Native.Nat.{_+_, _-_, _≤_, zero-le}
 use lib.ListN.{getD}
 use Rattle.spec.specs.Count.{sum}
-use Rattle.spec.proofs.Count.{sum-more}
+use Rattle.laws.proofs.Count.{sum-more}
 use borrow.Author.Needs.{needs}
 use Rattle.fsck_objects.proofs.objects.sum_part.Statement.{statement}
 use Rattle.fsck_objects.proofs.objects.sum_part.Tie as tie

@@ -2,7 +2,7 @@ use mathlib.Core.Path.{ap, _∙_}
 use Prim.Native.Nat.{ℕ}
 use Rattle.spec.specs.Bytes.{overlay}
 use Rattle.spec.specs.Image.{nameBytes, putName}
-use Rattle.spec.proofs.Bytes.{part-length}
+use Rattle.laws.proofs.Bytes.{part-length}
 use Rattle.image.specs.Text.{nameOf, textOf}
 use Rattle.image.proofs.Runs.{name-run}
 use native.Mathlib.Omega.{arith}

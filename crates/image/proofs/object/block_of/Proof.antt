@@ -1,6 +1,6 @@
 use Prim.Native.Nat.{_+_}
 use Rattle.spec.specs.Image.{objectStart, objectAt, objectFrom}
-use Rattle.spec.proofs.Records.{half-read}
+use Rattle.laws.proofs.Records.{half-read}
 use borrow.Author.Needs.{needs}
 use Rattle.image.proofs.object.block_of.Statement.{statement}
 use Rattle.image.proofs.object.block_of.Tie as tie

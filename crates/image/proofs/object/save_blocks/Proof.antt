@@ -1,7 +1,7 @@
 use Rattle.spec.specs.Bytes.{bytesOf, overlay}
-use Rattle.spec.proofs.Bytes.{overlay-more, overlay-none}
+use Rattle.laws.proofs.Bytes.{overlay-more, overlay-none}
 use Rattle.spec.specs.Image.{halvesBytes}
-use Rattle.spec.proofs.Records.{halves-length}
+use Rattle.laws.proofs.Records.{halves-length}
 use borrow.Author.Needs.{needs}
 use native.Mathlib.Omega.{arith}
 use native.Mathlib.Numerals.{add-one}

@@ -1,6 +1,6 @@
 use native.Mathlib.Omega.{arith}
 use Rattle.spec.specs.Bytes.{bytesOf}
-use Rattle.spec.proofs.Bytes.{overlay-more, bytes-length}
+use Rattle.laws.proofs.Bytes.{overlay-more, bytes-length}
 use Rattle.spec.specs.Image.{timeBytes}
 use borrow.Author.Needs.{needs}
 use Rattle.image.proofs.object.save_time.Statement.{statement}

@@ -1,8 +1,8 @@
 use mathlib.Core.Path.{subst}
 use lib.ListN.{length}
 use borrow.Author.Needs.{needs}
-use Rattle.spec.proofs.Arguments.{Within}
-use Rattle.spec.proofs.ArgumentRange.{FitsArguments}
+use Rattle.laws.proofs.Arguments.{Within}
+use Rattle.laws.proofs.ArgumentRange.{FitsArguments}
 use Rattle.procedures.proofs.Told.{good, told-null, told-unserved, told-getattr, told-setattr, told-lookup, told-access, told-read, told-write, told-create, told-mkdir, told-remove, told-rmdir, told-rename, told-readdir, told-fsstat, told-fsinfo, told-pathconf, told-commit}
 use Rattle.procedures.proofs.run.run.Statement.{statement}
 use Rattle.procedures.proofs.run.run.Tie as tie

@@ -1,7 +1,7 @@
 use native.Mathlib.Omega.{arith}
 use Rattle.spec.specs.Replies.{resultBytes}
 use Rattle.spec.specs.Rpc.{accepted}
-use Rattle.spec.proofs.FileBytes.{readFile-length}
+use Rattle.laws.proofs.FileBytes.{readFile-length}
 use Rattle.xdr.proofs.Wrote.{wrote-none, andThen, sized}
 use borrow.Author.Needs.{needs}
 use Rattle.replies.proofs.result.put_result.Statement.{statement}

@@ -4,7 +4,7 @@ use native.Mathlib.Omega.{arith}
 use borrow.Author.Needs.{needs}
 use borrow.Author.Tests.{eq-eqb, ne-eqb}
 use Rattle.spec.specs.Bytes.{part, digits, beOf, beAt}
-use Rattle.spec.proofs.Xdr.{zero-more, not-zero}
+use Rattle.laws.proofs.Xdr.{zero-more, not-zero}
 use Rattle.xdr.proofs.read.all_zero.Statement.{statement}
 use Rattle.xdr.proofs.read.all_zero.Tie as tie
 

@@ -1,6 +1,6 @@
 use native.Mathlib.Omega.{arith}
 use borrow.Author.Needs.{needs}
-use Rattle.spec.proofs.Bytes.{part-length}
+use Rattle.laws.proofs.Bytes.{part-length}
 use Rattle.xdr.proofs.Wrote.{wrote-over}
 use Rattle.xdr.proofs.write.put_bytes.Statement.{statement}
 use Rattle.xdr.proofs.write.put_bytes.Tie as tie

@@ -2,7 +2,7 @@ use native.Mathlib.Omega.{arith}
 use borrow.Author.Needs.{needs}
 use lib.ListN.{length-replicate}
 use Rattle.spec.specs.Bytes.{opaqueBytes}
-use Rattle.spec.proofs.Bytes.{part-length}
+use Rattle.laws.proofs.Bytes.{part-length}
 use Rattle.xdr.proofs.Wrote.{wrote-over, andThen}
 use Rattle.xdr.proofs.write.put_opaque.Statement.{statement}
 use Rattle.xdr.proofs.write.put_opaque.Tie as tie

@@ -1,6 +1,6 @@
 use native.Mathlib.Omega.{arith}
 use borrow.Author.Needs.{needs}
-use Rattle.spec.proofs.Words.{words-length, words-one}
+use Rattle.laws.proofs.Words.{words-length, words-one}
 use Rattle.xdr.proofs.Wrote.{wrote-over}
 use Rattle.xdr.proofs.write.put_word.Statement.{statement}
 use Rattle.xdr.proofs.write.put_word.Tie as tie

@@ -1,0 +1,338 @@
+-- Every call keeps the shape of the store, and the demands of the store check on single records and on blocks. Assumes nothing.
+use mathlib.Core.Path.{_≡_, refl, sym, ap, _∙_}
+use mathlib.Core.Logic.{_≢_, _⊎_, ⊎-elim}
+use mathlib.Core.Bool.{true, false}
+use mathlib.Core.List.{List}
+use Prim.Native.Nat.{ℕ, _+_, _-_, _^_, _≤_, _<_, min}
+use native.Mathlib.Omega.{arith}
+use lib.Dec.{eqb, lit<}
+use lib.ListN.{length, take, length-take}
+use borrow.Author.Tests.{eqb-false}
+use Rattle.kinds.specs.Numbers.{REGULAR, DIRECTORY}
+use Rattle.kinds.specs.declared.object.Object.{Object}
+use Rattle.kinds.specs.declared.object.Context.{Context}
+use Rattle.kinds.specs.declared.call.Part.{Part}
+use Rattle.kinds.specs.declared.call.SetSize.{SetSize}
+use Rattle.kinds.specs.declared.call.SetSize.the-variants as SetSize
+use Rattle.kinds.specs.declared.call.Settable.{Settable}
+use Rattle.kinds.specs.declared.call.Guard.{Guard}
+use Rattle.kinds.specs.declared.call.How.{How}
+use Rattle.kinds.specs.declared.call.How.the-variants as How
+use Rattle.kinds.specs.declared.call.Arguments.{Arguments}
+use Rattle.kinds.specs.declared.call.Arguments.the-variants as Arguments
+use Rattle.spec.specs.Checked.{Checked, refused, passed}
+use Rattle.spec.specs.Edits.{withAttributes, setAttributes, onlyCtime, mtimeAndCtime, resize, withGeneration, createObject, removeObject, moveName, writeFile}
+use Rattle.spec.specs.Image.{Store, objects, names, blocks, objectAt, nameAt}
+use Rattle.spec.specs.Procedures.{cut, act}
+use Rattle.spec.specs.Procedures.Attributes.{isGiven, sizeSet, sizeTouches, resizeTo, checkSetattr, setattrEdit, edited, setattr}
+use Rattle.spec.specs.Procedures.Data.{mostBytes, grown, checkWrite, writeEdit, writeStore, writeDone, write}
+use Rattle.spec.specs.Procedures.Names.{newObject, touchDirectory, newEdit, createdIn, Target, new, existing, settableOf, existingEdit, createEdit, checkCreate, create, checkMkdir, mkdir}
+use Rattle.spec.specs.Procedures.Removal.{checkRemove, checkRmdir, removeFrom, remove, rmdir, checkRename, renameEdit, failRenaming, renamedTo, rename}
+use Rattle.spec.specs.Results.{Result, Done, failChanging, settle}
+use Rattle.spec.specs.Room.{sizeOf, need, freeBlockCount}
+use Rattle.spec.specs.Serve.{serve}
+use Rattle.laws.proofs.ArgumentRange.{FitsHow, FitsArguments, arguments-fit}
+use Rattle.laws.proofs.BlockLists.{held-range}
+use Rattle.laws.proofs.BlockWrites.{write-file}
+use Rattle.laws.proofs.Count.{by-bool, true-false}
+use Rattle.laws.proofs.CreateObject.{create-object, create-object-uses}
+use Rattle.laws.proofs.Error.{getattr-store, lookup-store, access-store, read-store, readdir-store, fsstat-store, fsinfo-store, pathconf-store, commit-store}
+use Rattle.laws.proofs.GoodKept.{used-of}
+use Rattle.laws.proofs.GoodRecords.{GoodRecords, StillGood, GoodClock, clock-fits, valid-records, still-refl, still-trans, live-at, free-size, used-at, set-attributes-still, resize-still, write-file-still, create-object-still, remove-object-still, move-name-still}
+use Rattle.laws.proofs.Kept.{kept-refl}
+use Rattle.laws.proofs.MoveName.{move-name}
+use Rattle.laws.proofs.Passed.{SetattrPassed, setattr-passed, WritePassed, write-passed, NewRoom, CreatePassed, create-passed, mkdir-passed, RemovePassed, remove-passed, RmdirPassed, rmdir-passed, RenamePassed, rename-passed, found-record, no-entries}
+use Rattle.laws.proofs.Range.{Below, below-take}
+use Rattle.laws.proofs.RecordRange.{below-part}
+use Rattle.laws.proofs.RemoveObject.{remove-object}
+use Rattle.laws.proofs.Resize.{resize-size, resize-tree}
+use Rattle.laws.proofs.SameReads.{freeBlockCount-reads}
+use Rattle.laws.proofs.Served.{Ran, serve-ran}
+use Rattle.laws.proofs.SetAttributes.{FitsSettable, Allowed, only-ctime-fits, mtime-and-ctime-fits, only-ctime-allowed, mtime-and-ctime-allowed, size-touches-fits, size-touches-allowed, set-attributes-structure, new-fits, new-live}
+use Rattle.laws.proofs.Structure.{SameTree, kept-structure}
+use Rattle.laws.proofs.Unique.{one-naming}
+use Rattle.laws.proofs.Valid.{LiveObject, GoodName, Live, Used, Valid, live-size}
+
+-- a live object that is no directory is a regular file
+pub regular-of : (r : ℕ) (v : Object) → LiveObject r v → v .kind ≢ DIRECTORY → v .kind ≡ REGULAR
+regular-of r v l n = ⊎-elim (λ p. p .0) (λ p. absurd (n (p .0))) (l .size)
+
+size-small : (s : Store) (o : ℕ) → LiveObject (blocks s) (objectAt s o) → sizeOf s o ≤ 8192
+unfolding sizeOf
+size-small s o v = live-size (blocks s) (objectAt s o) v
+
+-- ---- edits of any store with good records
+module _ (s : Store) (g : GoodRecords s) where
+  tree-refl : SameTree s s
+  tree-refl = kept-structure s s (kept-refl s (g .sound)) .tree
+
+  -- a size, where one is given
+  resize-to : (o : ℕ) (x : SetSize) → o < objects s → (isGiven x ≡ true → objectAt s o .kind ≡ REGULAR) → sizeSet x 0 ≤ 8192
+      → need (sizeSet x (sizeOf s o)) - need (sizeOf s o) ≤ freeBlockCount s → StillGood s (resizeTo s o x) × SameTree s (resizeTo s o x)
+  resize-to o SetSize.Keep l k small room = (still-refl s g, tree-refl)
+  resize-to o (SetSize.To n) l k small room =
+      let r = k refl in
+      (resize-still s g o n l r small room, resize-tree s o n (g .sound) l (live-at s g o l (omega arith)) small room)
+
+  module _ (c : Context) (k : GoodClock (c .clock)) where
+    touch-directory : (d : ℕ) → d < objects s → Live s d → StillGood s (touchDirectory s c d)
+    touch-directory d l v = set-attributes-still s g (c .clock) d mtimeAndCtime l v k mtime-and-ctime-fits mtime-and-ctime-allowed
+
+-- what happens to o in t, where t came from s
+module _ (s t : Store) (a : StillGood s t) where
+  below-after : (o : ℕ) → o < objects s → o < objects t
+  below-after o l = rw (a .shape .objects) l
+
+  -- a directory's times are set after an edit that leaves its type
+  touch-after : (c : Context) (d : ℕ) → GoodClock (c .clock) → d < objects s → objectAt t d .kind ≡ objectAt s d .kind → objectAt s d .kind ≡ DIRECTORY
+      → StillGood s (touchDirectory t c d)
+  touch-after c d k l e w = still-trans s t (touchDirectory t c d) a (touch-directory t (a .good) c k d (below-after d l) (omega arith))
+
+module _ (s : Store) (c : Context) (v : Valid s) (b : Below 256 s) (k : GoodClock (c .clock)) where
+  records : GoodRecords s
+  records = valid-records s v b
+
+  settle-good : {A : Type 0} (fail : ℕ → Result) (checks : Checked A) (go : A → Done) → ((a : A) → checks ≡ passed a → StillGood s (go a .store))
+      → StillGood s (settle s fail checks go .store)
+  settle-good fail (refused status) go f = still-refl s records
+  settle-good fail (passed a) go f = f a refl
+
+  -- ---- SETATTR
+  setattr-edit : (h : List ℕ) (a : Settable) (w : Guard) (o : ℕ) → FitsSettable a → SetattrPassed s h a w o → StillGood s (setattrEdit s c o a)
+  unfolding setattrEdit
+  setattr-edit h a w o f p =
+      let l = p .reached .below in
+      let live = p .reached .live in
+      let r = resize-to s records o (a .size) l
+      (λ given. regular-of (blocks s) (objectAt s o) (live-at s records o l live) (p .not-directory given)) (p .allowed .size) (p .room) in
+      let t = resizeTo s o (a .size) in
+      still-trans s t (setattrEdit s c o a) (r .0)
+      (set-attributes-still t (r .0 .good) (c .clock) o (sizeTouches a) (below-after s t (r .0) o l) (rw (r .1 .kind o l) live) k
+      (size-touches-fits a f) (size-touches-allowed a (p .allowed)))
+
+  setattr-good : (h : List ℕ) (a : Settable) (w : Guard) → FitsSettable a → StillGood s (setattr s c h a w .store)
+  unfolding setattr
+  setattr-good h a w f =
+      settle-good (failChanging s h) (checkSetattr s h a w) (λ o. edited s o (setattrEdit s c o a)) (λ o e. setattr-edit h a w o f (setattr-passed s h a w o e))
+
+  -- ---- WRITE
+  write-edit : (o offset : ℕ) (xs : List ℕ) → o < objects s → objectAt s o .kind ≡ REGULAR → Below 256 xs → offset + length xs ≤ 8192
+      → need (grown s o offset (length xs)) - need (sizeOf s o) ≤ freeBlockCount s → StillGood s (writeEdit s c o offset xs)
+  unfolding writeEdit
+  write-edit o offset xs l reg w fits room =
+      let live = live-at s records o l (omega arith) in
+      let size = grown s o offset (length xs) in
+      let small : size ≤ 8192 = omega (arith, size-small s o live) in
+      let t = resize s o size in
+      let r = resize-still s records o size l reg small room in
+      let tree = resize-tree s o size (records .sound) l live small room in
+      let kind : objectAt t o .kind ≡ REGULAR = tree .kind o l ∙ reg in
+      let m = below-after s t r o l in
+      let inside : offset + length xs ≤ sizeOf t o = omega (arith, resize-size s o size (records .sound) l live small room) in
+      let u = writeFile t o offset xs in
+      let q = write-file-still t (r .good) o offset xs m (omega arith) w inside in
+      let same = write-file t o offset xs (r .good .sound) (live-at t (r .good) o m (omega arith)) w inside .each-object o m in
+      let i = still-trans s t u r q in
+      still-trans s u (writeEdit s c o offset xs) i
+      (set-attributes-still u (q .good) (c .clock) o mtimeAndCtime (below-after s u i o l) (rw same (omega arith)) k mtime-and-ctime-fits mtime-and-ctime-allowed)
+
+  write-store : (h : List ℕ) (offset count : ℕ) (bytes : List ℕ) (o : ℕ) → Below 256 bytes → WritePassed s h offset count bytes o
+      → StillGood s (writeStore s c o offset (take (min count mostBytes) bytes))
+  unfolding writeStore
+  write-store h offset count bytes o w p =
+      let xs = take (min count mostBytes) bytes in
+      let n : length xs ≡ min count mostBytes = length-take (min count mostBytes) bytes ∙ omega (arith, p .counted) in
+      by-bool (eqb (length xs) 0)
+      (λ t. rw t (still-refl s records))
+      (λ t. let some : 0 < count = omega (arith, eqb-false (length xs) 0 t) in
+      rw t (write-edit o offset xs (p .reached .below) (p .regular) (below-take 256 bytes (min count mostBytes) (lit< tt) w)
+      (rw n (p .fits some)) (rw n (p .room some))))
+
+  write-good : (h : List ℕ) (offset count : ℕ) (bytes : List ℕ) → Below 256 bytes → StillGood s (write s c h offset count bytes .store)
+  unfolding write writeDone
+  write-good h offset count bytes w =
+      settle-good (failChanging s h) (checkWrite s h offset count bytes) (λ o. writeDone s c o offset (take (min count mostBytes) bytes))
+      (λ o e. write-store h offset count bytes o w (write-passed s h offset count bytes o e))
+
+  -- ---- CREATE and MKDIR
+  new-edit : (kind o n d : ℕ) (text : List ℕ) (a : Settable) → (kind ≡ REGULAR) ⊎ (kind ≡ DIRECTORY) → (isGiven (a .size) ≡ true → kind ≡ REGULAR)
+      → NewRoom s (sizeSet (a .size) 0) o n → d < objects s → objectAt s d .kind ≡ DIRECTORY → GoodName text → Below 256 text → FitsSettable a → Allowed a
+      → StillGood s (newEdit s c kind o n d text a)
+  unfolding newEdit newObject withAttributes withGeneration sizeOf
+  new-edit kind o n d text a either sized room below dir good w f allow =
+      let x = newObject (c .clock) kind a in
+      let h = records .sound in
+      let clock = clock-fits (c .clock) k in
+      let word : kind < 4294967296 = ⊎-elim (λ (e : kind ≡ 1). omega arith) (λ (e : kind ≡ 2). omega arith) either in
+      let fits = new-fits (c .clock) kind a clock word f in
+      let live = new-live (blocks s) (c .clock) kind a (k .nanoseconds) allow either in
+      let l = room .object-below in
+      let t = createObject s o n x d text in
+      let z = h .shaped in
+      let r = create-object-still s records o n x d text l (room .object-free) (room .generation-low) (room .name-below) fits live refl below dir good w in
+      let e = create-object s o n x d text h l (room .name-below) fits (omega arith) (good .short) w in
+      let free : freeBlockCount t ≡ freeBlockCount s = freeBlockCount-reads s t (e .shape .blocks)
+      (λ q _. create-object-uses s o n x d text h l (room .name-below) fits (omega arith) (good .short) w (free-size s records o l (room .object-free)) refl q) in
+      let size : objectAt t o .size ≡ 0 = ap (λ (y : Object). y .size) (e .object) in
+      let sizes = resize-to t (r .good) o (a .size) (below-after s t r o l) (λ given. ap (λ (y : Object). y .kind) (e .object) ∙ sized given) (allow .size)
+      (rw (size, free) (omega (arith, room .room))) in
+      let u = resizeTo t o (a .size) in
+      let m = below-after s t r d below in
+      touch-after s u (still-trans s t u r (sizes .0)) c d k below
+      (sizes .1 .kind d m ∙ ap (λ (y : Object). y .kind) (e .other-objects d below (λ q. omega (arith, room .object-free, ap (λ (i : ℕ). objectAt s i .kind) q)))) dir
+
+  existing-edit : (a : Settable) (o : ℕ) (x : SetSize) → o < objects s → objectAt s o .kind ≡ REGULAR → sizeSet x 0 ≤ 8192
+      → need (sizeSet x (sizeOf s o)) - need (sizeOf s o) ≤ freeBlockCount s → StillGood s (existingEdit s c o x)
+  existing-edit a o SetSize.Keep l reg small room = still-refl s records
+  existing-edit a o (SetSize.To n) l reg small room =
+      let t = resize s o n in
+      let r = resize-still s records o n l reg small room in
+      let tree = resize-tree s o n (records .sound) l (live-at s records o l (omega arith)) small room in
+      still-trans s t (existingEdit s c o (SetSize.To n)) r
+      (set-attributes-still t (r .good) (c .clock) o mtimeAndCtime (below-after s t r o l) (rw (tree .kind o l) (omega arith)) k mtime-and-ctime-fits mtime-and-ctime-allowed)
+
+  how-settable : (manner : How) → FitsHow manner → FitsSettable (settableOf manner)
+  how-settable (How.Unchecked a) f = f
+  how-settable (How.Guarded a) f = f
+  how-settable (How.Exclusive verifier) f = only-ctime-fits
+
+  create-target : (h text : List ℕ) (manner : How) (d : ℕ) (t : Target) → Below 256 text → FitsHow manner → CreatePassed s h text manner d t
+      → StillGood s (createEdit s c d text (settableOf manner) t .store)
+  create-target h text manner d (new o n) w f p =
+      new-edit REGULAR o n d text (settableOf manner) (_⊎_.inl refl) (λ _. refl) (p .target .1) (p .reached .below) (p .directory) (p .good) w
+      (how-settable manner f) (p .allowed)
+  create-target h text manner d (existing o) w f p =
+      let (n, e, i, q) = p .target in
+      let r = found-record s d text n e in
+      let u = used-at s records n (r .0) (r .1) in
+      existing-edit (settableOf manner) o (settableOf manner .size) (rw i at (u .0)) (q .regular) (p .allowed .size) (q .room)
+
+  create-good : (h text : List ℕ) (manner : How) → Below 256 text → FitsHow manner → StillGood s (create s c h text manner .store)
+  unfolding create
+  create-good h text manner w f =
+      settle-good (failChanging s h) (checkCreate s h text manner) (λ p. createEdit s c (p .0) text (settableOf manner) (p .1))
+      (λ p e. create-target h text manner (p .0) (p .1) w f (create-passed s h text manner p e))
+
+  not-given : (x : SetSize) → isGiven x ≡ false → sizeSet x 0 ≡ 0
+  not-given SetSize.Keep e = refl
+  not-given (SetSize.To n) e = true-false e
+
+  mkdir-good : (h text : List ℕ) (a : Settable) → Below 256 text → FitsSettable a → StillGood s (mkdir s c h text a .store)
+  unfolding mkdir
+  mkdir-good h text a w f =
+      settle-good (failChanging s h) (checkMkdir s h text a) (λ p. createdIn s (newEdit s c DIRECTORY (p .1) (p .2) (p .0) text a) (p .0) (p .1))
+      (λ p e. let q = mkdir-passed s h text a p e in
+      new-edit DIRECTORY (p .1) (p .2) (p .0) text a (_⊎_.inr refl) (λ given. true-false (sym given ∙ q .no-size)) (rw (not-given (a .size) (q .no-size)) (q .room))
+      (q .reached .below) (q .directory) (q .good) w f (q .allowed))
+
+  -- ---- REMOVE and RMDIR
+  -- the edit, where no other name stands in the object, and the directory is not the object
+  remove-edit : (d n : ℕ) → n < names s → Used s n → d < objects s → objectAt s d .kind ≡ DIRECTORY → d ≢ nameAt s n .child
+      → ((m : ℕ) → m < names s → Used s m → nameAt s m .directory ≢ nameAt s n .child) → StillGood s (touchDirectory (removeObject s n) c d)
+  remove-edit d n l u below dir other alone =
+      let t = removeObject s n in
+      let o = nameAt s n .child in
+      let w = used-at s records n l u in
+      let live = live-at s records o (w .0) (w .1) in
+      let r = remove-object-still s records n l u
+      (λ m i q j. (λ e. q (one-naming s (v .good-names) (v .named) m n i l j u e), alone m i j)) in
+      let e = remove-object s n o refl (records .sound) l (w .0) (live .generation) (held-range s o live) in
+      touch-after s t r c d k below (ap (λ (x : Object). x .kind) (e .other-objects d below other)) dir
+
+  removed-file : (h text : List ℕ) (d n : ℕ) → RemovePassed s h text d n → StillGood s (touchDirectory (removeObject s n) c d)
+  removed-file h text d n p =
+      let (l, u, i, j) = found-record s d text n (p .entry .found) in
+      remove-edit d n l u (p .entry .reached .below) (p .entry .directory) (λ e. p .file (rw e at (p .entry .directory)))
+      (λ m a b e. p .file (rw e at (used-of s m b (v .good-names m a) .in-directory)))
+
+  removed-directory : (h text : List ℕ) (d n : ℕ) → RmdirPassed s h text d n → StillGood s (touchDirectory (removeObject s n) c d)
+  removed-directory h text d n p =
+      let (l, u, i, j) = found-record s d text n (p .entry .found) in
+      let none-in : (m : ℕ) → m < names s → Used s m → nameAt s m .directory ≢ nameAt s n .child = λ m a b. no-entries s (nameAt s n .child) m (p .empty) a b in
+      remove-edit d n l u (p .entry .reached .below) (p .entry .directory) (λ e. none-in n l u (i ∙ e)) none-in
+
+  removal : (h : List ℕ) (checks : Checked (ℕ × ℕ)) → ((p : ℕ × ℕ) → checks ≡ passed p → StillGood s (touchDirectory (removeObject s (p .1)) c (p .0)))
+      → StillGood s (removeFrom s c h checks .store)
+  unfolding removeFrom
+  removal h checks f = settle-good (failChanging s h) checks (λ p. edited s (p .0) (touchDirectory (removeObject s (p .1)) c (p .0))) f
+
+  remove-good : (h text : List ℕ) → StillGood s (remove s c h text .store)
+  unfolding remove
+  remove-good h text = removal h (checkRemove s h text) (λ p e. removed-file h text (p .0) (p .1) (remove-passed s h text p e))
+
+  rmdir-good : (h text : List ℕ) → StillGood s (rmdir s c h text .store)
+  unfolding rmdir
+  rmdir-good h text = removal h (checkRmdir s h text) (λ p e. removed-directory h text (p .0) (p .1) (rmdir-passed s h text p e))
+
+  -- ---- RENAME
+  rename-edit : (h text g title : List ℕ) (d e n : ℕ) → Below 256 title → RenamePassed s h text g title d e n → StillGood s (renameEdit s c d e n title)
+  unfolding renameEdit
+  rename-edit h text g title d e n w p =
+      let (l, u, i, j) = found-record s d text n (p .found) in
+      let sound = records .sound in
+      let shape = sound .shaped in
+      let clock = clock-fits (c .clock) k in
+      let o = nameAt s n .child in
+      let x = used-at s records n l u in
+      let below = p .reached .below in
+      let beyond = p .target-reached .below in
+      let t₁ = moveName s n e title in
+      let r₁ = move-name-still s records n e title l u beyond (p .target-directory) (p .target-good) w in
+      let m = move-name s n e title sound l (omega arith) (p .target-good .short) w in
+      let same : (y : ℕ) → y < objects s → objectAt t₁ y .kind ≡ objectAt s y .kind = λ y z. ap (λ (q : Object). q .kind) (m .each-object y z) in
+      let t₂ = setAttributes t₁ (c .clock) o onlyCtime in
+      let q₂ = below-after s t₁ r₁ o (x .0) in
+      let a₂ = set-attributes-still t₁ (r₁ .good) (c .clock) o onlyCtime q₂ (rw (same o (x .0)) (x .1)) k only-ctime-fits only-ctime-allowed in
+      let b₂ = set-attributes-structure t₁ (c .clock) o onlyCtime (r₁ .good .sound) q₂ clock only-ctime-fits .tree in
+      let r₂ = still-trans s t₁ t₂ r₁ a₂ in
+      let kind₂ : (y : ℕ) → y < objects s → objectAt t₂ y .kind ≡ objectAt s y .kind = λ y z. b₂ .kind y (below-after s t₁ r₁ y z) ∙ same y z in
+      let t₃ = touchDirectory t₂ c d in
+      let r₃ = touch-after s t₂ r₂ c d k below (kind₂ d below) (p .directory) in
+      let b₃ = set-attributes-structure t₂ (c .clock) d mtimeAndCtime (r₂ .good .sound) (below-after s t₂ r₂ d below) clock mtime-and-ctime-fits .tree in
+      touch-after s t₃ r₃ c e k beyond (b₃ .kind e (below-after s t₂ r₂ e beyond) ∙ kind₂ e beyond) (p .target-directory)
+
+  rename-good : (h text g title : List ℕ) → Below 256 title → StillGood s (rename s c h text g title .store)
+  unfolding rename
+  rename-good h text g title w =
+      settle-good (failRenaming s h g) (checkRename s h text g title) (λ p. renamedTo s (p .0) (p .1) (renameEdit s c (p .0) (p .1) (p .2) title))
+      (λ p e. rename-edit h text g title (p .0) (p .1) (p .2) w (rename-passed s h text g title p e))
+
+  -- ---- every call
+  as-it-was : (t : Store) → t ≡ s → StillGood s t
+  as-it-was t e = rw e (still-refl s records)
+
+  bytes-of : (call : List ℕ) (p : Part) → Below 256 call → Below 256 (cut call p)
+  bytes-of call p f = below-part 256 call (p .start) (p .length) (lit< tt) f
+
+  pub act-good : (call : List ℕ) (a : Arguments) → Below 256 call → FitsArguments a → StillGood s (act s c call a .store)
+  unfolding act
+  act-good call Arguments.Null w f = still-refl s records
+  act-good call (Arguments.Getattr h) w f = as-it-was _ (getattr-store s (cut call h))
+  act-good call (Arguments.Setattr h a g) w f = setattr-good (cut call h) a g f
+  act-good call (Arguments.Lookup p) w f = as-it-was _ (lookup-store s (cut call (p .directory)) (cut call (p .name)))
+  act-good call (Arguments.Access h bits) w f = as-it-was _ (access-store s (cut call h) bits)
+  act-good call (Arguments.Read h offset count) w f = as-it-was _ (read-store s (cut call h) offset count)
+  act-good call (Arguments.Write h offset count bytes) w f = write-good (cut call h) offset count (cut call bytes) (bytes-of call bytes w)
+  act-good call (Arguments.Create p manner) w f = create-good (cut call (p .directory)) (cut call (p .name)) manner (bytes-of call (p .name) w) f
+  act-good call (Arguments.Mkdir p a) w f = mkdir-good (cut call (p .directory)) (cut call (p .name)) a (bytes-of call (p .name) w) f
+  act-good call (Arguments.Remove p) w f = remove-good (cut call (p .directory)) (cut call (p .name))
+  act-good call (Arguments.Rmdir p) w f = rmdir-good (cut call (p .directory)) (cut call (p .name))
+  act-good call (Arguments.Rename p q) w f =
+      rename-good (cut call (p .directory)) (cut call (p .name)) (cut call (q .directory)) (cut call (q .name)) (bytes-of call (q .name) w)
+  act-good call (Arguments.Readdir h cookie verifier count) w f = as-it-was _ (readdir-store s (cut call h) cookie verifier count)
+  act-good call (Arguments.Fsstat h) w f = as-it-was _ (fsstat-store s (cut call h))
+  act-good call (Arguments.Fsinfo h) w f = as-it-was _ (fsinfo-store s (cut call h))
+  act-good call (Arguments.Pathconf h) w f = as-it-was _ (pathconf-store s (cut call h))
+  act-good call (Arguments.Commit h) w f = as-it-was _ (commit-store s (cut call h) c)
+  act-good call Arguments.Unserved w f = still-refl s records
+
+-- the entry: for a valid store of bytes and a call of bytes, whatever the answer
+pub serve-good : (call : List ℕ) (s : Store) (space : List ℕ) (c : Context) → Valid s → Below 256 s → Below 256 call → c .clock .seconds < 2 ^ 32
+    → StillGood s (serve call s space c .store)
+serve-good call s space c v b w h =
+    ⊎-elim
+    (λ (e : serve call s space c .store ≡ s). rw e (still-refl s (valid-records s v b)))
+    (λ (r : Ran call s space c). rw (r .outcome)
+    (act-good s c v b (record { seconds = h; nanoseconds = r .clock-valid }) call (r .asked) w
+    (arguments-fit (r .head .procedure) call w (r .at) (r .asked) (r .next) (r .asked-read))))
+    (serve-ran call s space c)

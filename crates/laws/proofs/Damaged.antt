@@ -1,0 +1,414 @@
+-- Stores that break one demand of the check each, and stores that keep to its bounds, by computation.
+use Prim.Native.Nat.{ℕ, _+_, _-_}
+use lib.ListN.{length, take, drop, replicate}
+use mathlib.Core.Bool.{true, false}
+use mathlib.Core.List.{List, [], _∷_, _++_}
+use mathlib.Core.Path.{_≡_, refl}
+use Rattle.spec.specs.Bytes.{zeros, words, opaqueBytes}
+use Rattle.spec.specs.Check.{goodCounts}
+use Rattle.spec.specs.Image.{Store}
+use Rattle.spec.specs.Serve.{check}
+use Rattle.spec.specs.Xdr.{word}
+use Rattle.spec.proofs.Setting.{fresh, callTo, after, handleTo, createCall, mkdirCall, writeCall, nameA, nameB, nameC, computing}
+
+-- a store with bytes put at an index
+abbrev pub patched : Store → ℕ → List ℕ → Store
+patched s at xs = take at s ++ xs ++ drop (at + length xs) s
+
+-- the file "a", object 1, with one byte in block 0, and the directory "b", object 2, of four objects, three names and two blocks: objects
+-- start at 12, names at 336, blocks at 472
+abbrev pub small : Store
+small =
+    after (createCall nameA ∷ callTo 9 (handleTo 0 ++ opaqueBytes (0x62 ∷ []) ++ words (0 ∷ 0 ∷ 0 ∷ 0 ∷ 0 ∷ 0 ∷ [])) ∷ writeCall 1 0 (0x41 ∷ []) ∷ []) (fresh 4 3 2)
+
+-- the check's answer to that store with one word, or some bytes, put at an index
+abbrev pub checkWith : ℕ → ℕ → ℕ
+checkWith at word = check (patched small at (words (word ∷ [])))
+
+abbrev pub checkBytes : ℕ → List ℕ → ℕ
+checkBytes at xs = check (patched small at xs)
+
+-- the words of a name record: directory, child, length, and 32 bytes
+abbrev pub nameWords : ℕ → ℕ → List ℕ → List ℕ
+nameWords directory child text = words (directory ∷ child ∷ length text ∷ []) ++ text ++ zeros (32 - length text)
+
+-- The store passes; each line below breaks one demand of the check, or keeps to its bound.
+pub record Damaged : Type 0 where
+  pub passes-whole : check small ≡ 0
+  pub nothing : check [] ≡ 1
+  pub twenty-bytes : check (zeros 20) ≡ 1
+  -- "volume: count 1"; "Length exactly 20 + 80P + 44Q + 512R"; "P, 1 to 64"; "Q, 0 to 128"; "R, 0 to 1,024"
+  pub two-volumes : checkWith 0 2 ≡ 1
+  pub other-stamp : checkWith 4 77 ≡ 0
+  pub one-byte-more : check (small ++ (0 ∷ [])) ≡ 1
+  pub one-byte-less : check (take (length small - 1) small) ≡ 1
+  pub most-counts : goodCounts 64 128 1024 ≡ true
+  pub no-object : goodCounts 0 0 0 ≡ false
+  pub objects-over : goodCounts 65 0 0 ≡ false
+  pub names-over : goodCounts 1 129 0 ≡ false
+  pub blocks-over : goodCounts 1 0 1025 ≡ false
+  -- "Types: 0 free, 1 regular, 2 directory. Object 0 is the root, a directory."
+  pub root-regular : checkWith 12 1 ≡ 1
+  pub third-type : checkWith (12 + 80) 3 ≡ 1
+  -- "a free object zero but for its generation": object 3
+  pub free-generation : checkWith (12 + 240 + 4) 4294967295 ≡ 0
+  pub free-mode : checkWith (12 + 240 + 8) 1 ≡ 1
+  pub free-block : checkBytes (12 + 240 + 79) (1 ∷ []) ≡ 1
+  -- "live generations below 4,294,967,295; modes at most 4,095; valid nanoseconds": object 1
+  pub generation-most : checkWith (12 + 80 + 4) 4294967294 ≡ 0
+  pub generation-over : checkWith (12 + 80 + 4) 4294967295 ≡ 1
+  pub mode-most : checkWith (12 + 80 + 8) 4095 ≡ 0
+  pub mode-over : checkWith (12 + 80 + 8) 4096 ≡ 1
+  pub any-uid : checkWith (12 + 80 + 12) 4294967295 ≡ 0
+  pub any-gid : checkWith (12 + 80 + 16) 4294967295 ≡ 0
+  pub atime-most : checkWith (12 + 80 + 28) 999999999 ≡ 0
+  pub atime-over : checkWith (12 + 80 + 28) 1000000000 ≡ 1
+  pub mtime-over : checkWith (12 + 80 + 36) 1000000000 ≡ 1
+  pub ctime-over : checkWith (12 + 80 + 44) 1000000000 ≡ 1
+  -- "a directory's size 0 with no blocks"; "a file's size at most 8,192 with its first ceil(size/512) block numbers in range and the rest 65535"
+  pub directory-size : checkWith (12 + 160 + 20) 1 ≡ 1
+  pub directory-block : checkBytes (12 + 160 + 48) (0 ∷ 1 ∷ []) ≡ 1
+  pub size-one-block : checkWith (12 + 80 + 20) 512 ≡ 0
+  pub size-two-blocks : checkWith (12 + 80 + 20) 513 ≡ 1
+  pub size-none : checkWith (12 + 80 + 20) 0 ≡ 1
+  pub block-in-range : checkBytes (12 + 80 + 48) (0 ∷ 1 ∷ []) ≡ 0
+  pub block-out-of-range : checkBytes (12 + 80 + 48) (0 ∷ 2 ∷ []) ≡ 1
+  pub unused-block : checkBytes (12 + 80 + 50) (0 ∷ 1 ∷ []) ≡ 1
+  pub last-unused-block : checkBytes (12 + 80 + 78) (0 ∷ 0 ∷ []) ≡ 1
+  -- "no block used twice": by one file, which has size 1,024
+  pub two-blocks : check (patched (patched small (12 + 80 + 20) (words (1024 ∷ []))) (12 + 80 + 50) (0 ∷ 1 ∷ [])) ≡ 0
+  pub block-twice : check (patched (patched small (12 + 80 + 20) (words (1024 ∷ []))) (12 + 80 + 50) (0 ∷ 0 ∷ [])) ≡ 1
+  -- "used names 1 to 32 bytes, zero-padded, without 0 or 0x2F, not "." or ".."": name record 0, of "a"
+  pub name-most : checkBytes 336 (nameWords 0 1 (replicate 32 0x61)) ≡ 0
+  pub name-over : checkBytes 336 (words (0 ∷ 1 ∷ 33 ∷ []) ++ replicate 32 0x61) ≡ 1
+  pub name-padding : checkBytes (336 + 43) (1 ∷ []) ≡ 1
+  pub name-zero : checkBytes 336 (nameWords 0 1 (0x61 ∷ 0 ∷ 0x61 ∷ [])) ≡ 1
+  pub name-slash : checkBytes 336 (nameWords 0 1 (0x61 ∷ 0x2F ∷ [])) ≡ 1
+  pub name-dot : checkBytes 336 (nameWords 0 1 (0x2E ∷ [])) ≡ 1
+  pub name-dots : checkBytes 336 (nameWords 0 1 (0x2E ∷ 0x2E ∷ [])) ≡ 1
+  pub name-three-dots : checkBytes 336 (nameWords 0 1 (0x2E ∷ 0x2E ∷ 0x2E ∷ [])) ≡ 0
+  -- "a free name (length 0) all zero": name record 2
+  pub free-name : checkBytes (336 + 88 + 43) (1 ∷ []) ≡ 1
+  pub free-name-child : checkWith (336 + 88 + 4) 1 ≡ 1
+  -- "distinct within a directory": two names "a", in one directory and in two
+  pub same-name : checkBytes (336 + 44) (nameWords 0 2 nameA) ≡ 1
+  pub same-name-elsewhere : checkBytes 336 (nameWords 2 1 (0x62 ∷ [])) ≡ 0
+  -- "each joining a live directory to a live object"
+  pub in-a-file : checkBytes (336 + 44) (nameWords 1 2 nameB) ≡ 1
+  pub in-nothing : checkBytes (336 + 44) (nameWords 9 2 nameB) ≡ 1
+  pub names-free : checkBytes (336 + 88) (nameWords 0 3 nameC) ≡ 1
+  pub names-nothing : checkBytes (336 + 88) (nameWords 0 9 nameC) ≡ 1
+  -- "every live object but the root named once, the root never"
+  pub named-twice : checkBytes (336 + 88) (nameWords 0 1 nameC) ≡ 1
+  pub named-never : checkBytes 336 (zeros 44) ≡ 1
+  pub root-named : checkBytes (336 + 88) (nameWords 2 0 nameC) ≡ 1
+  -- "parents lead to the root": a directory in itself, and two in each other
+  pub in-itself : checkBytes (336 + 44) (nameWords 2 2 nameB) ≡ 1
+  pub in-each-other : check (patched (after (mkdirCall nameA ∷ mkdirCall nameB ∷ []) (fresh 3 2 0)) (16 + 240) (nameWords 2 1 nameA ++ nameWords 1 2 nameB)) ≡ 1
+  -- "Block contents aren't checked."
+  pub any-contents : checkBytes (472 + 500) (7 ∷ []) ≡ 0
+
+passes-whole-computes : check small ≡ 0
+unfolding computing
+passes-whole-computes = refl
+
+nothing-computes : check [] ≡ 1
+unfolding computing
+nothing-computes = refl
+
+twenty-bytes-computes : check (zeros 20) ≡ 1
+unfolding computing
+twenty-bytes-computes = refl
+
+two-volumes-computes : checkWith 0 2 ≡ 1
+unfolding computing
+two-volumes-computes = refl
+
+other-stamp-computes : checkWith 4 77 ≡ 0
+unfolding computing
+other-stamp-computes = refl
+
+one-byte-more-computes : check (small ++ (0 ∷ [])) ≡ 1
+unfolding computing
+one-byte-more-computes = refl
+
+one-byte-less-computes : check (take (length small - 1) small) ≡ 1
+unfolding computing
+one-byte-less-computes = refl
+
+most-counts-computes : goodCounts 64 128 1024 ≡ true
+unfolding computing
+most-counts-computes = refl
+
+no-object-computes : goodCounts 0 0 0 ≡ false
+unfolding computing
+no-object-computes = refl
+
+objects-over-computes : goodCounts 65 0 0 ≡ false
+unfolding computing
+objects-over-computes = refl
+
+names-over-computes : goodCounts 1 129 0 ≡ false
+unfolding computing
+names-over-computes = refl
+
+blocks-over-computes : goodCounts 1 0 1025 ≡ false
+unfolding computing
+blocks-over-computes = refl
+
+root-regular-computes : checkWith 12 1 ≡ 1
+unfolding computing
+root-regular-computes = refl
+
+third-type-computes : checkWith (12 + 80) 3 ≡ 1
+unfolding computing
+third-type-computes = refl
+
+free-generation-computes : checkWith (12 + 240 + 4) 4294967295 ≡ 0
+unfolding computing
+free-generation-computes = refl
+
+free-mode-computes : checkWith (12 + 240 + 8) 1 ≡ 1
+unfolding computing
+free-mode-computes = refl
+
+free-block-computes : checkBytes (12 + 240 + 79) (1 ∷ []) ≡ 1
+unfolding computing
+free-block-computes = refl
+
+generation-most-computes : checkWith (12 + 80 + 4) 4294967294 ≡ 0
+unfolding computing
+generation-most-computes = refl
+
+generation-over-computes : checkWith (12 + 80 + 4) 4294967295 ≡ 1
+unfolding computing
+generation-over-computes = refl
+
+mode-most-computes : checkWith (12 + 80 + 8) 4095 ≡ 0
+unfolding computing
+mode-most-computes = refl
+
+mode-over-computes : checkWith (12 + 80 + 8) 4096 ≡ 1
+unfolding computing
+mode-over-computes = refl
+
+any-uid-computes : checkWith (12 + 80 + 12) 4294967295 ≡ 0
+unfolding computing
+any-uid-computes = refl
+
+any-gid-computes : checkWith (12 + 80 + 16) 4294967295 ≡ 0
+unfolding computing
+any-gid-computes = refl
+
+atime-most-computes : checkWith (12 + 80 + 28) 999999999 ≡ 0
+unfolding computing
+atime-most-computes = refl
+
+atime-over-computes : checkWith (12 + 80 + 28) 1000000000 ≡ 1
+unfolding computing
+atime-over-computes = refl
+
+mtime-over-computes : checkWith (12 + 80 + 36) 1000000000 ≡ 1
+unfolding computing
+mtime-over-computes = refl
+
+ctime-over-computes : checkWith (12 + 80 + 44) 1000000000 ≡ 1
+unfolding computing
+ctime-over-computes = refl
+
+directory-size-computes : checkWith (12 + 160 + 20) 1 ≡ 1
+unfolding computing
+directory-size-computes = refl
+
+directory-block-computes : checkBytes (12 + 160 + 48) (0 ∷ 1 ∷ []) ≡ 1
+unfolding computing
+directory-block-computes = refl
+
+size-one-block-computes : checkWith (12 + 80 + 20) 512 ≡ 0
+unfolding computing
+size-one-block-computes = refl
+
+size-two-blocks-computes : checkWith (12 + 80 + 20) 513 ≡ 1
+unfolding computing
+size-two-blocks-computes = refl
+
+size-none-computes : checkWith (12 + 80 + 20) 0 ≡ 1
+unfolding computing
+size-none-computes = refl
+
+block-in-range-computes : checkBytes (12 + 80 + 48) (0 ∷ 1 ∷ []) ≡ 0
+unfolding computing
+block-in-range-computes = refl
+
+block-out-of-range-computes : checkBytes (12 + 80 + 48) (0 ∷ 2 ∷ []) ≡ 1
+unfolding computing
+block-out-of-range-computes = refl
+
+unused-block-computes : checkBytes (12 + 80 + 50) (0 ∷ 1 ∷ []) ≡ 1
+unfolding computing
+unused-block-computes = refl
+
+last-unused-block-computes : checkBytes (12 + 80 + 78) (0 ∷ 0 ∷ []) ≡ 1
+unfolding computing
+last-unused-block-computes = refl
+
+two-blocks-computes : check (patched (patched small (12 + 80 + 20) (words (1024 ∷ []))) (12 + 80 + 50) (0 ∷ 1 ∷ [])) ≡ 0
+unfolding computing
+two-blocks-computes = refl
+
+block-twice-computes : check (patched (patched small (12 + 80 + 20) (words (1024 ∷ []))) (12 + 80 + 50) (0 ∷ 0 ∷ [])) ≡ 1
+unfolding computing
+block-twice-computes = refl
+
+name-most-computes : checkBytes 336 (nameWords 0 1 (replicate 32 0x61)) ≡ 0
+unfolding computing
+name-most-computes = refl
+
+name-over-computes : checkBytes 336 (words (0 ∷ 1 ∷ 33 ∷ []) ++ replicate 32 0x61) ≡ 1
+unfolding computing
+name-over-computes = refl
+
+name-padding-computes : checkBytes (336 + 43) (1 ∷ []) ≡ 1
+unfolding computing
+name-padding-computes = refl
+
+name-zero-computes : checkBytes 336 (nameWords 0 1 (0x61 ∷ 0 ∷ 0x61 ∷ [])) ≡ 1
+unfolding computing
+name-zero-computes = refl
+
+name-slash-computes : checkBytes 336 (nameWords 0 1 (0x61 ∷ 0x2F ∷ [])) ≡ 1
+unfolding computing
+name-slash-computes = refl
+
+name-dot-computes : checkBytes 336 (nameWords 0 1 (0x2E ∷ [])) ≡ 1
+unfolding computing
+name-dot-computes = refl
+
+name-dots-computes : checkBytes 336 (nameWords 0 1 (0x2E ∷ 0x2E ∷ [])) ≡ 1
+unfolding computing
+name-dots-computes = refl
+
+name-three-dots-computes : checkBytes 336 (nameWords 0 1 (0x2E ∷ 0x2E ∷ 0x2E ∷ [])) ≡ 0
+unfolding computing
+name-three-dots-computes = refl
+
+free-name-computes : checkBytes (336 + 88 + 43) (1 ∷ []) ≡ 1
+unfolding computing
+free-name-computes = refl
+
+free-name-child-computes : checkWith (336 + 88 + 4) 1 ≡ 1
+unfolding computing
+free-name-child-computes = refl
+
+same-name-computes : checkBytes (336 + 44) (nameWords 0 2 nameA) ≡ 1
+unfolding computing
+same-name-computes = refl
+
+same-name-elsewhere-computes : checkBytes 336 (nameWords 2 1 (0x62 ∷ [])) ≡ 0
+unfolding computing
+same-name-elsewhere-computes = refl
+
+in-a-file-computes : checkBytes (336 + 44) (nameWords 1 2 nameB) ≡ 1
+unfolding computing
+in-a-file-computes = refl
+
+in-nothing-computes : checkBytes (336 + 44) (nameWords 9 2 nameB) ≡ 1
+unfolding computing
+in-nothing-computes = refl
+
+names-free-computes : checkBytes (336 + 88) (nameWords 0 3 nameC) ≡ 1
+unfolding computing
+names-free-computes = refl
+
+names-nothing-computes : checkBytes (336 + 88) (nameWords 0 9 nameC) ≡ 1
+unfolding computing
+names-nothing-computes = refl
+
+named-twice-computes : checkBytes (336 + 88) (nameWords 0 1 nameC) ≡ 1
+unfolding computing
+named-twice-computes = refl
+
+named-never-computes : checkBytes 336 (zeros 44) ≡ 1
+unfolding computing
+named-never-computes = refl
+
+root-named-computes : checkBytes (336 + 88) (nameWords 2 0 nameC) ≡ 1
+unfolding computing
+root-named-computes = refl
+
+in-itself-computes : checkBytes (336 + 44) (nameWords 2 2 nameB) ≡ 1
+unfolding computing
+in-itself-computes = refl
+
+in-each-other-computes : check (patched (after (mkdirCall nameA ∷ mkdirCall nameB ∷ []) (fresh 3 2 0)) (16 + 240) (nameWords 2 1 nameA ++ nameWords 1 2 nameB)) ≡ 1
+unfolding computing
+in-each-other-computes = refl
+
+any-contents-computes : checkBytes (472 + 500) (7 ∷ []) ≡ 0
+unfolding computing
+any-contents-computes = refl
+
+pub damaged : Damaged
+damaged =
+    record {
+      passes-whole = passes-whole-computes;
+      nothing = nothing-computes;
+      twenty-bytes = twenty-bytes-computes;
+      two-volumes = two-volumes-computes;
+      other-stamp = other-stamp-computes;
+      one-byte-more = one-byte-more-computes;
+      one-byte-less = one-byte-less-computes;
+      most-counts = most-counts-computes;
+      no-object = no-object-computes;
+      objects-over = objects-over-computes;
+      names-over = names-over-computes;
+      blocks-over = blocks-over-computes;
+      root-regular = root-regular-computes;
+      third-type = third-type-computes;
+      free-generation = free-generation-computes;
+      free-mode = free-mode-computes;
+      free-block = free-block-computes;
+      generation-most = generation-most-computes;
+      generation-over = generation-over-computes;
+      mode-most = mode-most-computes;
+      mode-over = mode-over-computes;
+      any-uid = any-uid-computes;
+      any-gid = any-gid-computes;
+      atime-most = atime-most-computes;
+      atime-over = atime-over-computes;
+      mtime-over = mtime-over-computes;
+      ctime-over = ctime-over-computes;
+      directory-size = directory-size-computes;
+      directory-block = directory-block-computes;
+      size-one-block = size-one-block-computes;
+      size-two-blocks = size-two-blocks-computes;
+      size-none = size-none-computes;
+      block-in-range = block-in-range-computes;
+      block-out-of-range = block-out-of-range-computes;
+      unused-block = unused-block-computes;
+      last-unused-block = last-unused-block-computes;
+      two-blocks = two-blocks-computes;
+      block-twice = block-twice-computes;
+      name-most = name-most-computes;
+      name-over = name-over-computes;
+      name-padding = name-padding-computes;
+      name-zero = name-zero-computes;
+      name-slash = name-slash-computes;
+      name-dot = name-dot-computes;
+      name-dots = name-dots-computes;
+      name-three-dots = name-three-dots-computes;
+      free-name = free-name-computes;
+      free-name-child = free-name-child-computes;
+      same-name = same-name-computes;
+      same-name-elsewhere = same-name-elsewhere-computes;
+      in-a-file = in-a-file-computes;
+      in-nothing = in-nothing-computes;
+      names-free = names-free-computes;
+      names-nothing = names-nothing-computes;
+      named-twice = named-twice-computes;
+      named-never = named-never-computes;
+      root-named = root-named-computes;
+      in-itself = in-itself-computes;
+      in-each-other = in-each-other-computes;
+      any-contents = any-contents-computes;
+    }

@@ -1,0 +1,463 @@
+-- What the checks of each procedure tell where they pass. Assumes nothing.
+use mathlib.Core.Path.{_≡_, refl, sym, _∙_, subst}
+use mathlib.Core.Logic.{_≢_}
+use mathlib.Core.Bool.{Bool, true, false, _&&_, _||_, not}
+use mathlib.Core.Option.{Option, some, none}
+use mathlib.Core.List.{List}
+use Prim.Native.Nat.{ℕ, _+_, _-_, _≤_, _<_, min}
+use native.Mathlib.Omega.{arith}
+use lib.Dec.{eqb, leb, ltb}
+use lib.ListN.{length}
+use borrow.Author.Tests.{leb-true, leb-false, ltb-true, ltb-false, eqb-true, eqb-false, eq-eqb, not-true, not-false}
+use Rattle.kinds.specs.Numbers.{REGULAR, DIRECTORY, NOENT, ACCES, EXIST, NOTDIR, INVAL, FBIG, NOSPC, NAMETOOLONG, NOTEMPTY, STALE, BADHANDLE, NOT-SYNC}
+use Rattle.kinds.specs.declared.call.SetSize.the-variants as SetSize
+use Rattle.kinds.specs.declared.call.Settable.{Settable}
+use Rattle.kinds.specs.declared.call.Guard.{Guard}
+use Rattle.kinds.specs.declared.call.How.{How}
+use Rattle.kinds.specs.declared.call.How.the-variants as How
+use Rattle.spec.specs.Bytes.{beAt, sameBytes}
+use Rattle.spec.specs.Checked.{Checked, refused, passed, bind, refuseIf, present, absent}
+use Rattle.spec.specs.Handles.{reach, reachDirectory, checkName}
+use Rattle.spec.specs.Image.{Store, stamp, objects, names, objectAt, nameAt, nameLength}
+use Rattle.spec.specs.Names.{isDots, goodBytes}
+use Rattle.spec.specs.Procedures.Attributes.{isGiven, sizeSet, badAttributes, lacksRoom, differs, checkSetattr}
+use Rattle.spec.specs.Procedures.Data.{reachRegular, mostBytes, grown, checkWrite}
+use Rattle.spec.specs.Procedures.Names.{roomForNew, Target, new, existing, isNew, checkExisting, targetOf, checkNew, checkAttributed, checkHow, checkCreate, settableOf, checkMkdir}
+use Rattle.spec.specs.Procedures.Removal.{checkRemove, hasEntries, checkRmdir, isWithin, checkRename}
+use Rattle.spec.specs.Room.{isLive, isRegular, isDirectory, sizeOf, need, freeBlockCount, isAvailable, availableObject, isUsedName, availableName, isIn, isNamed, findName}
+use Rattle.laws.proofs.Bytes.{same-eq}
+use Rattle.laws.proofs.Count.{and-both, by-bool, true-false, lowest-passes, some-none}
+use Rattle.laws.proofs.SetAttributes.{Allowed, allowed}
+use Rattle.laws.proofs.Tests.{and-true, or-none, true-nonzero}
+use Rattle.laws.proofs.Valid.{Live, Used, GoodName, live-true, live-false, used-true, true-used, used-false, directory-true, true-directory, regular-true, bytes-good, dots-no}
+
+-- ---- checks in order
+refused-passed : {A : Type 0} (status : ℕ) (a : A) → refused status ≡ passed a → ⊥
+refused-passed status a e = let z : _≡_ {A = ℕ} 0 1 = cc in omega arith
+
+-- the first passed, and the rest
+pub bind-passed : {A B P : Type 0} (c : Checked A) (k : A → Checked B) (b : B) → bind c k ≡ passed b → ((a : A) → c ≡ passed a → k a ≡ passed b → P) → P
+bind-passed (refused status) k b e f = absurd (refused-passed status b e)
+bind-passed (passed a) k b e f = f a refl e
+
+-- the test does not hold, and the rest
+pub refuse-passed : {B P : Type 0} (t : Bool) (status : ℕ) (k : Checked B) (b : B) → bind (refuseIf t status) (λ _. k) ≡ passed b → (t ≡ false → k ≡ passed b → P) → P
+refuse-passed true status k b e f = absurd (refused-passed status b e)
+refuse-passed false status k b e f = f refl e
+
+-- something was found, and the rest
+pub present-passed : {B P : Type 0} (status : ℕ) (x : Option ℕ) (k : ℕ → Checked B) (b : B) → bind (present status x) k ≡ passed b
+    → ((n : ℕ) → x ≡ some n → k n ≡ passed b → P) → P
+present-passed status none k b e f = absurd (refused-passed status b e)
+present-passed status (some n) k b e f = f n refl e
+
+-- nothing was found, and the rest
+pub absent-passed : {B P : Type 0} (status : ℕ) (x : Option ℕ) (k : Checked B) (b : B) → bind (absent status x) (λ _. k) ≡ passed b
+    → (x ≡ none → k ≡ passed b → P) → P
+absent-passed status none k b e f = f refl e
+absent-passed status (some n) k b e f = absurd (refused-passed status b e)
+
+same-passed : {A : Type 0} (a b : A) → passed a ≡ passed b → a ≡ b
+same-passed a b e = cc
+
+-- ---- handles
+-- "Other length, or object not below P: BADHANDLE. Other stamp, free, or other generation: STALE.": none of these
+pub record Reached (s : Store) (h : List ℕ) (o : ℕ) : Type 0 where
+  pub handle-length : length h ≡ 12
+  pub is-object : beAt h 4 4 ≡ o
+  pub below : o < objects s
+  pub same-stamp : beAt h 0 4 ≡ stamp s
+  pub live : Live s o
+  pub same-generation : beAt h 8 4 ≡ objectAt s o .generation
+
+pub reach-passed : (s : Store) (h : List ℕ) (o : ℕ) → reach s h ≡ passed o → Reached s h o
+unfolding reach
+reach-passed s h o e =
+    refuse-passed (not (eqb (length h) 12)) BADHANDLE _ o e (λ t₁ e₁.
+    refuse-passed (leb (objects s) (beAt h 4 4)) BADHANDLE _ o e₁ (λ t₂ e₂.
+    refuse-passed (not (eqb (beAt h 0 4) (stamp s))) STALE _ o e₂ (λ t₃ e₃.
+    refuse-passed (not (isLive s (beAt h 4 4))) STALE _ o e₃ (λ t₄ e₄.
+    refuse-passed (not (eqb (beAt h 8 4) (objectAt s (beAt h 4 4) .generation))) STALE _ o e₄ (λ t₅ e₅.
+    let q : beAt h 4 4 ≡ o = same-passed (beAt h 4 4) o e₅ in
+    record {
+      handle-length = eqb-true (length h) 12 (not-false (eqb (length h) 12) t₁);
+      is-object = q;
+      below = rw q at (leb-false (objects s) (beAt h 4 4) t₂);
+      same-stamp = eqb-true (beAt h 0 4) (stamp s) (not-false (eqb (beAt h 0 4) (stamp s)) t₃);
+      live = rw q at (live-true s (beAt h 4 4) (not-false (isLive s (beAt h 4 4)) t₄));
+      same-generation = rw q at (eqb-true (beAt h 8 4) (objectAt s (beAt h 4 4) .generation) (not-false (eqb (beAt h 8 4) (objectAt s (beAt h 4 4) .generation)) t₅));
+    })))))
+
+pub directory-passed : (s : Store) (h : List ℕ) (d : ℕ) → reachDirectory s h ≡ passed d → Reached s h d × (objectAt s d .kind ≡ DIRECTORY)
+unfolding reachDirectory
+directory-passed s h d e =
+    bind-passed (reach s h) _ d e (λ o e₁ f₁.
+    refuse-passed (not (isDirectory s o)) NOTDIR _ d f₁ (λ t f₂.
+    let q : o ≡ d = same-passed o d f₂ in
+    (reach-passed s h d (e₁ ∙ f₂), rw q at (directory-true s o (not-false (isDirectory s o) t)))))
+
+pub regular-passed : (s : Store) (h : List ℕ) (o : ℕ) → reachRegular s h ≡ passed o → Reached s h o × (objectAt s o .kind ≡ REGULAR)
+unfolding reachRegular
+regular-passed s h o e =
+    bind-passed (reach s h) _ o e (λ i e₁ f₁.
+    refuse-passed (not (isRegular s i)) INVAL _ o f₁ (λ t f₂.
+    let q : i ≡ o = same-passed i o f₂ in
+    (reach-passed s h o (e₁ ∙ f₂), rw q at (regular-true s i (not-false (isRegular s i) t)))))
+
+-- ---- names
+-- "name (empty ACCES; over 32 NAMETOOLONG; byte 0 or 0x2F ACCES)": none of these
+pub record NamePassed (text : List ℕ) : Type 0 where
+  pub some-byte : 1 ≤ length text
+  pub short : length text ≤ 32
+  pub bytes : goodBytes text ≡ true
+
+pub name-passed : {B P : Type 0} (text : List ℕ) (k : Unit {0} → Checked B) (b : B) → bind (checkName text) k ≡ passed b
+    → (NamePassed text → k tt ≡ passed b → P) → P
+unfolding checkName
+name-passed text k b e f =
+    by-bool (eqb (length text) 0)
+    (λ t. absurd (refused-passed ACCES b (rw t at e)))
+    (λ t. by-bool (leb (length text) 32)
+    (λ u. by-bool (goodBytes text)
+    (λ w. f (record { some-byte = omega (arith, eqb-false (length text) 0 t); short = leb-true (length text) 32 u; bytes = w }) (rw (t, u, w) at e))
+    (λ w. absurd (refused-passed ACCES b (rw (t, u, w) at e))))
+    (λ u. absurd (refused-passed NAMETOOLONG b (rw (t, u) at e))))
+
+-- a name that is neither "." nor ".." too
+pub passed-good : (text : List ℕ) → NamePassed text → isDots text ≡ false → GoodName text
+passed-good text n d =
+    let p = dots-no text d in
+    record { some-byte = n .some-byte; short = n .short; bytes = bytes-good text (n .bytes); no-dot = p .0; no-dots = p .1 }
+
+-- the record that was found: it is used, and stands in that directory under that name
+pub found-record : (s : Store) (d : ℕ) (text : List ℕ) (n : ℕ) → findName s d text ≡ some n → (n < names s) × Used s n × (nameAt s n .directory ≡ d) × (nameAt s n .text ≡ text)
+unfolding findName isNamed isIn
+found-record s d text n e =
+    let p = lowest-passes (isNamed s d text) (names s) n e in
+    let a = and-both (isUsedName s n && eqb (nameAt s n .directory) d) (eqb (nameLength s n) (length text) && sameBytes (nameAt s n .text) text) (p .passes) in
+    let b = and-both (isUsedName s n) (eqb (nameAt s n .directory) d) (a .0) in
+    let c = and-both (eqb (nameLength s n) (length text)) (sameBytes (nameAt s n .text) text) (a .1) in
+    (p .below, used-true s n (b .0), eqb-true (nameAt s n .directory) d (b .1), same-eq (nameAt s n .text) text (c .1))
+
+-- ---- room
+-- "NOSPC for growth past the free blocks": not that
+room-passed : (s : Store) (old size : ℕ) → lacksRoom s old size ≡ false → need size - need old ≤ freeBlockCount s
+unfolding lacksRoom
+room-passed s old size e = ltb-false (freeBlockCount s) (need size - need old) e
+
+-- a free object record of a generation that may be given out, a free name record, and blocks enough
+pub record NewRoom (s : Store) (size o n : ℕ) : Type 0 where
+  pub lowest-object : availableObject s ≡ some o
+  pub lowest-name : availableName s ≡ some n
+  pub object-below : o < objects s
+  pub object-free : objectAt s o .kind ≡ 0
+  pub generation-low : objectAt s o .generation < 4294967295
+  pub name-below : n < names s
+  pub name-free : nameLength s n ≡ 0
+  pub room : need size ≤ freeBlockCount s
+
+pub available-object : (s : Store) (o : ℕ) → availableObject s ≡ some o → (o < objects s) × (objectAt s o .kind ≡ 0) × (objectAt s o .generation < 4294967295)
+unfolding availableObject isAvailable
+available-object s o e =
+    let p = lowest-passes (isAvailable s) (objects s) o e in
+    let a = and-both (not (isLive s o)) (ltb (objectAt s o .generation) 4294967295) (p .passes) in
+    (p .below, live-false s o (not-true (isLive s o) (a .0)), ltb-true (objectAt s o .generation) 4294967295 (a .1))
+
+pub available-name : (s : Store) (n : ℕ) → availableName s ≡ some n → (n < names s) × (nameLength s n ≡ 0)
+unfolding availableName
+available-name s n e =
+    let p = lowest-passes (λ m. not (isUsedName s m)) (names s) n e in
+    (p .below, used-false s n (not-true (isUsedName s n) (p .passes)))
+
+pub room-for-new : (s : Store) (size : ℕ) (p : ℕ × ℕ) → roomForNew s size ≡ passed p → NewRoom s size (p .0) (p .1)
+unfolding roomForNew
+room-for-new s size p e =
+    present-passed NOSPC (availableObject s) _ p e (λ o e₁ f₁.
+    present-passed NOSPC (availableName s) _ p f₁ (λ n e₂ f₂.
+    refuse-passed (lacksRoom s 0 size) NOSPC _ p f₂ (λ t f₃.
+    let q : _≡_ {A = ℕ × ℕ} (o, n) p = same-passed (o, n) p f₃ in
+    let a = available-object s o e₁ in
+    let b = available-name s n e₂ in
+    let r = room-passed s 0 size t in
+    let w : NewRoom s size o n = record {
+      lowest-object = e₁;
+      lowest-name = e₂;
+      object-below = a .0;
+      object-free = a .1;
+      generation-low = a .2;
+      name-below = b .0;
+      name-free = b .1;
+      room = omega arith;
+    } in
+    subst (λ (x : ℕ × ℕ). NewRoom s size (x .0) (x .1)) q w)))
+
+-- ---- SETATTR
+pub record SetattrPassed (s : Store) (h : List ℕ) (a : Settable) (g : Guard) (o : ℕ) : Type 0 where
+  pub reached : Reached s h o
+  pub guarded : differs g (objectAt s o .ctime) ≡ false
+  pub allowed : Allowed a
+  pub not-directory : isGiven (a .size) ≡ true → objectAt s o .kind ≢ DIRECTORY
+  pub room : need (sizeSet (a .size) (sizeOf s o)) - need (sizeOf s o) ≤ freeBlockCount s
+
+pub setattr-passed : (s : Store) (h : List ℕ) (a : Settable) (g : Guard) (o : ℕ) → checkSetattr s h a g ≡ passed o → SetattrPassed s h a g o
+unfolding checkSetattr
+setattr-passed s h a g o e =
+    bind-passed (reach s h) _ o e (λ i e₁ f₁.
+    refuse-passed (differs g (objectAt s i .ctime)) NOT-SYNC _ o f₁ (λ t₂ f₂.
+    refuse-passed (badAttributes a) INVAL _ o f₂ (λ t₃ f₃.
+    refuse-passed (isGiven (a .size) && isDirectory s i) INVAL _ o f₃ (λ t₄ f₄.
+    refuse-passed (lacksRoom s (sizeOf s i) (sizeSet (a .size) (sizeOf s i))) NOSPC _ o f₄ (λ t₅ f₅.
+    let q : i ≡ o = same-passed i o f₅ in
+    let w : SetattrPassed s h a g i = record {
+      reached = reach-passed s h i e₁;
+      guarded = t₂;
+      allowed = allowed a t₃;
+      not-directory = λ given k. true-false (sym (and-true (isGiven (a .size)) (isDirectory s i) given (true-directory s i k)) ∙ t₄);
+      room = room-passed s (sizeOf s i) (sizeSet (a .size) (sizeOf s i)) t₅;
+    } in
+    subst (SetattrPassed s h a g) q w)))))
+
+-- ---- WRITE
+pub record WritePassed (s : Store) (h : List ℕ) (offset count : ℕ) (bytes : List ℕ) (o : ℕ) : Type 0 where
+  pub reached : Reached s h o
+  pub regular : objectAt s o .kind ≡ REGULAR
+  pub counted : count ≡ length bytes
+  pub fits : 0 < count → offset + min count mostBytes ≤ 8192
+  pub room : 0 < count → need (grown s o offset (min count mostBytes)) - need (sizeOf s o) ≤ freeBlockCount s
+
+pub write-passed : (s : Store) (h : List ℕ) (offset count : ℕ) (bytes : List ℕ) (o : ℕ) → checkWrite s h offset count bytes ≡ passed o
+    → WritePassed s h offset count bytes o
+unfolding checkWrite
+write-passed s h offset count bytes o e =
+    bind-passed (reachRegular s h) _ o e (λ i e₁ f₁.
+    refuse-passed (not (eqb count (length bytes))) INVAL _ o f₁ (λ t₂ f₂.
+    refuse-passed (not (eqb count 0) && ltb 8192 (offset + min count mostBytes)) FBIG _ o f₂ (λ t₃ f₃.
+    refuse-passed (not (eqb count 0) && lacksRoom s (sizeOf s i) (grown s i offset (min count mostBytes))) NOSPC _ o f₃ (λ t₄ f₄.
+    let q : i ≡ o = same-passed i o f₄ in
+    let r = regular-passed s h i e₁ in
+    let w : WritePassed s h offset count bytes i = record {
+      reached = r .0;
+      regular = r .1;
+      counted = eqb-true count (length bytes) (not-false (eqb count (length bytes)) t₂);
+      fits = λ p. ltb-false 8192 (offset + min count mostBytes) (rest-false (not (eqb count 0)) (ltb 8192 (offset + min count mostBytes)) t₃ (true-nonzero count p));
+      room = λ p. room-passed s (sizeOf s i) (grown s i offset (min count mostBytes))
+          (rest-false (not (eqb count 0)) (lacksRoom s (sizeOf s i) (grown s i offset (min count mostBytes))) t₄ (true-nonzero count p));
+    } in
+    subst (WritePassed s h offset count bytes) q w))))
+  where
+    rest-false : (t u : Bool) → t && u ≡ false → t ≡ true → u ≡ false
+    rest-false true u x y = x
+    rest-false false u x y = true-false (sym y)
+
+-- ---- CREATE
+-- of a file that has the name: it is regular, and there is room for the size
+pub record ExistingPassed (s : Store) (a : Settable) (o : ℕ) : Type 0 where
+  pub regular : objectAt s o .kind ≡ REGULAR
+  pub room : need (sizeSet (a .size) (sizeOf s o)) - need (sizeOf s o) ≤ freeBlockCount s
+
+-- what the target of CREATE is
+abbrev pub TargetPassed : Store → ℕ → List ℕ → Settable → Target → Type 0
+TargetPassed s d text a (new o n) = (findName s d text ≡ none) × NewRoom s (sizeSet (a .size) 0) o n
+TargetPassed s d text a (existing o) = (n : ℕ) × (findName s d text ≡ some n) × (nameAt s n .child ≡ o) × ExistingPassed s a o
+
+existing-passed : (s : Store) (unchecked : Bool) (a : Settable) (o : ℕ) (t : Target) → checkExisting s unchecked a o ≡ passed t
+    → (passed (existing o) ≡ passed t) × ExistingPassed s a o
+unfolding checkExisting
+existing-passed s unchecked a o t e =
+    refuse-passed (not (unchecked && isRegular s o)) EXIST _ t e (λ t₁ f₁.
+    refuse-passed (lacksRoom s (sizeOf s o) (sizeSet (a .size) (sizeOf s o))) NOSPC _ t f₁ (λ t₂ f₂. (
+      f₂,
+      record {
+        regular = regular-true s o (and-both unchecked (isRegular s o) (not-false (unchecked && isRegular s o) t₁) .1);
+        room = room-passed s (sizeOf s o) (sizeSet (a .size) (sizeOf s o)) t₂;
+      },
+    )))
+
+-- the checks of a name to be made
+new-passed : {B P : Type 0} (s : Store) (d : ℕ) (text : List ℕ) (invalid : Bool) (k : Unit {0} → Checked B) (b : B) → bind (checkNew s d text invalid) k ≡ passed b
+    → (GoodName text → invalid ≡ false → k tt ≡ passed b → P) → P
+unfolding checkNew
+new-passed {B} {P} s d text invalid k b e f =
+    go (checkName text) refl
+  where
+    dots : (NamePassed text) → (t u : Bool) → isDots text ≡ t → invalid ≡ u → bind (bind (refuseIf t EXIST) (λ _. refuseIf u INVAL)) k ≡ passed b → P
+    dots n true u x y w = absurd (refused-passed EXIST b w)
+    dots n false true x y w = absurd (refused-passed INVAL b w)
+    dots n false false x y w = f (passed-good text n x) y w
+
+    go : (c : Checked (Unit {0})) → checkName text ≡ c → P
+    go (refused status) q = absurd (refused-passed status b (rw q at e))
+    go (passed u) q =
+        name-passed text (λ _. passed (tt {0})) (tt {0}) (rw q) (λ n _. dots n (isDots text) invalid refl refl (rw q at e))
+
+pub record CreatePassed (s : Store) (h text : List ℕ) (manner : How) (d : ℕ) (t : Target) : Type 0 where
+  pub reached : Reached s h d
+  pub directory : objectAt s d .kind ≡ DIRECTORY
+  pub good : GoodName text
+  pub allowed : Allowed (settableOf manner)
+  pub target : TargetPassed s d text (settableOf manner) t
+
+new-target : (s : Store) (d : ℕ) (text : List ℕ) (a : Settable) (t : Target) (c : Checked (ℕ × ℕ)) → findName s d text ≡ none → roomForNew s (sizeSet (a .size) 0) ≡ c
+    → isNew c ≡ passed t → TargetPassed s d text a t
+new-target s d text a t (refused status) x q e = absurd (refused-passed status t e)
+new-target s d text a t (passed p) x q e =
+    subst (TargetPassed s d text a) (same-passed (new (p .0) (p .1)) t e) (x, room-for-new s (sizeSet (a .size) 0) p q)
+
+target-passed : (s : Store) (d : ℕ) (text : List ℕ) (unchecked : Bool) (a : Settable) (t : Target) (x : Option ℕ) → findName s d text ≡ x
+    → targetOf s unchecked a x ≡ passed t → TargetPassed s d text a t
+target-passed s d text unchecked a t none x e = new-target s d text a t (roomForNew s (sizeSet (a .size) 0)) x refl e
+target-passed s d text unchecked a t (some n) x e =
+    let p = existing-passed s unchecked a (nameAt s n .child) t e in
+    subst (TargetPassed s d text a) (same-passed (existing (nameAt s n .child)) t (p .0)) (n, x, refl, p .1)
+
+attributed-passed : (s : Store) (d : ℕ) (text : List ℕ) (unchecked : Bool) (a : Settable) (t : Target) → checkAttributed s d text unchecked a ≡ passed t
+    → GoodName text × Allowed a × TargetPassed s d text a t
+unfolding checkAttributed
+attributed-passed s d text unchecked a t e =
+    new-passed s d text (badAttributes a) _ t e (λ n b f.
+    (n, allowed a b, target-passed s d text unchecked a t (findName s d text) refl f))
+
+how-passed : (s : Store) (d : ℕ) (text : List ℕ) (manner : How) (t : Target) → checkHow s d text manner ≡ passed t
+    → GoodName text × Allowed (settableOf manner) × TargetPassed s d text (settableOf manner) t
+how-passed s d text (How.Unchecked a) t e = attributed-passed s d text true a t e
+how-passed s d text (How.Guarded a) t e = attributed-passed s d text false a t e
+how-passed s d text (How.Exclusive verifier) t e = absurd (refused-passed 10004 t e)
+
+pub create-passed : (s : Store) (h text : List ℕ) (manner : How) (p : ℕ × Target) → checkCreate s h text manner ≡ passed p → CreatePassed s h text manner (p .0) (p .1)
+unfolding checkCreate
+create-passed s h text manner p e =
+    bind-passed (reachDirectory s h) _ p e (λ d e₁ f₁.
+    bind-passed (checkHow s d text manner) _ p f₁ (λ t e₂ f₂.
+    let r = directory-passed s h d e₁ in
+    let w = how-passed s d text manner t e₂ in
+    let q : _≡_ {A = ℕ × Target} (d, t) p = same-passed (d, t) p f₂ in
+    let v : CreatePassed s h text manner d t = record { reached = r .0; directory = r .1; good = w .0; allowed = w .1; target = w .2 } in
+    subst (λ (x : ℕ × Target). CreatePassed s h text manner (x .0) (x .1)) q v))
+
+-- ---- MKDIR
+pub record MkdirPassed (s : Store) (h text : List ℕ) (a : Settable) (d o n : ℕ) : Type 0 where
+  pub reached : Reached s h d
+  pub directory : objectAt s d .kind ≡ DIRECTORY
+  pub good : GoodName text
+  pub allowed : Allowed a
+  pub no-size : isGiven (a .size) ≡ false
+  pub fresh : findName s d text ≡ none
+  pub room : NewRoom s 0 o n
+
+pub mkdir-passed : (s : Store) (h text : List ℕ) (a : Settable) (p : ℕ × ℕ × ℕ) → checkMkdir s h text a ≡ passed p → MkdirPassed s h text a (p .0) (p .1) (p .2)
+unfolding checkMkdir
+mkdir-passed s h text a p e =
+    bind-passed (reachDirectory s h) _ p e (λ d e₁ f₁.
+    new-passed s d text (badAttributes a || isGiven (a .size)) _ p f₁ (λ g t f₂.
+    absent-passed EXIST (findName s d text) _ p f₂ (λ x f₃.
+    bind-passed (roomForNew s 0) _ p f₃ (λ r e₄ f₄.
+    let z = directory-passed s h d e₁ in
+    let b = or-none (badAttributes a) (isGiven (a .size)) t in
+    let q : _≡_ {A = ℕ × ℕ × ℕ} (d, r .0, r .1) p = same-passed (d, r .0, r .1) p f₄ in
+    let v : MkdirPassed s h text a d (r .0) (r .1) = record {
+      reached = z .0;
+      directory = z .1;
+      good = g;
+      allowed = allowed a (b .0);
+      no-size = b .1;
+      fresh = x;
+      room = room-for-new s 0 r e₄;
+    } in
+    subst (λ (y : ℕ × ℕ × ℕ). MkdirPassed s h text a (y .0) (y .1) (y .2)) q v))))
+
+-- ---- REMOVE and RMDIR
+-- a good name, found in the directory
+pub record EntryPassed (s : Store) (h text : List ℕ) (d n : ℕ) : Type 0 where
+  pub reached : Reached s h d
+  pub directory : objectAt s d .kind ≡ DIRECTORY
+  pub good : GoodName text
+  pub found : findName s d text ≡ some n
+
+entry-passed : {B P : Type 0} (s : Store) (h text : List ℕ) (status : ℕ) (k : ℕ → ℕ → Checked B) (b : B)
+    → bind (reachDirectory s h) (λ d. bind (checkName text) (λ _. bind (refuseIf (isDots text) status) (λ _. bind (present NOENT (findName s d text)) (k d)))) ≡ passed b
+    → ((d n : ℕ) → EntryPassed s h text d n → k d n ≡ passed b → P) → P
+entry-passed s h text status k b e f =
+    bind-passed (reachDirectory s h) _ b e (λ d e₁ f₁.
+    name-passed text _ b f₁ (λ m f₂.
+    refuse-passed (isDots text) status _ b f₂ (λ t f₃.
+    present-passed NOENT (findName s d text) (k d) b f₃ (λ n e₄ f₄.
+    let z = directory-passed s h d e₁ in
+    f d n (record { reached = z .0; directory = z .1; good = passed-good text m t; found = e₄ }) f₄))))
+
+pub record RemovePassed (s : Store) (h text : List ℕ) (d n : ℕ) : Type 0 where
+  pub entry : EntryPassed s h text d n
+  pub file : objectAt s (nameAt s n .child) .kind ≢ DIRECTORY
+
+pub remove-passed : (s : Store) (h text : List ℕ) (p : ℕ × ℕ) → checkRemove s h text ≡ passed p → RemovePassed s h text (p .0) (p .1)
+unfolding checkRemove
+remove-passed s h text p e =
+    entry-passed s h text ACCES _ p e (λ d n a f.
+    refuse-passed (isDirectory s (nameAt s n .child)) ACCES _ p f (λ t g.
+    let v : RemovePassed s h text d n = record { entry = a; file = λ k. true-false (sym (true-directory s (nameAt s n .child) k) ∙ t) } in
+    subst (λ (x : ℕ × ℕ). RemovePassed s h text (x .0) (x .1)) (same-passed (d, n) p g) v))
+
+pub record RmdirPassed (s : Store) (h text : List ℕ) (d n : ℕ) : Type 0 where
+  pub entry : EntryPassed s h text d n
+  pub child-directory : objectAt s (nameAt s n .child) .kind ≡ DIRECTORY
+  pub empty : hasEntries s (nameAt s n .child) ≡ false
+
+pub rmdir-passed : (s : Store) (h text : List ℕ) (p : ℕ × ℕ) → checkRmdir s h text ≡ passed p → RmdirPassed s h text (p .0) (p .1)
+unfolding checkRmdir
+rmdir-passed s h text p e =
+    entry-passed s h text INVAL _ p e (λ d n a f.
+    refuse-passed (not (isDirectory s (nameAt s n .child))) NOTDIR _ p f (λ t g.
+    refuse-passed (hasEntries s (nameAt s n .child)) NOTEMPTY _ p g (λ u w.
+    let v : RmdirPassed s h text d n = record {
+      entry = a;
+      child-directory = directory-true s (nameAt s n .child) (not-false (isDirectory s (nameAt s n .child)) t);
+      empty = u;
+    } in
+    subst (λ (x : ℕ × ℕ). RmdirPassed s h text (x .0) (x .1)) (same-passed (d, n) p w) v)))
+
+-- no used name is in a directory without entries
+pub no-entries : (s : Store) (d m : ℕ) → hasEntries s d ≡ false → m < names s → Used s m → nameAt s m .directory ≢ d
+unfolding hasEntries isIn
+no-entries s d m e l u q =
+    let t = some-none (isIn s d) (names s) m e l in
+    true-false (sym (and-true (isUsedName s m) (eqb (nameAt s m .directory) d) (true-used s m u) (eq-eqb (nameAt s m .directory) d q)) ∙ t)
+
+-- ---- RENAME
+pub record RenamePassed (s : Store) (h text g title : List ℕ) (d e n : ℕ) : Type 0 where
+  pub reached : Reached s h d
+  pub directory : objectAt s d .kind ≡ DIRECTORY
+  pub target-reached : Reached s g e
+  pub target-directory : objectAt s e .kind ≡ DIRECTORY
+  pub good : GoodName text
+  pub target-good : GoodName title
+  pub found : findName s d text ≡ some n
+  pub fresh : findName s e title ≡ none
+  pub outside : isWithin s (nameAt s n .child) e ≡ false
+
+pub rename-passed : (s : Store) (h text g title : List ℕ) (p : ℕ × ℕ × ℕ) → checkRename s h text g title ≡ passed p
+    → RenamePassed s h text g title (p .0) (p .1) (p .2)
+unfolding checkRename
+rename-passed s h text g title p w =
+    bind-passed (reachDirectory s h) _ p w (λ d e₁ f₁.
+    bind-passed (reachDirectory s g) _ p f₁ (λ e e₂ f₂.
+    name-passed text _ p f₂ (λ m f₃.
+    name-passed title _ p f₃ (λ k f₄.
+    refuse-passed (isDots text || isDots title) INVAL _ p f₄ (λ t₅ f₅.
+    present-passed NOENT (findName s d text) _ p f₅ (λ n e₆ f₆.
+    absent-passed EXIST (findName s e title) _ p f₆ (λ x f₇.
+    refuse-passed (isWithin s (nameAt s n .child) e) INVAL _ p f₇ (λ t₈ f₈.
+    let z = directory-passed s h d e₁ in
+    let y = directory-passed s g e e₂ in
+    let b = or-none (isDots text) (isDots title) t₅ in
+    let q : _≡_ {A = ℕ × ℕ × ℕ} (d, e, n) p = same-passed (d, e, n) p f₈ in
+    let v : RenamePassed s h text g title d e n = record {
+      reached = z .0;
+      directory = z .1;
+      target-reached = y .0;
+      target-directory = y .1;
+      good = passed-good text m (b .0);
+      target-good = passed-good title k (b .1);
+      found = e₆;
+      fresh = x;
+      outside = t₈;
+    } in
+    subst (λ (c : ℕ × ℕ × ℕ). RenamePassed s h text g title (c .0) (c .1) (c .2)) q v))))))))

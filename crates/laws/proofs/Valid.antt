@@ -1,0 +1,629 @@
+-- What the store check demands, as facts about the records, and that the check passes exactly where they hold. Assumes nothing.
+use mathlib.Core.Path.{_≡_, refl, sym, ap, _∙_}
+use mathlib.Core.Logic.{_≢_, _⊎_, ⊎-elim}
+use mathlib.Core.Bool.{Bool, true, false, _&&_, not}
+use mathlib.Core.List.{List, [], _∷_}
+use Prim.Native.Nat.{ℕ, zero, suc, _+_, _-_, _≤_, _<_}
+use native.Mathlib.Omega.{arith}
+use native.Mathlib.Nat.{add-zero}
+use lib.Dec.{eqb, leb, ltb, lit≤}
+use lib.ListN.{length, getD, length-take, length-drop}
+use borrow.Author.Tests.{ltb-true, ltb-false, leb-true, eqb-true, eqb-false, lt-ltb, le-ltb, le-leb, eq-eqb, ne-eqb, not-true}
+use Rattle.kinds.specs.Numbers.{REGULAR, DIRECTORY}
+use Rattle.kinds.specs.Objects.{freeObject}
+use Rattle.kinds.specs.declared.object.Object.{Object}
+use Rattle.spec.specs.Bytes.{part, beAt, zeros, sameBytes, allBytes}
+use Rattle.spec.specs.Count.{count, every}
+use Rattle.spec.specs.Image.{Store, volumes, objects, names, blocks, objectStart, nameStart, timeAt, objectFrom, objectAt, nameFrom, nameAt, nameLength, freeName}
+use Rattle.spec.specs.Room.{isLive, isRegular, isDirectory, need, uses, isUsedName, namings, isNamed, above}
+use Rattle.spec.specs.Names.{isDot, isDotDot, isDots, goodByte, goodBytes, goodName}
+use Rattle.spec.specs.Check.{isZero, goodCounts, imageLength, goodShape, goodTime, goodBlock, goodSize, goodLive, goodFree, goodObject, goodRoot, goodUsed, goodNameRecord, isDistinct, mostNames, isNamedOnce, isUsedOnce, leadsToRoot, passes}
+use Rattle.laws.proofs.Bytes.{part-length, same-yes, same-no}
+use Rattle.laws.proofs.Count.{true-false, by-bool, and-both, every-at, every-all}
+use Rattle.laws.proofs.RecordRange.{text-length}
+use Rattle.laws.proofs.Tests.{and-true, or-one, or-none, implied, implies, nonzero-true, nonzero-false, true-nonzero, false-nonzero}
+use Rattle.laws.proofs.Zeros.{isZero-zeros, zeros-isZero, zero-within, be-zero, zero-part, zero-join, halves-zero, zero-halves}
+
+-- ---- THE DEMANDS
+
+-- "volume: count 1"; "P, 1 to 64"; "Q, 0 to 128"; "R, 0 to 1,024"; "Length exactly 20 + 80P + 44Q + 512R"
+pub record Shaped (s : Store) : Type 0 where
+  pub volume : volumes s ≡ 1
+  pub some-object : 1 ≤ objects s
+  pub few-objects : objects s ≤ 64
+  pub few-names : names s ≤ 128
+  pub few-blocks : blocks s ≤ 1024
+  pub exact : length s ≡ imageLength (objects s) (names s) (blocks s)
+
+-- "a file's size at most 8,192"; "a directory's size 0 with no blocks"
+abbrev pub GoodSize : Object → Type 0
+GoodSize v = ((v .kind ≡ REGULAR) × (v .size ≤ 8192)) ⊎ ((v .kind ≡ DIRECTORY) × (v .size ≡ 0))
+
+-- a live object's record, in a store with r blocks
+pub record LiveObject (r : ℕ) (v : Object) : Type 0 where
+  pub generation : v .generation < 4294967295
+  pub mode : v .mode ≤ 4095
+  pub atime : v .atime .nanoseconds < 1000000000
+  pub mtime : v .mtime .nanoseconds < 1000000000
+  pub ctime : v .ctime .nanoseconds < 1000000000
+  pub size : GoodSize v
+  -- "its first ceil(size/512) block numbers in range and the rest 65535"
+  pub held : (k : ℕ) → k < need (v .size) → getD (v .blocks) k 0 < r
+  pub rest : (k : ℕ) → need (v .size) ≤ k → k < 16 → getD (v .blocks) k 0 ≡ 65535
+
+-- "a free object zero but for its generation"
+abbrev pub FreeObject : Object → Type 0
+FreeObject v = v ≡ freeObject (v .generation)
+
+abbrev pub GoodObject : ℕ → Object → Type 0
+GoodObject r v = FreeObject v ⊎ LiveObject r v
+
+abbrev pub GoodObjects : Store → Type 0
+GoodObjects s = (o : ℕ) → o < objects s → GoodObject (blocks s) (objectAt s o)
+
+-- object o is live; name record n is used
+abbrev pub Live : Store → ℕ → Type 0
+Live s o = 0 < objectAt s o .kind
+
+abbrev pub Used : Store → ℕ → Type 0
+Used s n = 0 < nameLength s n
+
+-- "names 1 to 32 bytes, .. without 0 or 0x2F, not "." or "..""
+pub record GoodName (text : List ℕ) : Type 0 where
+  pub some-byte : 1 ≤ length text
+  pub short : length text ≤ 32
+  pub bytes : (k : ℕ) → k < length text → (getD text k 0 ≢ 0) × (getD text k 0 ≢ 0x2F)
+  pub no-dot : text ≢ 0x2E ∷ []
+  pub no-dots : text ≢ 0x2E ∷ 0x2E ∷ []
+
+-- the bytes of a name record behind its name are zero
+abbrev pub Padded : Store → ℕ → Type 0
+Padded s n = part s (nameStart s n + 12 + nameLength s n) (32 - nameLength s n) ≡ zeros (32 - nameLength s n)
+
+-- "used names .., zero-padded, .. each joining a live directory to a live object"
+pub record UsedName (s : Store) (n : ℕ) : Type 0 where
+  pub short : nameLength s n ≤ 32
+  pub exact : length (nameAt s n .text) ≡ nameLength s n
+  pub good : GoodName (nameAt s n .text)
+  pub padded : Padded s n
+  pub directory : nameAt s n .directory < objects s
+  pub in-directory : objectAt s (nameAt s n .directory) .kind ≡ DIRECTORY
+  pub child : nameAt s n .child < objects s
+  pub child-live : Live s (nameAt s n .child)
+
+-- "a free name (length 0) all zero"
+pub record FreeName (s : Store) (n : ℕ) : Type 0 where
+  pub empty : nameLength s n ≡ 0
+  pub all : nameAt s n ≡ freeName
+  pub padded : Padded s n
+
+abbrev pub GoodNameRecord : Store → ℕ → Type 0
+GoodNameRecord s n = FreeName s n ⊎ UsedName s n
+
+abbrev pub GoodNames : Store → Type 0
+GoodNames s = (n : ℕ) → n < names s → GoodNameRecord s n
+
+-- "distinct within a directory"
+abbrev pub DistinctNames : Store → Type 0
+DistinctNames s = (n : ℕ) → n < names s → Used s n → count (names s) (isNamed s (nameAt s n .directory) (nameAt s n .text)) ≡ 1
+
+-- "every live object but the root named once, the root never"
+pub record NamedOnce (s : Store) : Type 0 where
+  pub root : namings s 0 ≡ 0
+  pub named : (o : ℕ) → o < objects s → o ≢ 0 → Live s o → 1 ≤ namings s o
+  pub few : (o : ℕ) → o < objects s → o ≢ 0 → Live s o → namings s o ≤ mostNames (objectAt s o .kind)
+
+-- "no block used twice"
+abbrev pub BlocksUsedOnce : Store → Type 0
+BlocksUsedOnce s = (r : ℕ) → r < blocks s → uses s r ≤ 1
+
+-- "parents lead to the root"
+abbrev pub LeadsToRoot : Store → Type 0
+LeadsToRoot s = (o : ℕ) → o < objects s → Live s o → above s (objects s) o ≡ 0
+
+pub record Valid (s : Store) : Type 0 where
+  pub shaped : Shaped s
+  pub root : objectAt s 0 .kind ≡ DIRECTORY
+  pub good-objects : GoodObjects s
+  pub good-names : GoodNames s
+  pub distinct : DistinctNames s
+  pub named : NamedOnce s
+  pub used-once : BlocksUsedOnce s
+  pub leads : LeadsToRoot s
+
+-- ---- TESTS OF THE RECORDS
+
+pub live-true : (s : Store) (o : ℕ) → isLive s o ≡ true → Live s o
+unfolding isLive
+live-true s o e = nonzero-true (objectAt s o .kind) e
+
+pub live-false : (s : Store) (o : ℕ) → isLive s o ≡ false → objectAt s o .kind ≡ 0
+unfolding isLive
+live-false s o e = nonzero-false (objectAt s o .kind) e
+
+pub true-live : (s : Store) (o : ℕ) → Live s o → isLive s o ≡ true
+unfolding isLive
+true-live s o h = true-nonzero (objectAt s o .kind) h
+
+pub false-live : (s : Store) (o : ℕ) → objectAt s o .kind ≡ 0 → isLive s o ≡ false
+unfolding isLive
+false-live s o h = false-nonzero (objectAt s o .kind) h
+
+pub used-true : (s : Store) (n : ℕ) → isUsedName s n ≡ true → Used s n
+unfolding isUsedName
+used-true s n e = nonzero-true (nameLength s n) e
+
+pub used-false : (s : Store) (n : ℕ) → isUsedName s n ≡ false → nameLength s n ≡ 0
+unfolding isUsedName
+used-false s n e = nonzero-false (nameLength s n) e
+
+pub true-used : (s : Store) (n : ℕ) → Used s n → isUsedName s n ≡ true
+unfolding isUsedName
+true-used s n h = true-nonzero (nameLength s n) h
+
+pub false-used : (s : Store) (n : ℕ) → nameLength s n ≡ 0 → isUsedName s n ≡ false
+unfolding isUsedName
+false-used s n h = false-nonzero (nameLength s n) h
+
+pub directory-true : (s : Store) (o : ℕ) → isDirectory s o ≡ true → objectAt s o .kind ≡ DIRECTORY
+unfolding isDirectory
+directory-true s o e = eqb-true (objectAt s o .kind) 2 e
+
+pub regular-true : (s : Store) (o : ℕ) → isRegular s o ≡ true → objectAt s o .kind ≡ REGULAR
+unfolding isRegular
+regular-true s o e = eqb-true (objectAt s o .kind) 1 e
+
+pub true-regular : (s : Store) (o : ℕ) → objectAt s o .kind ≡ REGULAR → isRegular s o ≡ true
+unfolding isRegular
+true-regular s o h = eq-eqb (objectAt s o .kind) 1 h
+
+pub true-directory : (s : Store) (o : ℕ) → objectAt s o .kind ≡ DIRECTORY → isDirectory s o ≡ true
+unfolding isDirectory
+true-directory s o h = eq-eqb (objectAt s o .kind) 2 h
+
+-- ---- THE SHAPE
+
+pub shaped : (s : Store) → goodShape s ≡ true → Shaped s
+unfolding goodShape goodCounts
+shaped s e =
+    let p = objects s in
+    let q = names s in
+    let r = blocks s in
+    let a = and-both (eqb (volumes s) 1 && (leb 1 p && leb p 64 && leb q 128 && leb r 1024)) (eqb (length s) (imageLength p q r)) e in
+    let b = and-both (eqb (volumes s) 1) (leb 1 p && leb p 64 && leb q 128 && leb r 1024) (a .0) in
+    let c = and-both (leb 1 p && leb p 64 && leb q 128) (leb r 1024) (b .1) in
+    let d = and-both (leb 1 p && leb p 64) (leb q 128) (c .0) in
+    let f = and-both (leb 1 p) (leb p 64) (d .0) in
+    record {
+      volume = eqb-true (volumes s) 1 (b .0);
+      some-object = leb-true 1 p (f .0);
+      few-objects = leb-true p 64 (f .1);
+      few-names = leb-true q 128 (d .1);
+      few-blocks = leb-true r 1024 (c .1);
+      exact = eqb-true (length s) (imageLength p q r) (a .1);
+    }
+
+pub counts-true : (p q r : ℕ) → 1 ≤ p → p ≤ 64 → q ≤ 128 → r ≤ 1024 → goodCounts p q r ≡ true
+unfolding goodCounts
+counts-true p q r a b c d = rw (le-leb 1 p a, le-leb p 64 b, le-leb q 128 c, le-leb r 1024 d)
+
+pub shape-true : (s : Store) → Shaped s → goodShape s ≡ true
+unfolding goodShape
+shape-true s h =
+    rw (
+      eq-eqb (volumes s) 1 (h .volume),
+      counts-true (objects s) (names s) (blocks s) (h .some-object) (h .few-objects) (h .few-names) (h .few-blocks),
+      eq-eqb (length s) (imageLength (objects s) (names s) (blocks s)) (h .exact),
+    )
+
+-- ---- OBJECTS
+
+-- "a file's size at most 8,192", and so at most 16 blocks
+pub live-size : (r : ℕ) (v : Object) → LiveObject r v → v .size ≤ 8192
+live-size r v h = ⊎-elim (λ a. a .1) (λ a. omega (arith, a .1)) (h .size)
+
+pub need-few : (size : ℕ) → size ≤ 8192 → need size ≤ 16
+need-few size h = omega arith
+
+size-good : (v : Object) → goodSize v ≡ true → GoodSize v
+unfolding goodSize
+size-good v e =
+    ⊎-elim
+    (λ (a : eqb (v .kind) 1 && leb (v .size) 8192 ≡ true). let p = and-both (eqb (v .kind) 1) (leb (v .size) 8192) a in
+    _⊎_.inl (eqb-true (v .kind) 1 (p .0), leb-true (v .size) 8192 (p .1)))
+    (λ (a : eqb (v .kind) 2 && eqb (v .size) 0 ≡ true). let p = and-both (eqb (v .kind) 2) (eqb (v .size) 0) a in
+    _⊎_.inr (eqb-true (v .kind) 2 (p .0), eqb-true (v .size) 0 (p .1)))
+    (or-one (eqb (v .kind) 1 && leb (v .size) 8192) (eqb (v .kind) 2 && eqb (v .size) 0) e)
+
+good-size : (v : Object) → GoodSize v → goodSize v ≡ true
+unfolding goodSize
+good-size v (_⊎_.inl a) = rw (eq-eqb (v .kind) 1 (a .0), le-leb (v .size) 8192 (a .1))
+good-size v (_⊎_.inr a) =
+    rw (ne-eqb (v .kind) 1 (λ e. omega (arith, a .0)), eq-eqb (v .kind) 2 (a .0), eq-eqb (v .size) 0 (a .1))
+
+block-held : (r : ℕ) (v : Object) (k : ℕ) → goodBlock r v k ≡ true → k < need (v .size) → getD (v .blocks) k 0 < r
+unfolding goodBlock
+block-held r v k e h = ltb-true (getD (v .blocks) k 0) r (rw (lt-ltb k (need (v .size)) h) at e)
+
+block-rest : (r : ℕ) (v : Object) (k : ℕ) → goodBlock r v k ≡ true → need (v .size) ≤ k → getD (v .blocks) k 0 ≡ 65535
+unfolding goodBlock
+block-rest r v k e h = eqb-true (getD (v .blocks) k 0) 65535 (rw (le-ltb k (need (v .size)) h) at e)
+
+block-good : (r : ℕ) (v : Object) (k : ℕ) → LiveObject r v → k < 16 → goodBlock r v k ≡ true
+unfolding goodBlock
+block-good r v k h l =
+    by-bool (ltb k (need (v .size)))
+    (λ t. rw (t, lt-ltb (getD (v .blocks) k 0) r (h .held k (ltb-true k (need (v .size)) t))))
+    (λ t. rw (t, eq-eqb (getD (v .blocks) k 0) 65535 (h .rest k (ltb-false k (need (v .size)) t) l)))
+
+pub live-object : (r : ℕ) (v : Object) → goodLive r v ≡ true → LiveObject r v
+unfolding goodLive goodTime
+live-object r v e =
+    let g = ltb (v .generation) 4294967295 in
+    let m = leb (v .mode) 4095 in
+    let x = ltb (v .atime .nanoseconds) 1000000000 in
+    let y = ltb (v .mtime .nanoseconds) 1000000000 in
+    let z = ltb (v .ctime .nanoseconds) 1000000000 in
+    let a = and-both (g && m && x && y && z && goodSize v) (every 16 (goodBlock r v)) e in
+    let b = and-both (g && m && x && y && z) (goodSize v) (a .0) in
+    let c = and-both (g && m && x && y) z (b .0) in
+    let d = and-both (g && m && x) y (c .0) in
+    let f = and-both (g && m) x (d .0) in
+    let i = and-both g m (f .0) in
+    let w = size-good v (b .1) in
+    let small : v .size ≤ 8192 = ⊎-elim (λ q. q .1) (λ q. omega (arith, q .1)) w in
+    record {
+      generation = ltb-true (v .generation) 4294967295 (i .0);
+      mode = leb-true (v .mode) 4095 (i .1);
+      atime = ltb-true (v .atime .nanoseconds) 1000000000 (f .1);
+      mtime = ltb-true (v .mtime .nanoseconds) 1000000000 (d .1);
+      ctime = ltb-true (v .ctime .nanoseconds) 1000000000 (c .1);
+      size = w;
+      held = λ k (h : k < need (v .size)). block-held r v k (every-at (goodBlock r v) 16 k (a .1) (omega arith)) h;
+      rest = λ k h l. block-rest r v k (every-at (goodBlock r v) 16 k (a .1) l) h;
+    }
+
+pub live-good : (r : ℕ) (v : Object) → LiveObject r v → goodLive r v ≡ true
+unfolding goodLive goodTime
+live-good r v h =
+    rw (
+      lt-ltb (v .generation) 4294967295 (h .generation),
+      le-leb (v .mode) 4095 (h .mode),
+      lt-ltb (v .atime .nanoseconds) 1000000000 (h .atime),
+      lt-ltb (v .mtime .nanoseconds) 1000000000 (h .mtime),
+      lt-ltb (v .ctime .nanoseconds) 1000000000 (h .ctime),
+      good-size v (h .size),
+    )
+    (every-all (goodBlock r v) 16 (λ k l. block-good r v k h l))
+
+-- a live object's type is 1 or 2
+pub live-kind : (r : ℕ) (v : Object) → LiveObject r v → 0 < v .kind
+live-kind r v h = ⊎-elim (λ a. omega (arith, a .0)) (λ a. omega (arith, a .0)) (h .size)
+
+-- the record of a free object, from its bytes
+free-from : (s : Store) (at : ℕ) → beAt s at 4 ≡ 0 → part s (at + 8) 72 ≡ zeros 72 → objectFrom s at ≡ freeObject (beAt s (at + 4) 4)
+unfolding objectFrom timeAt
+free-from s at e z =
+    λ i. record {
+      kind = e i;
+      generation = beAt s (at + 4) 4;
+      mode = number (at + 8) 0 (omega arith) (omega arith) i;
+      uid = number (at + 12) 4 (omega arith) (omega arith) i;
+      gid = number (at + 16) 8 (omega arith) (omega arith) i;
+      size = number (at + 20) 12 (omega arith) (omega arith) i;
+      atime = record { seconds = number (at + 24) 16 (omega arith) (omega arith) i; nanoseconds = number (at + 24 + 4) 20 (omega arith) (omega arith) i };
+      mtime = record { seconds = number (at + 32) 24 (omega arith) (omega arith) i; nanoseconds = number (at + 32 + 4) 28 (omega arith) (omega arith) i };
+      ctime = record { seconds = number (at + 40) 32 (omega arith) (omega arith) i; nanoseconds = number (at + 40 + 4) 36 (omega arith) (omega arith) i };
+      blocks = halves-zero s (at + 48) 16 (within (at + 48) 40 32 (omega arith) (omega arith)) i;
+    }
+  where
+    within : (p k w : ℕ) → p ≡ at + 8 + k → k + w ≤ 72 → part s p w ≡ zeros w
+    within p k w q h = rw q (zero-within s (at + 8) 72 k w z h)
+
+    number : (p k : ℕ) → p ≡ at + 8 + k → k + 4 ≤ 72 → beAt s p 4 ≡ 0
+    number p k q h = be-zero s p 4 (within p k 4 q h)
+
+pub free-zeros : (s : Store) (o : ℕ) → part s (objectStart o) 80 ≡ zeros 80 → objectAt s o ≡ freeObject 0
+unfolding objectAt
+free-zeros s o z =
+    let at = objectStart o in
+    let k : part s (at + 0) 4 ≡ zeros 4 = zero-within s at 80 0 4 z (lit≤ tt) in
+    free-from s at (be-zero s at 4 (rw add-zero at k)) (zero-within s at 80 8 72 z (lit≤ tt))
+    ∙ ap freeObject (be-zero s (at + 4) 4 (zero-within s at 80 4 4 z (lit≤ tt)))
+
+-- and its bytes, from the record
+free-zero : (s : Store) (at g : ℕ) → at + 80 ≤ length s → objectFrom s at ≡ freeObject g → part s (at + 8) 72 ≡ zeros 72
+unfolding objectFrom timeAt
+free-zero s at g h e =
+    let p = at + 8 in
+    let f : (w : Object → ℕ) → w (objectFrom s at) ≡ w (freeObject g) = λ w. ap w e in
+    let a = word (at + 8) 0 (omega arith) (omega arith) (f (λ v. v .mode)) in
+    let b = zero-join s p 4 4 (rw add-zero at a) (word (at + 12) 4 (omega arith) (omega arith) (f (λ v. v .uid))) in
+    let c = zero-join s p 8 4 b (word (at + 16) 8 (omega arith) (omega arith) (f (λ v. v .gid))) in
+    let d = zero-join s p 12 4 c (word (at + 20) 12 (omega arith) (omega arith) (f (λ v. v .size))) in
+    let i = zero-join s p 16 4 d (word (at + 24) 16 (omega arith) (omega arith) (f (λ v. v .atime .seconds))) in
+    let j = zero-join s p 20 4 i (word (at + 24 + 4) 20 (omega arith) (omega arith) (f (λ v. v .atime .nanoseconds))) in
+    let k = zero-join s p 24 4 j (word (at + 32) 24 (omega arith) (omega arith) (f (λ v. v .mtime .seconds))) in
+    let l = zero-join s p 28 4 k (word (at + 32 + 4) 28 (omega arith) (omega arith) (f (λ v. v .mtime .nanoseconds))) in
+    let m = zero-join s p 32 4 l (word (at + 40) 32 (omega arith) (omega arith) (f (λ v. v .ctime .seconds))) in
+    let n = zero-join s p 36 4 m (word (at + 40 + 4) 36 (omega arith) (omega arith) (f (λ v. v .ctime .nanoseconds))) in
+    let q : at + 48 ≡ p + 40 = omega arith in
+    zero-join s p 40 32 n (rw q at (zero-halves s (at + 48) 16 (omega arith) (ap (λ (v : Object). v .blocks) e)))
+  where
+    word : (p k : ℕ) → p ≡ at + 8 + k → k + 4 ≤ 72 → beAt s p 4 ≡ 0 → part s (at + 8 + k) 4 ≡ zeros 4
+    word p k q r z = rw q at (zero-part s p 4 (omega arith) z)
+
+pub free-object : (s : Store) (o : ℕ) → objectStart o + 80 ≤ length s → isLive s o ≡ false → goodFree s o ≡ true → FreeObject (objectAt s o)
+unfolding goodFree objectAt objectFrom
+free-object s o h l e =
+    let at = objectStart o in
+    free-from s at (live-false s o l) (zeros-isZero (part s (at + 8) 72) 72 (part-length s (at + 8) 72 (omega arith)) e)
+
+pub free-good : (s : Store) (o : ℕ) → objectStart o + 80 ≤ length s → FreeObject (objectAt s o) → goodFree s o ≡ true
+unfolding goodFree objectAt
+free-good s o h e = rw (free-zero s (objectStart o) _ h e) (isZero-zeros 72)
+
+pub object-good : (s : Store) (o : ℕ) → objectStart o + 80 ≤ length s → goodObject s o ≡ true → GoodObject (blocks s) (objectAt s o)
+unfolding goodObject
+object-good s o h e =
+    by-bool (isLive s o)
+    (λ t. _⊎_.inr (live-object (blocks s) (objectAt s o) (rw t at e)))
+    (λ t. _⊎_.inl (free-object s o h t (rw t at e)))
+
+pub good-object : (s : Store) (o : ℕ) → objectStart o + 80 ≤ length s → GoodObject (blocks s) (objectAt s o) → goodObject s o ≡ true
+unfolding goodObject
+good-object s o h (_⊎_.inl f) = rw (false-live s o (ap (λ (v : Object). v .kind) f)) (free-good s o h f)
+good-object s o h (_⊎_.inr f) = rw (true-live s o (live-kind (blocks s) (objectAt s o) f)) (live-good (blocks s) (objectAt s o) f)
+
+-- ---- NAMES
+
+bytes-at : (p : ℕ → Bool) (xs : List ℕ) (k : ℕ) → allBytes p xs ≡ true → k < length xs → p (getD xs k 0) ≡ true
+unfolding allBytes
+bytes-at p [] k e h = absurd (omega arith)
+bytes-at p (x ∷ xs) zero e h = and-both (p x) (allBytes p xs) e .0
+bytes-at p (x ∷ xs) (suc k) e h = bytes-at p xs k (and-both (p x) (allBytes p xs) e .1) (omega arith)
+
+bytes-all : (p : ℕ → Bool) (xs : List ℕ) → ((k : ℕ) → k < length xs → p (getD xs k 0) ≡ true) → allBytes p xs ≡ true
+unfolding allBytes
+bytes-all p [] f = refl
+bytes-all p (x ∷ xs) f = and-true (p x) (allBytes p xs) (f 0 (omega arith)) (bytes-all p xs (λ k h. f (suc k) (omega arith)))
+
+byte-good : (x : ℕ) → goodByte x ≡ true → (x ≢ 0) × (x ≢ 0x2F)
+unfolding goodByte
+byte-good x e =
+    let p = and-both (not (eqb x 0)) (not (eqb x 0x2F)) e in
+    (eqb-false x 0 (not-true (eqb x 0) (p .0)), eqb-false x 0x2F (not-true (eqb x 0x2F) (p .1)))
+
+good-byte : (x : ℕ) → x ≢ 0 → x ≢ 0x2F → goodByte x ≡ true
+unfolding goodByte
+good-byte x a b = rw (ne-eqb x 0 a, ne-eqb x 0x2F b)
+
+-- the bytes of a name, without 0 or 0x2F
+pub bytes-good : (text : List ℕ) → goodBytes text ≡ true → (k : ℕ) → k < length text → (getD text k 0 ≢ 0) × (getD text k 0 ≢ 0x2F)
+unfolding goodBytes
+bytes-good text e k h = byte-good (getD text k 0) (bytes-at goodByte text k e h)
+
+pub good-bytes : (text : List ℕ) → ((k : ℕ) → k < length text → (getD text k 0 ≢ 0) × (getD text k 0 ≢ 0x2F)) → goodBytes text ≡ true
+unfolding goodBytes
+good-bytes text f = bytes-all goodByte text (λ k h. good-byte (getD text k 0) (f k h .0) (f k h .1))
+
+-- "." and ".."
+pub dots-no : (text : List ℕ) → isDots text ≡ false → (text ≢ 0x2E ∷ []) × (text ≢ 0x2E ∷ 0x2E ∷ [])
+unfolding isDot isDotDot
+dots-no text e =
+    let p = or-none (sameBytes text (0x2E ∷ [])) (sameBytes text (0x2E ∷ 0x2E ∷ [])) e in
+    (λ q. true-false (sym (same-yes text (0x2E ∷ []) q) ∙ p .0), λ q. true-false (sym (same-yes text (0x2E ∷ 0x2E ∷ []) q) ∙ p .1))
+
+pub no-dots : (text : List ℕ) → text ≢ 0x2E ∷ [] → text ≢ 0x2E ∷ 0x2E ∷ [] → isDots text ≡ false
+unfolding isDot isDotDot
+no-dots text a b = rw (same-no text (0x2E ∷ []) a, same-no text (0x2E ∷ 0x2E ∷ []) b)
+
+pub name-good : (text : List ℕ) → goodName text ≡ true → GoodName text
+unfolding goodName
+name-good text e =
+    let a = and-both (leb 1 (length text) && leb (length text) 32 && goodBytes text) (not (isDots text)) e in
+    let b = and-both (leb 1 (length text) && leb (length text) 32) (goodBytes text) (a .0) in
+    let c = and-both (leb 1 (length text)) (leb (length text) 32) (b .0) in
+    let d = dots-no text (not-true (isDots text) (a .1)) in
+    record {
+      some-byte = leb-true 1 (length text) (c .0);
+      short = leb-true (length text) 32 (c .1);
+      bytes = bytes-good text (b .1);
+      no-dot = d .0;
+      no-dots = d .1;
+    }
+
+pub good-name : (text : List ℕ) → GoodName text → goodName text ≡ true
+unfolding goodName
+good-name text h =
+    rw (le-leb 1 (length text) (h .some-byte), le-leb (length text) 32 (h .short), good-bytes text (h .bytes), no-dots text (h .no-dot) (h .no-dots))
+
+-- a free name record, from its bytes, and its bytes
+pub free-name : (s : Store) (n : ℕ) → part s (nameStart s n) 44 ≡ zeros 44 → FreeName s n
+unfolding nameAt nameFrom nameLength part
+free-name s n w =
+    let at = nameStart s n in
+    let e : beAt s (at + 8) 4 ≡ 0 = be-zero s (at + 8) 4 (zero-within s at 44 8 4 w (lit≤ tt)) in
+    let d : part s (at + 0) 4 ≡ zeros 4 = zero-within s at 44 0 4 w (lit≤ tt) in
+    record {
+      empty = e;
+      all = λ i. record {
+        directory = be-zero s at 4 (rw add-zero at d) i;
+        child = be-zero s (at + 4) 4 (zero-within s at 44 4 4 w (lit≤ tt)) i;
+        text = ap (λ (k : ℕ). part s (at + 12) k) e i;
+      };
+      padded = rw (e, add-zero) (zero-within s at 44 12 32 w (lit≤ tt));
+    }
+
+name-zero : (s : Store) (n : ℕ) → nameStart s n + 44 ≤ length s → FreeName s n → isZero (part s (nameStart s n) 44) ≡ true
+unfolding nameAt nameFrom nameLength
+name-zero s n h f =
+    let at = nameStart s n in
+    let a = zero-part s at 4 (omega arith) (ap (λ v. v .directory) (f .all)) in
+    let b = zero-join s at 4 4 a (zero-part s (at + 4) 4 (omega arith) (ap (λ v. v .child) (f .all))) in
+    let c = zero-join s at 8 4 b (zero-part s (at + 8) 4 (omega arith) (f .empty)) in
+    let d : part s (at + 12) 32 ≡ zeros 32 = rw (f .empty, add-zero) at (f .padded) in
+    rw (zero-join s at 12 32 c d) (isZero-zeros 44)
+
+-- a used name record
+module _ (s : Store) (n : ℕ) (h : nameStart s n + 48 ≤ length s) where
+  used-long : length (nameAt s n .text) ≤ 32 → nameLength s n ≤ 32
+  unfolding nameAt nameFrom nameLength part
+  used-long l = omega (arith, simp (length-take, length-drop) at l)
+
+  used-name : goodUsed s n ≡ true → UsedName s n
+  unfolding goodUsed
+  used-name e =
+      let v = nameAt s n in
+      let pad = part s (nameStart s n + 12 + nameLength s n) (32 - nameLength s n) in
+      let in-place = ltb (v .directory) (objects s) && isDirectory s (v .directory) in
+      let to-live = ltb (v .child) (objects s) && isLive s (v .child) in
+      let a = and-both (goodName (v .text) && isZero pad && in-place) to-live e in
+      let b = and-both (goodName (v .text) && isZero pad) in-place (a .0) in
+      let c = and-both (goodName (v .text)) (isZero pad) (b .0) in
+      let d = and-both (ltb (v .directory) (objects s)) (isDirectory s (v .directory)) (b .1) in
+      let f = and-both (ltb (v .child) (objects s)) (isLive s (v .child)) (a .1) in
+      let g = name-good (v .text) (c .0) in
+      let l = used-long (g .short) in
+      record {
+        short = l;
+        exact = text-length s n (omega arith);
+        good = g;
+        padded = zeros-isZero pad (32 - nameLength s n) (part-length s (nameStart s n + 12 + nameLength s n) (32 - nameLength s n) (omega arith)) (c .1);
+        directory = ltb-true (v .directory) (objects s) (d .0);
+        in-directory = directory-true s (v .directory) (d .1);
+        child = ltb-true (v .child) (objects s) (f .0);
+        child-live = live-true s (v .child) (f .1);
+      }
+
+  used-good : UsedName s n → goodUsed s n ≡ true
+  unfolding goodUsed
+  used-good u =
+      let v = nameAt s n in
+      rw (
+        good-name (v .text) (u .good),
+        u .padded,
+        isZero-zeros (32 - nameLength s n),
+        lt-ltb (v .directory) (objects s) (u .directory),
+        true-directory s (v .directory) (u .in-directory),
+        lt-ltb (v .child) (objects s) (u .child),
+        true-live s (v .child) (u .child-live),
+      )
+
+  pub name-record : goodNameRecord s n ≡ true → GoodNameRecord s n
+  unfolding goodNameRecord
+  name-record e =
+      by-bool (isUsedName s n)
+      (λ t. _⊎_.inr (used-name (rw t at e)))
+      (λ t. let z = part s (nameStart s n) 44 in
+      _⊎_.inl (free-name s n (zeros-isZero z 44 (part-length s (nameStart s n) 44 (omega arith)) (rw t at e))))
+
+  pub record-good : GoodNameRecord s n → goodNameRecord s n ≡ true
+  unfolding goodNameRecord
+  record-good (_⊎_.inl f) = rw (false-used s n (f .empty)) (name-zero s n (omega arith) f)
+  record-good (_⊎_.inr u) = rw (true-used s n (omega (arith, u .good .some-byte, u .exact))) (used-good u)
+
+-- ---- THE STORE
+
+distinct-names : (s : Store) → every (names s) (isDistinct s) ≡ true → DistinctNames s
+unfolding isDistinct
+distinct-names s e n l u =
+    let c = count (names s) (isNamed s (nameAt s n .directory) (nameAt s n .text)) in
+    eqb-true c 1 (implied (isUsedName s n) (eqb c 1) (every-at (isDistinct s) (names s) n e l) (true-used s n u))
+
+names-distinct : (s : Store) → DistinctNames s → every (names s) (isDistinct s) ≡ true
+unfolding isDistinct
+names-distinct s d =
+    every-all (isDistinct s) (names s) (λ n l.
+    let c = count (names s) (isNamed s (nameAt s n .directory) (nameAt s n .text)) in
+    implies (isUsedName s n) (eqb c 1) (λ t. eq-eqb c 1 (d n l (used-true s n t))))
+
+named-once : (s : Store) → 1 ≤ objects s → every (objects s) (isNamedOnce s) ≡ true → NamedOnce s
+unfolding isNamedOnce
+named-once s p e =
+    record {
+      root = eqb-true (namings s 0) 0 (every-at (isNamedOnce s) (objects s) 0 e p);
+      named = λ o l d h. leb-true 1 (namings s o) (and-both (leb 1 (namings s o)) (leb (namings s o) 1) (both o l d h) .0);
+      few = λ o l d h. leb-true (namings s o) 1 (and-both (leb 1 (namings s o)) (leb (namings s o) 1) (both o l d h) .1);
+    }
+  where
+    both : (o : ℕ) → o < objects s → o ≢ 0 → Live s o → leb 1 (namings s o) && leb (namings s o) 1 ≡ true
+    both o l d h =
+        implied (isLive s o) (leb 1 (namings s o) && leb (namings s o) 1) (rw (ne-eqb o 0 d) at (every-at (isNamedOnce s) (objects s) o e l)) (true-live s o h)
+
+once-named : (s : Store) → NamedOnce s → every (objects s) (isNamedOnce s) ≡ true
+unfolding isNamedOnce
+once-named s h =
+    every-all (isNamedOnce s) (objects s) (λ o l.
+    by-bool (eqb o 0)
+    (λ t. rw (t, eqb-true o 0 t) (eq-eqb (namings s 0) 0 (h .root)))
+    (λ t. let d = eqb-false o 0 t in
+    rw t (implies (isLive s o) (leb 1 (namings s o) && leb (namings s o) 1) (λ a. let v = live-true s o a in
+    and-true (leb 1 (namings s o)) (leb (namings s o) 1) (le-leb 1 (namings s o) (h .named o l d v)) (le-leb (namings s o) 1 (h .few o l d v))))))
+
+blocks-once : (s : Store) → every (blocks s) (isUsedOnce s) ≡ true → BlocksUsedOnce s
+unfolding isUsedOnce
+blocks-once s e r l = leb-true (uses s r) 1 (every-at (isUsedOnce s) (blocks s) r e l)
+
+once-blocks : (s : Store) → BlocksUsedOnce s → every (blocks s) (isUsedOnce s) ≡ true
+unfolding isUsedOnce
+once-blocks s h = every-all (isUsedOnce s) (blocks s) (λ r l. le-leb (uses s r) 1 (h r l))
+
+leads : (s : Store) → every (objects s) (leadsToRoot s) ≡ true → LeadsToRoot s
+unfolding leadsToRoot
+leads s e o l h =
+    let a = above s (objects s) o in
+    eqb-true a 0 (implied (isLive s o) (eqb a 0) (every-at (leadsToRoot s) (objects s) o e l) (true-live s o h))
+
+leading : (s : Store) → LeadsToRoot s → every (objects s) (leadsToRoot s) ≡ true
+unfolding leadsToRoot
+leading s h =
+    every-all (leadsToRoot s) (objects s) (λ o l.
+    let a = above s (objects s) o in
+    implies (isLive s o) (eqb a 0) (λ t. eq-eqb a 0 (h o l (live-true s o t))))
+
+-- a store that passes its check has all the demands
+pub valid : (s : Store) → passes s ≡ true → Valid s
+unfolding passes goodRoot
+valid s e =
+    let root = isDirectory s 0 in
+    let each-object = every (objects s) (goodObject s) in
+    let each-name = every (names s) (goodNameRecord s) in
+    let distinct = every (names s) (isDistinct s) in
+    let named = every (objects s) (isNamedOnce s) in
+    let once = every (blocks s) (isUsedOnce s) in
+    let leading = every (objects s) (leadsToRoot s) in
+    let a = and-both (goodShape s) (root && each-object && each-name && distinct && named && once && leading) e in
+    let b = and-both (root && each-object && each-name && distinct && named && once) leading (a .1) in
+    let c = and-both (root && each-object && each-name && distinct && named) once (b .0) in
+    let d = and-both (root && each-object && each-name && distinct) named (c .0) in
+    let f = and-both (root && each-object && each-name) distinct (d .0) in
+    let g = and-both (root && each-object) each-name (f .0) in
+    let h = and-both root each-object (g .0) in
+    let w = shaped s (a .0) in
+    record {
+      shaped = w;
+      root = directory-true s 0 (h .0);
+      good-objects = λ o (l : o < objects s). object-good s o (omega arith) (every-at (goodObject s) (objects s) o (h .1) l);
+      good-names = λ n (l : n < names s). name-record s n (omega arith) (every-at (goodNameRecord s) (names s) n (g .1) l);
+      distinct = distinct-names s (f .1);
+      named = named-once s (w .some-object) (d .1);
+      used-once = blocks-once s (c .1);
+      leads = leads s (b .1);
+    }
+
+-- and the other way
+pub passes-valid : (s : Store) → Valid s → passes s ≡ true
+unfolding passes goodRoot
+passes-valid s v =
+    let w = v .shaped in
+    rw (
+      shape-true s w,
+      true-directory s 0 (v .root),
+      every-all (goodObject s) (objects s) (λ o (l : o < objects s). good-object s o (omega arith) (v .good-objects o l)),
+      every-all (goodNameRecord s) (names s) (λ n (l : n < names s). record-good s n (omega arith) (v .good-names n l)),
+      names-distinct s (v .distinct),
+      once-named s (v .named),
+      once-blocks s (v .used-once),
+      leading s (v .leads),
+    )

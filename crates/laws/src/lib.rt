@@ -1,0 +1,1 @@
+// The laws of the definitions in spec, for the proofs of the crates above it.
