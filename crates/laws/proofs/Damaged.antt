@@ -108,307 +108,68 @@ pub record Damaged : Type 0 where
   -- "Block contents aren't checked."
   pub any-contents : checkBytes (472 + 500) (7 ∷ []) ≡ 0
 
-passes-whole-computes : check small ≡ 0
-unfolding computing
-passes-whole-computes = refl
-
-nothing-computes : check [] ≡ 1
-unfolding computing
-nothing-computes = refl
-
-twenty-bytes-computes : check (zeros 20) ≡ 1
-unfolding computing
-twenty-bytes-computes = refl
-
-two-volumes-computes : checkWith 0 2 ≡ 1
-unfolding computing
-two-volumes-computes = refl
-
-other-stamp-computes : checkWith 4 77 ≡ 0
-unfolding computing
-other-stamp-computes = refl
-
-one-byte-more-computes : check (small ++ (0 ∷ [])) ≡ 1
-unfolding computing
-one-byte-more-computes = refl
-
-one-byte-less-computes : check (take (length small - 1) small) ≡ 1
-unfolding computing
-one-byte-less-computes = refl
-
-most-counts-computes : goodCounts 64 128 1024 ≡ true
-unfolding computing
-most-counts-computes = refl
-
-no-object-computes : goodCounts 0 0 0 ≡ false
-unfolding computing
-no-object-computes = refl
-
-objects-over-computes : goodCounts 65 0 0 ≡ false
-unfolding computing
-objects-over-computes = refl
-
-names-over-computes : goodCounts 1 129 0 ≡ false
-unfolding computing
-names-over-computes = refl
-
-blocks-over-computes : goodCounts 1 0 1025 ≡ false
-unfolding computing
-blocks-over-computes = refl
-
-root-regular-computes : checkWith 12 1 ≡ 1
-unfolding computing
-root-regular-computes = refl
-
-third-type-computes : checkWith (12 + 80) 3 ≡ 1
-unfolding computing
-third-type-computes = refl
-
-free-generation-computes : checkWith (12 + 240 + 4) 4294967295 ≡ 0
-unfolding computing
-free-generation-computes = refl
-
-free-mode-computes : checkWith (12 + 240 + 8) 1 ≡ 1
-unfolding computing
-free-mode-computes = refl
-
-free-block-computes : checkBytes (12 + 240 + 79) (1 ∷ []) ≡ 1
-unfolding computing
-free-block-computes = refl
-
-generation-most-computes : checkWith (12 + 80 + 4) 4294967294 ≡ 0
-unfolding computing
-generation-most-computes = refl
-
-generation-over-computes : checkWith (12 + 80 + 4) 4294967295 ≡ 1
-unfolding computing
-generation-over-computes = refl
-
-mode-most-computes : checkWith (12 + 80 + 8) 4095 ≡ 0
-unfolding computing
-mode-most-computes = refl
-
-mode-over-computes : checkWith (12 + 80 + 8) 4096 ≡ 1
-unfolding computing
-mode-over-computes = refl
-
-any-uid-computes : checkWith (12 + 80 + 12) 4294967295 ≡ 0
-unfolding computing
-any-uid-computes = refl
-
-any-gid-computes : checkWith (12 + 80 + 16) 4294967295 ≡ 0
-unfolding computing
-any-gid-computes = refl
-
-atime-most-computes : checkWith (12 + 80 + 28) 999999999 ≡ 0
-unfolding computing
-atime-most-computes = refl
-
-atime-over-computes : checkWith (12 + 80 + 28) 1000000000 ≡ 1
-unfolding computing
-atime-over-computes = refl
-
-mtime-over-computes : checkWith (12 + 80 + 36) 1000000000 ≡ 1
-unfolding computing
-mtime-over-computes = refl
-
-ctime-over-computes : checkWith (12 + 80 + 44) 1000000000 ≡ 1
-unfolding computing
-ctime-over-computes = refl
-
-directory-size-computes : checkWith (12 + 160 + 20) 1 ≡ 1
-unfolding computing
-directory-size-computes = refl
-
-directory-block-computes : checkBytes (12 + 160 + 48) (0 ∷ 1 ∷ []) ≡ 1
-unfolding computing
-directory-block-computes = refl
-
-size-one-block-computes : checkWith (12 + 80 + 20) 512 ≡ 0
-unfolding computing
-size-one-block-computes = refl
-
-size-two-blocks-computes : checkWith (12 + 80 + 20) 513 ≡ 1
-unfolding computing
-size-two-blocks-computes = refl
-
-size-none-computes : checkWith (12 + 80 + 20) 0 ≡ 1
-unfolding computing
-size-none-computes = refl
-
-block-in-range-computes : checkBytes (12 + 80 + 48) (0 ∷ 1 ∷ []) ≡ 0
-unfolding computing
-block-in-range-computes = refl
-
-block-out-of-range-computes : checkBytes (12 + 80 + 48) (0 ∷ 2 ∷ []) ≡ 1
-unfolding computing
-block-out-of-range-computes = refl
-
-unused-block-computes : checkBytes (12 + 80 + 50) (0 ∷ 1 ∷ []) ≡ 1
-unfolding computing
-unused-block-computes = refl
-
-last-unused-block-computes : checkBytes (12 + 80 + 78) (0 ∷ 0 ∷ []) ≡ 1
-unfolding computing
-last-unused-block-computes = refl
-
-two-blocks-computes : check (patched (patched small (12 + 80 + 20) (words (1024 ∷ []))) (12 + 80 + 50) (0 ∷ 1 ∷ [])) ≡ 0
-unfolding computing
-two-blocks-computes = refl
-
-block-twice-computes : check (patched (patched small (12 + 80 + 20) (words (1024 ∷ []))) (12 + 80 + 50) (0 ∷ 0 ∷ [])) ≡ 1
-unfolding computing
-block-twice-computes = refl
-
-name-most-computes : checkBytes 336 (nameWords 0 1 (replicate 32 0x61)) ≡ 0
-unfolding computing
-name-most-computes = refl
-
-name-over-computes : checkBytes 336 (words (0 ∷ 1 ∷ 33 ∷ []) ++ replicate 32 0x61) ≡ 1
-unfolding computing
-name-over-computes = refl
-
-name-padding-computes : checkBytes (336 + 43) (1 ∷ []) ≡ 1
-unfolding computing
-name-padding-computes = refl
-
-name-zero-computes : checkBytes 336 (nameWords 0 1 (0x61 ∷ 0 ∷ 0x61 ∷ [])) ≡ 1
-unfolding computing
-name-zero-computes = refl
-
-name-slash-computes : checkBytes 336 (nameWords 0 1 (0x61 ∷ 0x2F ∷ [])) ≡ 1
-unfolding computing
-name-slash-computes = refl
-
-name-dot-computes : checkBytes 336 (nameWords 0 1 (0x2E ∷ [])) ≡ 1
-unfolding computing
-name-dot-computes = refl
-
-name-dots-computes : checkBytes 336 (nameWords 0 1 (0x2E ∷ 0x2E ∷ [])) ≡ 1
-unfolding computing
-name-dots-computes = refl
-
-name-three-dots-computes : checkBytes 336 (nameWords 0 1 (0x2E ∷ 0x2E ∷ 0x2E ∷ [])) ≡ 0
-unfolding computing
-name-three-dots-computes = refl
-
-free-name-computes : checkBytes (336 + 88 + 43) (1 ∷ []) ≡ 1
-unfolding computing
-free-name-computes = refl
-
-free-name-child-computes : checkWith (336 + 88 + 4) 1 ≡ 1
-unfolding computing
-free-name-child-computes = refl
-
-same-name-computes : checkBytes (336 + 44) (nameWords 0 2 nameA) ≡ 1
-unfolding computing
-same-name-computes = refl
-
-same-name-elsewhere-computes : checkBytes 336 (nameWords 2 1 (0x62 ∷ [])) ≡ 0
-unfolding computing
-same-name-elsewhere-computes = refl
-
-in-a-file-computes : checkBytes (336 + 44) (nameWords 1 2 nameB) ≡ 1
-unfolding computing
-in-a-file-computes = refl
-
-in-nothing-computes : checkBytes (336 + 44) (nameWords 9 2 nameB) ≡ 1
-unfolding computing
-in-nothing-computes = refl
-
-names-free-computes : checkBytes (336 + 88) (nameWords 0 3 nameC) ≡ 1
-unfolding computing
-names-free-computes = refl
-
-names-nothing-computes : checkBytes (336 + 88) (nameWords 0 9 nameC) ≡ 1
-unfolding computing
-names-nothing-computes = refl
-
-named-twice-computes : checkBytes (336 + 88) (nameWords 0 1 nameC) ≡ 1
-unfolding computing
-named-twice-computes = refl
-
-named-never-computes : checkBytes 336 (zeros 44) ≡ 1
-unfolding computing
-named-never-computes = refl
-
-root-named-computes : checkBytes (336 + 88) (nameWords 2 0 nameC) ≡ 1
-unfolding computing
-root-named-computes = refl
-
-in-itself-computes : checkBytes (336 + 44) (nameWords 2 2 nameB) ≡ 1
-unfolding computing
-in-itself-computes = refl
-
-in-each-other-computes : check (patched (after (mkdirCall nameA ∷ mkdirCall nameB ∷ []) (fresh 3 2 0)) (16 + 240) (nameWords 2 1 nameA ++ nameWords 1 2 nameB)) ≡ 1
-unfolding computing
-in-each-other-computes = refl
-
-any-contents-computes : checkBytes (472 + 500) (7 ∷ []) ≡ 0
-unfolding computing
-any-contents-computes = refl
-
 pub damaged : Damaged
+unfolding computing
 damaged =
     record {
-      passes-whole = passes-whole-computes;
-      nothing = nothing-computes;
-      twenty-bytes = twenty-bytes-computes;
-      two-volumes = two-volumes-computes;
-      other-stamp = other-stamp-computes;
-      one-byte-more = one-byte-more-computes;
-      one-byte-less = one-byte-less-computes;
-      most-counts = most-counts-computes;
-      no-object = no-object-computes;
-      objects-over = objects-over-computes;
-      names-over = names-over-computes;
-      blocks-over = blocks-over-computes;
-      root-regular = root-regular-computes;
-      third-type = third-type-computes;
-      free-generation = free-generation-computes;
-      free-mode = free-mode-computes;
-      free-block = free-block-computes;
-      generation-most = generation-most-computes;
-      generation-over = generation-over-computes;
-      mode-most = mode-most-computes;
-      mode-over = mode-over-computes;
-      any-uid = any-uid-computes;
-      any-gid = any-gid-computes;
-      atime-most = atime-most-computes;
-      atime-over = atime-over-computes;
-      mtime-over = mtime-over-computes;
-      ctime-over = ctime-over-computes;
-      directory-size = directory-size-computes;
-      directory-block = directory-block-computes;
-      size-one-block = size-one-block-computes;
-      size-two-blocks = size-two-blocks-computes;
-      size-none = size-none-computes;
-      block-in-range = block-in-range-computes;
-      block-out-of-range = block-out-of-range-computes;
-      unused-block = unused-block-computes;
-      last-unused-block = last-unused-block-computes;
-      two-blocks = two-blocks-computes;
-      block-twice = block-twice-computes;
-      name-most = name-most-computes;
-      name-over = name-over-computes;
-      name-padding = name-padding-computes;
-      name-zero = name-zero-computes;
-      name-slash = name-slash-computes;
-      name-dot = name-dot-computes;
-      name-dots = name-dots-computes;
-      name-three-dots = name-three-dots-computes;
-      free-name = free-name-computes;
-      free-name-child = free-name-child-computes;
-      same-name = same-name-computes;
-      same-name-elsewhere = same-name-elsewhere-computes;
-      in-a-file = in-a-file-computes;
-      in-nothing = in-nothing-computes;
-      names-free = names-free-computes;
-      names-nothing = names-nothing-computes;
-      named-twice = named-twice-computes;
-      named-never = named-never-computes;
-      root-named = root-named-computes;
-      in-itself = in-itself-computes;
-      in-each-other = in-each-other-computes;
-      any-contents = any-contents-computes;
+      passes-whole = refl;
+      nothing = refl;
+      twenty-bytes = refl;
+      two-volumes = refl;
+      other-stamp = refl;
+      one-byte-more = refl;
+      one-byte-less = refl;
+      most-counts = refl;
+      no-object = refl;
+      objects-over = refl;
+      names-over = refl;
+      blocks-over = refl;
+      root-regular = refl;
+      third-type = refl;
+      free-generation = refl;
+      free-mode = refl;
+      free-block = refl;
+      generation-most = refl;
+      generation-over = refl;
+      mode-most = refl;
+      mode-over = refl;
+      any-uid = refl;
+      any-gid = refl;
+      atime-most = refl;
+      atime-over = refl;
+      mtime-over = refl;
+      ctime-over = refl;
+      directory-size = refl;
+      directory-block = refl;
+      size-one-block = refl;
+      size-two-blocks = refl;
+      size-none = refl;
+      block-in-range = refl;
+      block-out-of-range = refl;
+      unused-block = refl;
+      last-unused-block = refl;
+      two-blocks = refl;
+      block-twice = refl;
+      name-most = refl;
+      name-over = refl;
+      name-padding = refl;
+      name-zero = refl;
+      name-slash = refl;
+      name-dot = refl;
+      name-dots = refl;
+      name-three-dots = refl;
+      free-name = refl;
+      free-name-child = refl;
+      same-name = refl;
+      same-name-elsewhere = refl;
+      in-a-file = refl;
+      in-nothing = refl;
+      names-free = refl;
+      names-nothing = refl;
+      named-twice = refl;
+      named-never = refl;
+      root-named = refl;
+      in-itself = refl;
+      in-each-other = refl;
+      any-contents = refl;
     }

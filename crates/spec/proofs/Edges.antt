@@ -85,277 +85,62 @@ pub record Edges : Type 0 where
   pub format-count : format (zeros 20) 9 0 0 0 (record { seconds = 0; nanoseconds = 0 }) .number ≡ 6
   pub format-length : format (zeros 99) 9 1 0 0 (record { seconds = 0; nanoseconds = 0 }) .number ≡ 6
 
-space-first-computes : answerTo (zeros 8193) [] (zeros 4223) 1000000000 ≡ 2
-unfolding computing
-space-first-computes = refl
-
-clock-second-computes : answerTo (zeros 8193) [] (zeros 4224) 1000000000 ≡ 3
-unfolding computing
-clock-second-computes = refl
-
-call-third-computes : answerTo (zeros 8193) [] (zeros 4224) 999999999 ≡ 4
-unfolding computing
-call-third-computes = refl
-
-store-fourth-computes : answerTo (zeros 7) [] (zeros 4224) 999999999 ≡ 1
-unfolding computing
-store-fourth-computes = refl
-
-header-fifth-computes : answerTo (zeros 7) rootAlone (zeros 4224) 999999999 ≡ 5
-unfolding computing
-header-fifth-computes = refl
-
-type-not-call-computes : answerTo (words (7 ∷ 1 ∷ 2 ∷ [])) rootAlone space 0 ≡ 5
-unfolding computing
-type-not-call-computes = refl
-
-no-version-computes : answerTo (words (7 ∷ 0 ∷ [])) rootAlone space 0 ≡ 5
-unfolding computing
-no-version-computes = refl
-
-cut-header-computes : answerTo (words (7 ∷ 0 ∷ 2 ∷ 100003 ∷ 3 ∷ 0 ∷ 0 ∷ 0 ∷ 0 ∷ [])) rootAlone space 0 ≡ 5
-unfolding computing
-cut-header-computes = refl
-
-long-credential-computes : answerTo (words (7 ∷ 0 ∷ 2 ∷ 100003 ∷ 3 ∷ 0 ∷ 0 ∷ 401 ∷ []) ++ zeros 412) rootAlone space 0 ≡ 5
-unfolding computing
-long-credential-computes = refl
-
-credential-fits-computes : answerTo (words (7 ∷ 0 ∷ 2 ∷ 100003 ∷ 3 ∷ 0 ∷ 0 ∷ 400 ∷ []) ++ zeros 408) rootAlone space 0 ≡ 0
-unfolding computing
-credential-fits-computes = refl
-
-other-rpc-computes : served (words (7 ∷ 0 ∷ 3 ∷ [])) rootAlone ≡ replied (words (7 ∷ 1 ∷ 1 ∷ 0 ∷ 2 ∷ 2 ∷ [])) rootAlone
-unfolding computing
-other-rpc-computes = refl
-
-other-program-computes : served (words (7 ∷ 0 ∷ 2 ∷ 100005 ∷ 4 ∷ 22 ∷ 0 ∷ 0 ∷ 0 ∷ 0 ∷ [])) rootAlone ≡ replied (words (7 ∷ 1 ∷ 0 ∷ 0 ∷ 0 ∷ 1 ∷ [])) rootAlone
-unfolding computing
-other-program-computes = refl
-
-other-version-computes : served (words (7 ∷ 0 ∷ 2 ∷ 100003 ∷ 2 ∷ 22 ∷ 0 ∷ 0 ∷ 0 ∷ 0 ∷ [])) rootAlone ≡ replied (words (7 ∷ 1 ∷ 0 ∷ 0 ∷ 0 ∷ 2 ∷ 3 ∷ 3 ∷ [])) rootAlone
-unfolding computing
-other-version-computes = refl
-
-other-procedure-computes : served (callTo 22 []) rootAlone ≡ replied (words (7 ∷ 1 ∷ 0 ∷ 0 ∷ 0 ∷ 3 ∷ [])) rootAlone
-unfolding computing
-other-procedure-computes = refl
-
-left-over-computes : served (callTo 0 (words (0 ∷ []))) rootAlone ≡ replied (words (7 ∷ 1 ∷ 0 ∷ 0 ∷ 0 ∷ 4 ∷ [])) rootAlone
-unfolding computing
-left-over-computes = refl
-
-long-handle-computes : served (callTo 1 (words (65 ∷ []) ++ zeros 68)) rootAlone ≡ replied (words (7 ∷ 1 ∷ 0 ∷ 0 ∷ 0 ∷ 4 ∷ [])) rootAlone
-unfolding computing
-long-handle-computes = refl
-
-not-served-computes : served (callTo 15 (words (9 ∷ []))) rootAlone ≡ replied (answered (10004 ∷ 0 ∷ 0 ∷ 0 ∷ [])) rootAlone
-unfolding computing
-not-served-computes = refl
-
-bad-handle-computes : served (callTo 14 (words (0 ∷ 0 ∷ 0 ∷ 0 ∷ []))) rootAlone ≡ replied (answered (10001 ∷ 0 ∷ 0 ∷ 0 ∷ 0 ∷ [])) rootAlone
-unfolding computing
-bad-handle-computes = refl
-
-object-past-end-computes : statusIn (served (getattrCall 1) rootAlone) ≡ 10001
-unfolding computing
-object-past-end-computes = refl
-
-guard-first-computes : statusIn (served (setattrCall 0 (1 ∷ 4096 ∷ 0 ∷ 0 ∷ 0 ∷ 0 ∷ 0 ∷ 1 ∷ 0 ∷ 0 ∷ [])) rootAlone) ≡ 10002
-unfolding computing
-guard-first-computes = refl
-
-mode-over-computes : statusIn (served (setattrCall 0 (1 ∷ 4096 ∷ 0 ∷ 0 ∷ 0 ∷ 0 ∷ 0 ∷ 0 ∷ [])) rootAlone) ≡ 22
-unfolding computing
-mode-over-computes = refl
-
-mode-fits-computes : statusIn (served (setattrCall 0 (1 ∷ 4095 ∷ 0 ∷ 0 ∷ 0 ∷ 0 ∷ 0 ∷ 0 ∷ [])) rootAlone) ≡ 0
-unfolding computing
-mode-fits-computes = refl
-
-directory-size-computes : statusIn (served (setattrCall 0 (0 ∷ 0 ∷ 0 ∷ 1 ∷ 0 ∷ 0 ∷ 0 ∷ 0 ∷ 0 ∷ [])) rootAlone) ≡ 22
-unfolding computing
-directory-size-computes = refl
-
-no-room-computes : statusIn (served (setattrCall 1 (0 ∷ 0 ∷ 0 ∷ 1 ∷ 0 ∷ 513 ∷ 0 ∷ 0 ∷ 0 ∷ [])) (after (createCall nameA ∷ []) (fresh 2 1 1))) ≡ 28
-unfolding computing
-no-room-computes = refl
-
-exclusive-computes : statusIn (served (createBy [] (2 ∷ 0 ∷ 0 ∷ [])) rootAlone) ≡ 10004
-unfolding computing
-exclusive-computes = refl
-
-empty-name-computes : statusIn (served (createCall []) rootAlone) ≡ 13
-unfolding computing
-empty-name-computes = refl
-
-long-name-computes : statusIn (served (createCall (replicate 33 0x61)) rootAlone) ≡ 63
-unfolding computing
-long-name-computes = refl
-
-create-dot-computes : statusIn (served (createBy (0x2E ∷ []) (0 ∷ 1 ∷ 4096 ∷ 0 ∷ 0 ∷ 0 ∷ 0 ∷ 0 ∷ [])) rootAlone) ≡ 17
-unfolding computing
-create-dot-computes = refl
-
-invalid-first-computes : statusIn (served (createBy nameA (1 ∷ 1 ∷ 4096 ∷ 0 ∷ 0 ∷ 0 ∷ 0 ∷ 0 ∷ [])) withA) ≡ 22
-unfolding computing
-invalid-first-computes = refl
-
-guarded-computes : statusIn (served (createBy nameA (1 ∷ 0 ∷ 0 ∷ 0 ∷ 0 ∷ 0 ∷ 0 ∷ [])) withA) ≡ 17
-unfolding computing
-guarded-computes = refl
-
-mkdir-size-computes : statusIn (served (mkdirBy nameA (0 ∷ 0 ∷ 0 ∷ 1 ∷ 0 ∷ 0 ∷ 0 ∷ 0 ∷ [])) withA) ≡ 22
-unfolding computing
-mkdir-size-computes = refl
-
-remove-dot-computes : statusIn (served (removeCall (0x2E ∷ [])) withA) ≡ 13
-unfolding computing
-remove-dot-computes = refl
-
-remove-none-computes : statusIn (served (removeCall nameB) withA) ≡ 2
-unfolding computing
-remove-none-computes = refl
-
-remove-directory-computes : statusIn (served (removeCall nameA) twoDirectories) ≡ 13
-unfolding computing
-remove-directory-computes = refl
-
-rmdir-dot-computes : statusIn (served (rmdirCall (0x2E ∷ [])) withA) ≡ 22
-unfolding computing
-rmdir-dot-computes = refl
-
-rmdir-file-computes : statusIn (served (rmdirCall nameA) withA) ≡ 20
-unfolding computing
-rmdir-file-computes = refl
-
-rmdir-full-computes : statusIn (served (rmdirCall nameA) twoDirectories) ≡ 66
-unfolding computing
-rmdir-full-computes = refl
-
-generation-raised-computes : wordAfter (removeCall nameA) withA (12 + 80 + 4) ≡ 1
-unfolding computing
-generation-raised-computes = refl
-
-stale-after-computes : statusIn (served (getattrCall 1) (after (removeCall nameA ∷ createCall nameB ∷ []) withA)) ≡ 70
-unfolding computing
-stale-after-computes = refl
-
-rename-exists-computes : statusIn (served (renameCall 0 nameA 1 nameB) twoDirectories) ≡ 17
-unfolding computing
-rename-exists-computes = refl
-
-rename-below-computes : statusIn (served (renameCall 0 nameA 2 nameA) twoDirectories) ≡ 22
-unfolding computing
-rename-below-computes = refl
-
-rename-itself-computes : statusIn (served (renameCall 0 nameA 1 nameA) twoDirectories) ≡ 22
-unfolding computing
-rename-itself-computes = refl
-
-rename-up-computes : check (after (renameCall 1 nameB 0 nameB ∷ []) twoDirectories) ≡ 0
-unfolding computing
-rename-up-computes = refl
-
-count-first-computes : statusIn (served (callTo 7 (handleTo 1 ++ words (0 ∷ 9000 ∷ 2 ∷ 2 ∷ []) ++ opaqueBytes nameA)) withA) ≡ 22
-unfolding computing
-count-first-computes = refl
-
-huge-offset-computes : statusIn (served (callTo 7 (handleTo 1 ++ words (4294967295 ∷ 4294967295 ∷ 1 ∷ 2 ∷ []) ++ opaqueBytes nameA)) withA) ≡ 27
-unfolding computing
-huge-offset-computes = refl
-
-bad-cookie-computes : statusIn (served (callTo 16 (handleTo 0 ++ words (0 ∷ 0 ∷ 0 ∷ 1 ∷ 0 ∷ []))) rootAlone) ≡ 10003
-unfolding computing
-bad-cookie-computes = refl
-
-nothing-fits-computes : statusIn (served (readdirCall 2 103) rootAlone) ≡ 10005
-unfolding computing
-nothing-fits-computes = refl
-
-access-directory-computes : served (callTo 4 (handleTo 0 ++ words (0xFFFFFFFF ∷ []))) rootAlone ≡ replied (answered (0 ∷ 1 ∷ rootWords ++ (0x1F ∷ []))) rootAlone
-unfolding computing
-access-directory-computes = refl
-
-fsstat-computes : served (callTo 18 (handleTo 0)) (fresh 1 0 0) ≡ replied (answered (0 ∷ 1 ∷ rootWords ++ (0 ∷ 0 ∷ 0 ∷ 0 ∷ 0 ∷ 0 ∷ 0 ∷ 1 ∷ 0 ∷ 0 ∷ 0 ∷ 0 ∷ 0 ∷ []))) rootAlone
-unfolding computing
-fsstat-computes = refl
-
-fsinfo-computes : served (callTo 19 (handleTo 0)) rootAlone ≡ replied (answered (0 ∷ 1 ∷ rootWords ++ (4096 ∷ 4096 ∷ 1 ∷ 4096 ∷ 4096 ∷ 1 ∷ 4096 ∷ 0 ∷ 8192 ∷ 0 ∷ 1 ∷ 0x18 ∷ []))) rootAlone
-unfolding computing
-fsinfo-computes = refl
-
-pathconf-computes : served (callTo 20 (handleTo 0)) rootAlone ≡ replied (answered (0 ∷ 1 ∷ rootWords ++ (1 ∷ 32 ∷ 1 ∷ 0 ∷ 0 ∷ 1 ∷ []))) rootAlone
-unfolding computing
-pathconf-computes = refl
-
-format-clock-computes : format (zeros 99) 9 0 0 0 (record { seconds = 0; nanoseconds = 1000000000 }) .number ≡ 3
-unfolding computing
-format-clock-computes = refl
-
-format-count-computes : format (zeros 20) 9 0 0 0 (record { seconds = 0; nanoseconds = 0 }) .number ≡ 6
-unfolding computing
-format-count-computes = refl
-
-format-length-computes : format (zeros 99) 9 1 0 0 (record { seconds = 0; nanoseconds = 0 }) .number ≡ 6
-unfolding computing
-format-length-computes = refl
-
 pub edges : Edges
+unfolding computing
 edges =
     record {
-      space-first = space-first-computes;
-      clock-second = clock-second-computes;
-      call-third = call-third-computes;
-      store-fourth = store-fourth-computes;
-      header-fifth = header-fifth-computes;
-      type-not-call = type-not-call-computes;
-      no-version = no-version-computes;
-      cut-header = cut-header-computes;
-      long-credential = long-credential-computes;
-      credential-fits = credential-fits-computes;
-      other-rpc = other-rpc-computes;
-      other-program = other-program-computes;
-      other-version = other-version-computes;
-      other-procedure = other-procedure-computes;
-      left-over = left-over-computes;
-      long-handle = long-handle-computes;
-      not-served = not-served-computes;
-      bad-handle = bad-handle-computes;
-      object-past-end = object-past-end-computes;
-      guard-first = guard-first-computes;
-      mode-over = mode-over-computes;
-      mode-fits = mode-fits-computes;
-      directory-size = directory-size-computes;
-      no-room = no-room-computes;
-      exclusive = exclusive-computes;
-      empty-name = empty-name-computes;
-      long-name = long-name-computes;
-      create-dot = create-dot-computes;
-      invalid-first = invalid-first-computes;
-      guarded = guarded-computes;
-      mkdir-size = mkdir-size-computes;
-      remove-dot = remove-dot-computes;
-      remove-none = remove-none-computes;
-      remove-directory = remove-directory-computes;
-      rmdir-dot = rmdir-dot-computes;
-      rmdir-file = rmdir-file-computes;
-      rmdir-full = rmdir-full-computes;
-      generation-raised = generation-raised-computes;
-      stale-after = stale-after-computes;
-      rename-exists = rename-exists-computes;
-      rename-below = rename-below-computes;
-      rename-itself = rename-itself-computes;
-      rename-up = rename-up-computes;
-      count-first = count-first-computes;
-      huge-offset = huge-offset-computes;
-      bad-cookie = bad-cookie-computes;
-      nothing-fits = nothing-fits-computes;
-      access-directory = access-directory-computes;
-      fsstat = fsstat-computes;
-      fsinfo = fsinfo-computes;
-      pathconf = pathconf-computes;
-      format-clock = format-clock-computes;
-      format-count = format-count-computes;
-      format-length = format-length-computes;
+      space-first = refl;
+      clock-second = refl;
+      call-third = refl;
+      store-fourth = refl;
+      header-fifth = refl;
+      type-not-call = refl;
+      no-version = refl;
+      cut-header = refl;
+      long-credential = refl;
+      credential-fits = refl;
+      other-rpc = refl;
+      other-program = refl;
+      other-version = refl;
+      other-procedure = refl;
+      left-over = refl;
+      long-handle = refl;
+      not-served = refl;
+      bad-handle = refl;
+      object-past-end = refl;
+      guard-first = refl;
+      mode-over = refl;
+      mode-fits = refl;
+      directory-size = refl;
+      no-room = refl;
+      exclusive = refl;
+      empty-name = refl;
+      long-name = refl;
+      create-dot = refl;
+      invalid-first = refl;
+      guarded = refl;
+      mkdir-size = refl;
+      remove-dot = refl;
+      remove-none = refl;
+      remove-directory = refl;
+      rmdir-dot = refl;
+      rmdir-file = refl;
+      rmdir-full = refl;
+      generation-raised = refl;
+      stale-after = refl;
+      rename-exists = refl;
+      rename-below = refl;
+      rename-itself = refl;
+      rename-up = refl;
+      count-first = refl;
+      huge-offset = refl;
+      bad-cookie = refl;
+      nothing-fits = refl;
+      access-directory = refl;
+      fsstat = refl;
+      fsinfo = refl;
+      pathconf = refl;
+      format-clock = refl;
+      format-count = refl;
+      format-length = refl;
     }
