@@ -1,4 +1,5 @@
 pub mod ActGood
+pub mod Answers
 pub mod Apart
 pub mod ArgumentRange
 pub mod Arguments

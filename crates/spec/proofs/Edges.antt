@@ -6,11 +6,7 @@ use mathlib.Core.Path.{_≡_, refl}
 use Rattle.spec.specs.Bytes.{zeros, beAt, words, opaqueBytes}
 use Rattle.spec.specs.Image.{Store}
 use Rattle.spec.specs.Serve.{check, format}
-use Rattle.spec.proofs.Setting.{space, fresh, callTo, served, after, replied, answered, statusIn, handleTo, getattrCall, createCall, mkdirCall, removeCall, readdirCall, rootWords, nameA, rootAlone, withA, setattrCall, createBy, mkdirBy, rmdirCall, renameCall, nameB, answerTo, computing}
-
--- the directory "a" with the directory "b" in it, and room for one object more
-abbrev pub twoDirectories : Store
-twoDirectories = after (mkdirCall nameA ∷ callTo 9 (handleTo 1 ++ opaqueBytes nameB ++ words (0 ∷ 0 ∷ 0 ∷ 0 ∷ 0 ∷ 0 ∷ [])) ∷ []) (fresh 4 3 0)
+use Rattle.spec.proofs.Setting.{space, fresh, callTo, served, after, replied, answered, statusIn, handleTo, getattrCall, createCall, mkdirCall, removeCall, readdirCall, rootWords, nameA, rootAlone, withoutBlocks, setattrCall, createBy, mkdirBy, rmdirCall, renameCall, nameB, answerTo, twoDirectories, threeDirectories, computing}
 
 -- what a record of the store holds after a call: four bytes at an index
 abbrev pub wordAfter : List ℕ → Store → ℕ → ℕ
@@ -51,27 +47,29 @@ pub record Edges : Type 0 where
   pub empty-name : statusIn (served (createCall []) rootAlone) ≡ 13
   pub long-name : statusIn (served (createCall (replicate 33 0x61)) rootAlone) ≡ 63
   pub create-dot : statusIn (served (createBy (0x2E ∷ []) (0 ∷ 1 ∷ 4096 ∷ 0 ∷ 0 ∷ 0 ∷ 0 ∷ 0 ∷ [])) rootAlone) ≡ 17
-  pub invalid-first : statusIn (served (createBy nameA (1 ∷ 1 ∷ 4096 ∷ 0 ∷ 0 ∷ 0 ∷ 0 ∷ 0 ∷ [])) withA) ≡ 22
-  pub guarded : statusIn (served (createBy nameA (1 ∷ 0 ∷ 0 ∷ 0 ∷ 0 ∷ 0 ∷ 0 ∷ [])) withA) ≡ 17
-  pub mkdir-size : statusIn (served (mkdirBy nameA (0 ∷ 0 ∷ 0 ∷ 1 ∷ 0 ∷ 0 ∷ 0 ∷ 0 ∷ [])) withA) ≡ 22
+  pub invalid-first : statusIn (served (createBy nameA (1 ∷ 1 ∷ 4096 ∷ 0 ∷ 0 ∷ 0 ∷ 0 ∷ 0 ∷ [])) withoutBlocks) ≡ 22
+  pub guarded : statusIn (served (createBy nameA (1 ∷ 0 ∷ 0 ∷ 0 ∷ 0 ∷ 0 ∷ 0 ∷ [])) withoutBlocks) ≡ 17
+  pub mkdir-size : statusIn (served (mkdirBy nameA (0 ∷ 0 ∷ 0 ∷ 1 ∷ 0 ∷ 0 ∷ 0 ∷ 0 ∷ [])) withoutBlocks) ≡ 22
   -- REMOVE and RMDIR: dots, NOENT, the wrong type
-  pub remove-dot : statusIn (served (removeCall (0x2E ∷ [])) withA) ≡ 13
-  pub remove-none : statusIn (served (removeCall nameB) withA) ≡ 2
+  pub remove-dot : statusIn (served (removeCall (0x2E ∷ [])) withoutBlocks) ≡ 13
+  pub remove-none : statusIn (served (removeCall nameB) withoutBlocks) ≡ 2
   pub remove-directory : statusIn (served (removeCall nameA) twoDirectories) ≡ 13
-  pub rmdir-dot : statusIn (served (rmdirCall (0x2E ∷ [])) withA) ≡ 22
-  pub rmdir-file : statusIn (served (rmdirCall nameA) withA) ≡ 20
+  pub rmdir-dot : statusIn (served (rmdirCall (0x2E ∷ [])) withoutBlocks) ≡ 22
+  pub rmdir-file : statusIn (served (rmdirCall nameA) withoutBlocks) ≡ 20
   pub rmdir-full : statusIn (served (rmdirCall nameA) twoDirectories) ≡ 66
   -- "Freeing an object raises its generation by one"; the handle is STALE ever after
-  pub generation-raised : wordAfter (removeCall nameA) withA (12 + 80 + 4) ≡ 1
-  pub stale-after : statusIn (served (getattrCall 1) (after (removeCall nameA ∷ createCall nameB ∷ []) withA)) ≡ 70
+  pub generation-raised : wordAfter (removeCall nameA) withoutBlocks (12 + 80 + 4) ≡ 1
+  pub stale-after : statusIn (served (getattrCall 1) (after (removeCall nameA ∷ createCall nameB ∷ []) withoutBlocks)) ≡ 70
   -- RENAME: EXIST before "a directory into itself or below, INVAL"
   pub rename-exists : statusIn (served (renameCall 0 nameA 1 nameB) twoDirectories) ≡ 17
   pub rename-below : statusIn (served (renameCall 0 nameA 2 nameA) twoDirectories) ≡ 22
   pub rename-itself : statusIn (served (renameCall 0 nameA 1 nameA) twoDirectories) ≡ 22
+  -- "Testing only the immediate parent": a into a/b/c
+  pub rename-deep : statusIn (served (renameCall 0 nameA 3 nameA) threeDirectories) ≡ 22
   pub rename-up : check (after (renameCall 1 nameB 0 nameB ∷ []) twoDirectories) ≡ 0
   -- WRITE: INVAL before FBIG; READDIR: BAD_COOKIE before TOOSMALL; TOOSMALL below 104 even if nothing remains
-  pub count-first : statusIn (served (callTo 7 (handleTo 1 ++ words (0 ∷ 9000 ∷ 2 ∷ 2 ∷ []) ++ opaqueBytes nameA)) withA) ≡ 22
-  pub huge-offset : statusIn (served (callTo 7 (handleTo 1 ++ words (4294967295 ∷ 4294967295 ∷ 1 ∷ 2 ∷ []) ++ opaqueBytes nameA)) withA) ≡ 27
+  pub count-first : statusIn (served (callTo 7 (handleTo 1 ++ words (0 ∷ 9000 ∷ 2 ∷ 2 ∷ []) ++ opaqueBytes nameA)) withoutBlocks) ≡ 22
+  pub huge-offset : statusIn (served (callTo 7 (handleTo 1 ++ words (4294967295 ∷ 4294967295 ∷ 1 ∷ 2 ∷ []) ++ opaqueBytes nameA)) withoutBlocks) ≡ 27
   pub bad-cookie : statusIn (served (callTo 16 (handleTo 0 ++ words (0 ∷ 0 ∷ 0 ∷ 1 ∷ 0 ∷ []))) rootAlone) ≡ 10003
   pub nothing-fits : statusIn (served (readdirCall 2 103) rootAlone) ≡ 10005
   -- ACCESS: bits within 0x1F for directories, 0x2D for files
@@ -131,6 +129,7 @@ edges =
       rename-exists = refl;
       rename-below = refl;
       rename-itself = refl;
+      rename-deep = refl;
       rename-up = refl;
       count-first = refl;
       huge-offset = refl;

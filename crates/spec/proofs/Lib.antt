@@ -1,4 +1,3 @@
-pub mod Answers
 pub mod Edges
 pub mod Setting
 pub mod Starred

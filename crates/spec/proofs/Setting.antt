@@ -107,12 +107,16 @@ tag123456789 = 0x31 ∷ 0x32 ∷ 0x33 ∷ 0x34 ∷ 0x35 ∷ 0x36 ∷ 0x37 ∷ 0x
 abbrev pub nameA : List ℕ
 nameA = 0x61 ∷ []
 
--- a store with a root alone; with the file "a" and room for sixteen blocks; with both tags, of which one holds "A" and the other "BC"
+-- a store with a root alone; with the file "a" and room for sixteen blocks; with the file "a" and no blocks; with both tags, of which one holds
+-- "A" and the other "BC"
 abbrev pub rootAlone : Store
 rootAlone = fresh 1 0 0
 
 abbrev pub withA : Store
 withA = after (createCall nameA ∷ []) (fresh 2 1 16)
+
+abbrev pub withoutBlocks : Store
+withoutBlocks = after (createCall nameA ∷ []) (fresh 2 1 0)
 
 abbrev pub withTags : Store
 withTags = after (createCall tag0123456789 ∷ createCall tag123456789 ∷ writeCall 1 0 (0x41 ∷ []) ∷ writeCall 2 0 (0x42 ∷ 0x43 ∷ []) ∷ []) (fresh 3 2 2)
@@ -153,6 +157,13 @@ nameC = 0x63 ∷ []
 -- MKDIR of a name in directory d, with nothing set
 abbrev pub mkdirIn : ℕ → List ℕ → List ℕ
 mkdirIn d name = callTo 9 (handleTo d ++ opaqueBytes name ++ words (0 ∷ 0 ∷ 0 ∷ 0 ∷ 0 ∷ 0 ∷ []))
+
+-- the directories a and a/b with room for one object more; the directories a, a/b and a/b/c
+abbrev pub twoDirectories : Store
+twoDirectories = after (mkdirIn 0 nameA ∷ mkdirIn 1 nameB ∷ []) (fresh 4 3 0)
+
+abbrev pub threeDirectories : Store
+threeDirectories = after (mkdirIn 2 nameC ∷ []) twoDirectories
 
 -- another clock: 7 s 8 ns
 abbrev pub later : Context

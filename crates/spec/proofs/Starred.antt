@@ -6,13 +6,8 @@ use mathlib.Core.List.{[], _∷_, _++_, map}
 use mathlib.Core.Path.{_≡_, refl}
 use Rattle.spec.specs.Bytes.{part, words}
 use Rattle.spec.specs.Count.{passing}
-use Rattle.spec.specs.Image.{Store}
 use Rattle.spec.specs.Serve.{check}
-use Rattle.spec.proofs.Setting.{space, fresh, callTo, served, after, replied, answered, statusIn, handleTo, getattrCall, lookupCall, createCall, mkdirCall, writeCall, readCall, readdirCall, rootWords, tag0123456789, tag123456789, nameA, rootAlone, withA, withTags, fileRead, computing}
-
--- a store with the file "a" and no blocks
-abbrev pub withoutBlocks : Store
-withoutBlocks = after (createCall nameA ∷ []) (fresh 2 1 0)
+use Rattle.spec.proofs.Setting.{space, fresh, callTo, served, replied, answered, statusIn, handleTo, getattrCall, lookupCall, createCall, mkdirCall, writeCall, readCall, readdirCall, rootWords, tag0123456789, tag123456789, nameA, rootAlone, withA, withoutBlocks, withTags, fileRead, computing}
 
 pub record Starred : Type 0 where
   -- "NULL, xid 7: words 7 1 0 0 0 0."

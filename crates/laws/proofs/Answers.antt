@@ -5,17 +5,13 @@ use lib.ListN.{length, take, drop, replicate}
 use mathlib.Core.Bool.{Bool, true}
 use mathlib.Core.List.{List, [], _∷_, _++_}
 use mathlib.Core.Path.{_≡_, refl}
 use Rattle.spec.specs.Bytes.{part, zeros, beAt, words, opaqueBytes}
 use Rattle.spec.specs.Checked.{passed}
 use Rattle.spec.specs.Image.{Store}
 use Rattle.spec.specs.Procedures.Data.{readLength, checkWrite}
 use Rattle.spec.specs.Serve.{serve}
 use Rattle.spec.specs.Xdr.{number}
-use Rattle.spec.proofs.Setting.{context, space, fresh, callTo, served, after, statusIn, handleTo, getattrCall, lookupCall, createCall, mkdirCall, removeCall, writeCall, readCall, readdirCall, rootWords, nameA, rootAlone, withA, setattrCall, createBy, rmdirCall, renameCall, nameB, answerTo, nameC, mkdirIn, later, computing}
-
--- the directories a, a/b and a/b/c
-abbrev pub threeDirectories : Store
-threeDirectories = after (mkdirIn 0 nameA ∷ mkdirIn 1 nameB ∷ mkdirIn 2 nameC ∷ []) (fresh 4 3 0)
+use Rattle.spec.proofs.Setting.{context, space, fresh, callTo, served, after, statusIn, handleTo, getattrCall, lookupCall, createCall, mkdirCall, removeCall, writeCall, readCall, readdirCall, rootWords, nameA, rootAlone, withA, setattrCall, createBy, rmdirCall, renameCall, nameB, answerTo, nameC, threeDirectories, later, computing}
 
 -- a store whose one record beside the root is free, of generation 4,294,967,295
 abbrev pub spent : Store
@@ -90,11 +86,10 @@ pub record Answers : Type 0 where
   pub recreate-grows : statusIn (served (createBy nameA (0 ∷ sizeOnly 1)) (after (createCall nameA ∷ []) (fresh 2 1 0))) ≡ 28
   pub recreate-directory : statusIn (served (createCall nameA) threeDirectories) ≡ 17
   pub mkdir-exists : statusIn (served (mkdirCall nameA) threeDirectories) ≡ 17
-  -- RENAME: dots; "Testing only the immediate parent": a into a/b/c; "failure bodies carry" each handle's own change
+  -- RENAME: dots; "failure bodies carry" each handle's own change
   pub rename-dot : statusIn (served (renameCall 0 (0x2E ∷ []) 0 nameB) withA) ≡ 22
   pub rename-to-dots : statusIn (served (renameCall 0 nameA 0 (0x2E ∷ 0x2E ∷ [])) withA) ≡ 22
   pub rename-none : statusIn (served (renameCall 0 nameB 0 nameC) withA) ≡ 2
-  pub rename-deep : statusIn (served (renameCall 0 nameA 3 nameA) threeDirectories) ≡ 22
   pub one-dead : replyFrom (callTo 14 (handleTo 0 ++ opaqueBytes nameA ++ words (0 ∷ []) ++ opaqueBytes nameA)) rootAlone 24 ≡ words (10001 ∷ 1 ∷ 0 ∷ 512 ∷ 5 ∷ 6 ∷ 5 ∷ 6 ∷ 1 ∷ rootWords ++ (0 ∷ 0 ∷ []))
   -- READDIR: "fileid object plus 1"; "name record s has s + 3": the listing of the root above cookie 2
   pub entry : replyFrom (readdirCall 2 4096) withA 124 ≡ words (1 ∷ 0 ∷ 2 ∷ 1 ∷ 0x61000000 ∷ 0 ∷ 3 ∷ 0 ∷ 1 ∷ [])
@@ -165,7 +160,6 @@ answers =
       rename-dot = refl;
       rename-to-dots = refl;
       rename-none = refl;
-      rename-deep = refl;
       one-dead = refl;
       entry = refl;
       no-entry = refl;
