@@ -1,172 +1,179 @@
 use borrow.Author.Tests.{ne-eqb}
 use borrow.Author.Needs.{needs}
-use Rattle.spec.specs.Arguments.{arguments}
+use Rattle.spec.specs.Arguments.{arguments, setattrArguments, accessArguments, readArguments, writeArguments, createArguments, mkdirArguments, renameArguments, readdirArguments, commitArguments}
+use Rattle.handle_args.specs.After as handled
+use Rattle.name_args.specs.After as named
 use Rattle.args.proofs.arguments_at.Statement.{statement}
 use Rattle.args.proofs.arguments_at.Tie as tie
 
-finish-requires : tie.Need-finish-requires
-finish-requires c κs = search needs
+null-requires : tie.Need-null-requires
+null-requires c κs = search needs
 
-getattr-requires : tie.Need-getattr-requires
-getattr-requires c κs = search needs
+of-handle-requires : tie.Need-of-handle-requires
+of-handle-requires c κs = search needs
 
-setattr-requires : tie.Need-setattr-requires
-setattr-requires c κs = search needs
+of-handle-requires-2 : tie.Need-of-handle-requires-2
+of-handle-requires-2 c κs = search needs
 
-lookup-requires : tie.Need-lookup-requires
-lookup-requires c κs = search needs
+of-name-requires : tie.Need-of-name-requires
+of-name-requires c κs = search needs
 
-access-requires : tie.Need-access-requires
-access-requires c κs = search needs
+of-handle-requires-3 : tie.Need-of-handle-requires-3
+of-handle-requires-3 c κs = search needs
 
-read-requires : tie.Need-read-requires
-read-requires c κs = search needs
+of-handle-requires-4 : tie.Need-of-handle-requires-4
+of-handle-requires-4 c κs = search needs
 
-write-requires : tie.Need-write-requires
-write-requires c κs = search needs
+of-handle-requires-5 : tie.Need-of-handle-requires-5
+of-handle-requires-5 c κs = search needs
 
-create-requires : tie.Need-create-requires
-create-requires c κs = search needs
+of-name-requires-2 : tie.Need-of-name-requires-2
+of-name-requires-2 c κs = search needs
 
-mkdir-requires : tie.Need-mkdir-requires
-mkdir-requires c κs = search needs
+of-name-requires-3 : tie.Need-of-name-requires-3
+of-name-requires-3 c κs = search needs
 
-remove-requires : tie.Need-remove-requires
-remove-requires c κs = search needs
+of-name-requires-4 : tie.Need-of-name-requires-4
+of-name-requires-4 c κs = search needs
 
-rmdir-requires : tie.Need-rmdir-requires
-rmdir-requires c κs = search needs
+of-name-requires-5 : tie.Need-of-name-requires-5
+of-name-requires-5 c κs = search needs
 
-rename-requires : tie.Need-rename-requires
-rename-requires c κs = search needs
+of-name-requires-6 : tie.Need-of-name-requires-6
+of-name-requires-6 c κs = search needs
 
-readdir-requires : tie.Need-readdir-requires
-readdir-requires c κs = search needs
+of-handle-requires-6 : tie.Need-of-handle-requires-6
+of-handle-requires-6 c κs = search needs
 
-fsstat-requires : tie.Need-fsstat-requires
-fsstat-requires c κs = search needs
+of-handle-requires-7 : tie.Need-of-handle-requires-7
+of-handle-requires-7 c κs = search needs
 
-fsinfo-requires : tie.Need-fsinfo-requires
-fsinfo-requires c κs = search needs
+of-handle-requires-8 : tie.Need-of-handle-requires-8
+of-handle-requires-8 c κs = search needs
 
-pathconf-requires : tie.Need-pathconf-requires
-pathconf-requires c κs = search needs
+of-handle-requires-9 : tie.Need-of-handle-requires-9
+of-handle-requires-9 c κs = search needs
 
-commit-requires : tie.Need-commit-requires
-commit-requires c κs = search needs
+of-handle-requires-10 : tie.Need-of-handle-requires-10
+of-handle-requires-10 c κs = search needs
+
+unserved-requires : tie.Need-unserved-requires
+unserved-requires c κs = search needs
 
 returns : tie.Need-returns
 unfolding arguments
-returns c = rw (c .before .match .keys1, c .finish .ensures)
+returns c = rw (c .null .ensures, c .before .match .keys1)
 
 returns-2 : tie.Need-returns-2
-unfolding arguments
-returns-2 c = rw (c .before .match .keys2, c .getattr .ensures)
+unfolding arguments handled.after handled.alone
+returns-2 c = rw (c .of-handle .ensures, c .before .match .keys2)
 
 returns-3 : tie.Need-returns-3
-unfolding arguments
-returns-3 c = rw (c .before .match .keys3, c .setattr .ensures)
+unfolding arguments setattrArguments handled.after
+returns-3 c = rw (c .of-handle2 .ensures, c .before .match .keys3)
 
 returns-4 : tie.Need-returns-4
-unfolding arguments
-returns-4 c = rw (c .before .match .keys4, c .lookup .ensures)
+unfolding arguments named.after named.alone
+returns-4 c = rw (c .of-name .ensures, c .before .match .keys4)
 
 returns-5 : tie.Need-returns-5
-unfolding arguments
-returns-5 c = rw (c .before .match .keys5, c .access .ensures)
+unfolding arguments accessArguments handled.after
+returns-5 c = rw (c .of-handle3 .ensures, c .before .match .keys5)
 
 returns-6 : tie.Need-returns-6
-unfolding arguments
-returns-6 c = rw (c .before .match .keys6, c .read .ensures)
+unfolding arguments readArguments handled.after
+returns-6 c = rw (c .of-handle4 .ensures, c .before .match .keys6)
 
 returns-7 : tie.Need-returns-7
-unfolding arguments
-returns-7 c = rw (c .before .match .keys7, c .write .ensures)
+unfolding arguments writeArguments handled.after
+returns-7 c = rw (c .of-handle5 .ensures, c .before .match .keys7)
 
 returns-8 : tie.Need-returns-8
-unfolding arguments
-returns-8 c = rw (c .before .match .keys8, c .create .ensures)
+unfolding arguments createArguments named.after
+returns-8 c = rw (c .of-name2 .ensures, c .before .match .keys8)
 
 returns-9 : tie.Need-returns-9
-unfolding arguments
-returns-9 c = rw (c .before .match .keys9, c .mkdir .ensures)
+unfolding arguments mkdirArguments named.after
+returns-9 c = rw (c .of-name3 .ensures, c .before .match .keys9)
 
 returns-10 : tie.Need-returns-10
-unfolding arguments
-returns-10 c = rw (c .before .match .keys10, c .remove .ensures)
+unfolding arguments named.after named.alone
+returns-10 c = rw (c .of-name4 .ensures, c .before .match .keys10)
 
 returns-11 : tie.Need-returns-11
-unfolding arguments
-returns-11 c = rw (c .before .match .keys11, c .rmdir .ensures)
+unfolding arguments named.after named.alone
+returns-11 c = rw (c .of-name5 .ensures, c .before .match .keys11)
 
 returns-12 : tie.Need-returns-12
-unfolding arguments
-returns-12 c = rw (c .before .match .keys12, c .rename .ensures)
+unfolding arguments renameArguments named.after
+returns-12 c = rw (c .of-name6 .ensures, c .before .match .keys12)
 
 returns-13 : tie.Need-returns-13
-unfolding arguments
-returns-13 c = rw (c .before .match .keys13, c .readdir .ensures)
+unfolding arguments readdirArguments handled.after
+returns-13 c = rw (c .of-handle6 .ensures, c .before .match .keys13)
 
 returns-14 : tie.Need-returns-14
-unfolding arguments
-returns-14 c = rw (c .before .match .keys14, c .fsstat .ensures)
+unfolding arguments handled.after handled.alone
+returns-14 c = rw (c .of-handle7 .ensures, c .before .match .keys14)
 
 returns-15 : tie.Need-returns-15
-unfolding arguments
-returns-15 c = rw (c .before .match .keys15, c .fsinfo .ensures)
+unfolding arguments handled.after handled.alone
+returns-15 c = rw (c .of-handle8 .ensures, c .before .match .keys15)
 
 returns-16 : tie.Need-returns-16
-unfolding arguments
-returns-16 c = rw (c .before .match .keys16, c .pathconf .ensures)
+unfolding arguments handled.after handled.alone
+returns-16 c = rw (c .of-handle9 .ensures, c .before .match .keys16)
 
 returns-17 : tie.Need-returns-17
-unfolding arguments
-returns-17 c = rw (c .before .match .keys17, c .commit .ensures)
+unfolding arguments commitArguments handled.after
+returns-17 c = rw (c .of-handle10 .ensures, c .before .match .keys17)
 
 returns-18 : tie.Need-returns-18
 unfolding arguments
 returns-18 c =
     rw (
-      ne-eqb _ _ (c .match .rest .0 .0 .0 .0 .0 .0 .0 .0 .0 .0 .0 .0 .0 .0 .0 .0 .1),
-      ne-eqb _ _ (c .match .rest .0 .0 .0 .0 .0 .0 .0 .0 .0 .0 .0 .0 .0 .0 .0 .1),
-      ne-eqb _ _ (c .match .rest .0 .0 .0 .0 .0 .0 .0 .0 .0 .0 .0 .0 .0 .0 .1),
-      ne-eqb _ _ (c .match .rest .0 .0 .0 .0 .0 .0 .0 .0 .0 .0 .0 .0 .0 .1),
-      ne-eqb _ _ (c .match .rest .0 .0 .0 .0 .0 .0 .0 .0 .0 .0 .0 .0 .1),
-      ne-eqb _ _ (c .match .rest .0 .0 .0 .0 .0 .0 .0 .0 .0 .0 .0 .1),
-      ne-eqb _ _ (c .match .rest .0 .0 .0 .0 .0 .0 .0 .0 .0 .0 .1),
-      ne-eqb _ _ (c .match .rest .0 .0 .0 .0 .0 .0 .0 .0 .0 .1),
-      ne-eqb _ _ (c .match .rest .0 .0 .0 .0 .0 .0 .0 .0 .1),
-      ne-eqb _ _ (c .match .rest .0 .0 .0 .0 .0 .0 .0 .1),
-      ne-eqb _ _ (c .match .rest .0 .0 .0 .0 .0 .0 .1),
-      ne-eqb _ _ (c .match .rest .0 .0 .0 .0 .0 .1),
-      ne-eqb _ _ (c .match .rest .0 .0 .0 .0 .1),
-      ne-eqb _ _ (c .match .rest .0 .0 .0 .1),
-      ne-eqb _ _ (c .match .rest .0 .0 .1),
-      ne-eqb _ _ (c .match .rest .0 .1),
-      ne-eqb _ _ (c .match .rest .1),
+      c .unserved .ensures,
+      ne-eqb _ _ (c .before .match .rest .0 .0 .0 .0 .0 .0 .0 .0 .0 .0 .0 .0 .0 .0 .0 .0 .1),
+      ne-eqb _ _ (c .before .match .rest .0 .0 .0 .0 .0 .0 .0 .0 .0 .0 .0 .0 .0 .0 .0 .1),
+      ne-eqb _ _ (c .before .match .rest .0 .0 .0 .0 .0 .0 .0 .0 .0 .0 .0 .0 .0 .0 .1),
+      ne-eqb _ _ (c .before .match .rest .0 .0 .0 .0 .0 .0 .0 .0 .0 .0 .0 .0 .0 .1),
+      ne-eqb _ _ (c .before .match .rest .0 .0 .0 .0 .0 .0 .0 .0 .0 .0 .0 .0 .1),
+      ne-eqb _ _ (c .before .match .rest .0 .0 .0 .0 .0 .0 .0 .0 .0 .0 .0 .1),
+      ne-eqb _ _ (c .before .match .rest .0 .0 .0 .0 .0 .0 .0 .0 .0 .0 .1),
+      ne-eqb _ _ (c .before .match .rest .0 .0 .0 .0 .0 .0 .0 .0 .0 .1),
+      ne-eqb _ _ (c .before .match .rest .0 .0 .0 .0 .0 .0 .0 .0 .1),
+      ne-eqb _ _ (c .before .match .rest .0 .0 .0 .0 .0 .0 .0 .1),
+      ne-eqb _ _ (c .before .match .rest .0 .0 .0 .0 .0 .0 .1),
+      ne-eqb _ _ (c .before .match .rest .0 .0 .0 .0 .0 .1),
+      ne-eqb _ _ (c .before .match .rest .0 .0 .0 .0 .1),
+      ne-eqb _ _ (c .before .match .rest .0 .0 .0 .1),
+      ne-eqb _ _ (c .before .match .rest .0 .0 .1),
+      ne-eqb _ _ (c .before .match .rest .0 .1),
+      ne-eqb _ _ (c .before .match .rest .1),
     )
 
 pub arguments-at-spec : {M : Type 1} → statement M
 arguments-at-spec =
     tie.close
     (tie.spec
-    finish-requires
-    getattr-requires
-    setattr-requires
-    lookup-requires
-    access-requires
-    read-requires
-    write-requires
-    create-requires
-    mkdir-requires
-    remove-requires
-    rmdir-requires
-    rename-requires
-    readdir-requires
-    fsstat-requires
-    fsinfo-requires
-    pathconf-requires
-    commit-requires
+    null-requires
+    of-handle-requires
+    of-handle-requires-2
+    of-name-requires
+    of-handle-requires-3
+    of-handle-requires-4
+    of-handle-requires-5
+    of-name-requires-2
+    of-name-requires-3
+    of-name-requires-4
+    of-name-requires-5
+    of-name-requires-6
+    of-handle-requires-6
+    of-handle-requires-7
+    of-handle-requires-8
+    of-handle-requires-9
+    of-handle-requires-10
+    unserved-requires
     returns
     returns-2
     returns-3
