@@ -3,6 +3,7 @@ ghost use mathlib.Core.Path.{_≡_};
 ghost use Rattle.kinds.specs.Reading.{got};
 ghost use Rattle.spec.specs.Arguments.{arguments, whole};
 ghost use Rattle.spec.specs.Xdr.{done};
+ghost use Rattle.args.specs.First.{Begins};
 ghost use Rattle.args.specs.Reading.{argumentsOf};
 
 pub mod reading; // what reading arguments answers
@@ -15,6 +16,14 @@ use kinds::call::Cursor;
 use kinds::numbers::Procedure;
 use name_args::of_name;
 use reader::Reader;
+
+// What the arguments of a procedure begin with; those of a procedure that is not served stay unread.
+enum First {
+    Nothing,
+    Handle,
+    Name,
+    Unread,
+}
 
 // The arguments of NULL, which are none.
 fn null(s: &[u8], c: Cursor) -> ArgumentsRead
@@ -30,30 +39,42 @@ fn unserved(c: Cursor) -> ArgumentsRead
     ArgumentsRead::Got(Arguments::Unserved, c)
 }
 
+// What the arguments of a procedure begin with.
+fn first_of(procedure: u32) -> First
+    ensures { λ r. ⌜ Begins procedure r ⌝ }
+{
+    match procedure {
+        Procedure::NULL => First::Nothing,
+        Procedure::GETATTR => First::Handle,
+        Procedure::SETATTR => First::Handle,
+        Procedure::LOOKUP => First::Name,
+        Procedure::ACCESS => First::Handle,
+        Procedure::READ => First::Handle,
+        Procedure::WRITE => First::Handle,
+        Procedure::CREATE => First::Name,
+        Procedure::MKDIR => First::Name,
+        Procedure::REMOVE => First::Name,
+        Procedure::RMDIR => First::Name,
+        Procedure::RENAME => First::Name,
+        Procedure::READDIR => First::Handle,
+        Procedure::FSSTAT => First::Handle,
+        Procedure::FSINFO => First::Handle,
+        Procedure::PATHCONF => First::Handle,
+        Procedure::COMMIT => First::Handle,
+        _ => First::Unread,
+    }
+}
+
 // The arguments of a procedure, 0 to 21, which end the call.
 fn arguments_at(s: &[u8], at: usize, procedure: u32) -> ArgumentsRead
     ensures { λ r. ⌜ argumentsOf r ≡ arguments procedure (now (s .entry)) at ⌝ }
 {
     let c = Cursor { at };
-    match procedure {
-        Procedure::NULL => null(s, c),
-        Procedure::GETATTR => of_handle(s, c, procedure),
-        Procedure::SETATTR => of_handle(s, c, procedure),
-        Procedure::LOOKUP => of_name(s, c, procedure),
-        Procedure::ACCESS => of_handle(s, c, procedure),
-        Procedure::READ => of_handle(s, c, procedure),
-        Procedure::WRITE => of_handle(s, c, procedure),
-        Procedure::CREATE => of_name(s, c, procedure),
-        Procedure::MKDIR => of_name(s, c, procedure),
-        Procedure::REMOVE => of_name(s, c, procedure),
-        Procedure::RMDIR => of_name(s, c, procedure),
-        Procedure::RENAME => of_name(s, c, procedure),
-        Procedure::READDIR => of_handle(s, c, procedure),
-        Procedure::FSSTAT => of_handle(s, c, procedure),
-        Procedure::FSINFO => of_handle(s, c, procedure),
-        Procedure::PATHCONF => of_handle(s, c, procedure),
-        Procedure::COMMIT => of_handle(s, c, procedure),
-        _ => unserved(c),
+    match first_of(procedure) {
+        First::Nothing => null(s, c),
+        First::Handle => of_handle(s, c, procedure),
+        First::Name => of_name(s, c, procedure),
+        First::Unread => unserved(c),
     }
 }
 
