@@ -7,8 +7,8 @@ use Rattle.kinds.specs.declared.call.Arguments.{Arguments}
 use Rattle.kinds.specs.declared.call.Cursor.{Cursor}
 use Rattle.spec.specs.Arguments.{arguments}
 use Rattle.laws.proofs.Arguments.{Within, arguments-within}
-use Rattle.args.specs.declared.reading.ArgumentsRead.{ArgumentsRead}
-use Rattle.args.specs.declared.reading.ArgumentsRead.the-variants as ArgumentsRead
+use Rattle.args_end.specs.declared.reading.ArgumentsRead.{ArgumentsRead}
+use Rattle.args_end.specs.declared.reading.ArgumentsRead.the-variants as ArgumentsRead
 use Rattle.args.specs.Reading.{argumentsOf}
 
 pub read-within : (p : ℕ) (s : List ℕ) (at : ℕ) (r : ArgumentsRead) (a : Arguments) (c : Cursor)

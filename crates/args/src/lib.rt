@@ -1,41 +1,80 @@
 // The arguments of a call (RFC 1813), by the number of its procedure.
 ghost use mathlib.Core.Path.{_≡_};
-ghost use Rattle.spec.specs.Arguments.{arguments};
+ghost use Rattle.kinds.specs.Reading.{got};
+ghost use Rattle.spec.specs.Arguments.{arguments, whole};
+ghost use Rattle.spec.specs.Xdr.{done};
+ghost use Rattle.args.specs.First.{Begins};
 ghost use Rattle.args.specs.Reading.{argumentsOf};
 
 pub mod reading; // what reading arguments answers
-pub mod of_procedure; // the arguments of each procedure
 
 use crate::reading::ArgumentsRead;
+use args_end::finish;
+use handle_args::of_handle;
 use kinds::call::Arguments;
 use kinds::call::Cursor;
 use kinds::numbers::Procedure;
+use name_args::of_name;
 use reader::Reader;
 
-// The arguments of a procedure, 0 to 21, which end the call. Those of the five that are not served stay unread.
+// What the arguments of a procedure begin with; those of a procedure that is not served stay unread.
+enum First {
+    Nothing,
+    Handle,
+    Name,
+    Unread,
+}
+
+// The arguments of NULL, which are none.
+fn null(s: &[u8], c: Cursor) -> ArgumentsRead
+    ensures { λ r. ⌜ argumentsOf r ≡ whole (done Arguments.Null) (now (s .entry)) (c .at) ⌝ }
+{
+    finish(s, c, Arguments::Null)
+}
+
+// The arguments of a procedure that is not served: they stay unread.
+fn unserved(c: Cursor) -> ArgumentsRead
+    ensures { λ r. ⌜ argumentsOf r ≡ got Arguments.Unserved (c .at) ⌝ }
+{
+    ArgumentsRead::Got(Arguments::Unserved, c)
+}
+
+// What the arguments of a procedure begin with.
+fn first_of(procedure: u32) -> First
+    ensures { λ r. ⌜ Begins procedure r ⌝ }
+{
+    match procedure {
+        Procedure::NULL => First::Nothing,
+        Procedure::GETATTR => First::Handle,
+        Procedure::SETATTR => First::Handle,
+        Procedure::LOOKUP => First::Name,
+        Procedure::ACCESS => First::Handle,
+        Procedure::READ => First::Handle,
+        Procedure::WRITE => First::Handle,
+        Procedure::CREATE => First::Name,
+        Procedure::MKDIR => First::Name,
+        Procedure::REMOVE => First::Name,
+        Procedure::RMDIR => First::Name,
+        Procedure::RENAME => First::Name,
+        Procedure::READDIR => First::Handle,
+        Procedure::FSSTAT => First::Handle,
+        Procedure::FSINFO => First::Handle,
+        Procedure::PATHCONF => First::Handle,
+        Procedure::COMMIT => First::Handle,
+        _ => First::Unread,
+    }
+}
+
+// The arguments of a procedure, 0 to 21, which end the call.
 fn arguments_at(s: &[u8], at: usize, procedure: u32) -> ArgumentsRead
     ensures { λ r. ⌜ argumentsOf r ≡ arguments procedure (now (s .entry)) at ⌝ }
 {
     let c = Cursor { at };
-    match procedure {
-        Procedure::NULL => of_procedure::finish(s, c, Arguments::Null),
-        Procedure::GETATTR => of_procedure::getattr(s, c),
-        Procedure::SETATTR => of_procedure::setattr(s, c),
-        Procedure::LOOKUP => of_procedure::lookup(s, c),
-        Procedure::ACCESS => of_procedure::access(s, c),
-        Procedure::READ => of_procedure::read(s, c),
-        Procedure::WRITE => of_procedure::write(s, c),
-        Procedure::CREATE => of_procedure::create(s, c),
-        Procedure::MKDIR => of_procedure::mkdir(s, c),
-        Procedure::REMOVE => of_procedure::remove(s, c),
-        Procedure::RMDIR => of_procedure::rmdir(s, c),
-        Procedure::RENAME => of_procedure::rename(s, c),
-        Procedure::READDIR => of_procedure::readdir(s, c),
-        Procedure::FSSTAT => of_procedure::fsstat(s, c),
-        Procedure::FSINFO => of_procedure::fsinfo(s, c),
-        Procedure::PATHCONF => of_procedure::pathconf(s, c),
-        Procedure::COMMIT => of_procedure::commit(s, c),
-        _ => ArgumentsRead::Got(Arguments::Unserved, c),
+    match first_of(procedure) {
+        First::Nothing => null(s, c),
+        First::Handle => of_handle(s, c, procedure),
+        First::Name => of_name(s, c, procedure),
+        First::Unread => unserved(c),
     }
 }
 
