@@ -23,7 +23,7 @@ use Rattle.laws.proofs.Range.{Below}
 use Rattle.laws.proofs.Resize.{resize-size, resize-tree}
 use Rattle.laws.proofs.Shape.{SameShape}
 use Rattle.laws.proofs.Valid.{Live}
-use Rattle.files.proofs.Good.{size-few}
+use Rattle.shown.proofs.Good.{size-few}
 use Rattle.writing.specs.Writable.{Writable}
 
 -- the record of an object lies in a store of the same shape
