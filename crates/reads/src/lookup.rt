@@ -1,15 +1,14 @@
 // LOOKUP.
 ghost use mathlib.Core.Path.{_≡_};
-ghost use Prim.Native.Nat.{_+_, _≤_, _<_};
+ghost use Prim.Native.Nat.{_+_, _≤_};
 ghost use lib.ListN.{length};
-ghost use Rattle.spec.specs.Image.{objects};
 ghost use Rattle.spec.specs.Procedures.{cut};
 ghost use Rattle.spec.specs.Procedures.Names.{lookIn, checkLookup, lookup};
 ghost use Rattle.laws.proofs.GoodRecords.{GoodRecords};
 ghost use Rattle.files.specs.Meaning.{reachedOf};
 ghost use Rattle.results.specs.Meaning.{resultOf};
 ghost use Rattle.results.specs.Writable.{Writable};
-ghost use Rattle.reads.specs.Parts.{lookedOf, checkIn, foundOf};
+ghost use Rattle.reads.specs.Parts.{lookedOf, checkIn};
 use files::failure::fail_showing;
 use files::handle::Reached;
 use files::handle::reach_directory;
