@@ -1,6 +1,5 @@
 // Writes XDR at a place of the reply space, and answers the place behind it.
-ghost use Prim.Native.Nat.{_+_, _*_, _%_, _≤_};
-ghost use mathlib.Core.Path.{_≡_};
+ghost use Prim.Native.Nat.{_+_, _*_, _≤_};
 ghost use mathlib.Core.List.{[], _∷_};
 ghost use lib.ListN.{length};
 ghost use Rattle.spec.specs.Bytes.{words, part, padding, opaqueBytes};
