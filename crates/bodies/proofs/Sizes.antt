@@ -4,16 +4,17 @@ use mathlib.Core.List.{List, [], _∷_, _++_, append-assoc}
 use mathlib.Core.Path.{_≡_}
 use lib.ListN.{length}
 use lib.Dec.{lit≤}
+use Rattle.spec.specs.Image.{Store}
 use Rattle.spec.specs.Replies.{hyper, fattr3, postOp, preOp, wccData, wccOption}
-use Rattle.results.specs.Meaning.{changeOf}
+use Rattle.results.specs.Meaning.{handleChangeIn}
 use Rattle.results.specs.declared.HandleChange.{HandleChange}
 use Rattle.results.specs.declared.HandleChange.the-variants as HandleChange
 use Rattle.contents.proofs.Hyper.{hyper-small}
 
-pub change-small : (c : HandleChange) → length (wccOption (changeOf c)) ≤ 29
+pub change-small : (s : Store) (c : HandleChange) → length (wccOption (handleChangeIn s c)) ≤ 29
 unfolding wccData preOp postOp fattr3
-change-small HandleChange.Absent = lit≤ tt
-change-small (HandleChange.Present c) = lit≤ tt
+change-small s HandleChange.Absent = lit≤ tt
+change-small s (HandleChange.Present c) = lit≤ tt
 
 -- the numbers that FSSTAT sends, as words
 pub room-words : (xs : List ℕ) (t f o v : ℕ) → t < 4294967296 → f < 4294967296 → o < 4294967296 → v < 4294967296

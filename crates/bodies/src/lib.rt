@@ -7,10 +7,11 @@ ghost use Rattle.kinds.specs.Numbers.{OK};
 ghost use Rattle.spec.specs.Bytes.{words, opaqueBytes, padding};
 ghost use Rattle.spec.specs.Count.{bit};
 ghost use Rattle.spec.specs.Edits.{readFile};
+ghost use Rattle.spec.specs.Handles.{attributes, handleOf};
 ghost use Rattle.spec.specs.Procedures.Listing.{entries, entriesAbove};
 ghost use Rattle.spec.specs.Replies.{hyper, fattr3, postOp, wccData, wccOption, entriesBytes};
-ghost use Rattle.results.specs.Meaning.{handleBytes, changeOf};
-ghost use Rattle.results.specs.Writable.{Readable, Listable};
+ghost use Rattle.results.specs.Meaning.{changeIn, handleChangeIn};
+ghost use Rattle.results.specs.Writable.{Showable, ShowableChange, Readable, Listable};
 ghost use Rattle.xdr.specs.Wrote.{Wrote};
 use contents::entries::put_entries;
 use contents::file::put_file_bytes;
@@ -21,10 +22,8 @@ use fields::attributes::put_handle_change;
 use fields::attributes::put_post_op;
 use kinds::numbers::ObjectNumber;
 use kinds::numbers::Status;
-use kinds::object::Attributes;
-use kinds::object::Change;
-use results::Handle;
 use results::HandleChange;
+use results::ObjectChange;
 use xdr::write::put_word;
 use xdr::write::put_words;
 
@@ -49,65 +48,92 @@ fn flag(b: bool) -> u32
 }
 
 // A status, and the attributes of an object.
-pub fn put_failed(reply: &mut [u8], at: usize, status: Status, a: Attributes) -> usize
+pub fn put_failed(
+    reply: &mut [u8],
+    at: usize,
+    store: &[u8],
+    status: Status,
+    o: ObjectNumber,
+) -> usize
     requires { ⌜ at + 92 ≤ length (now reply) ⌝ }
-    ensures { λ r. ⌜ Wrote 92 (now (reply .entry)) (now (reply .exit)) at r (words (status .0 ∷ postOp a)) ⌝ }
+    requires { ⌜ Showable (now store) (o .0) ⌝ }
+    ensures { λ r. ⌜ Wrote 92 (now (reply .entry)) (now (reply .exit)) at r (words (status .0 ∷ postOp (attributes (now (store .entry)) (o .0)))) ⌝ }
 {
     let next = put_word(reply, at, status.0);
-    put_post_op(reply, next, a)
+    put_post_op(reply, next, store, o)
 }
 
 // A status, and a change.
-pub fn put_changed(reply: &mut [u8], at: usize, status: Status, c: Change) -> usize
+pub fn put_changed(
+    reply: &mut [u8],
+    at: usize,
+    store: &[u8],
+    status: Status,
+    c: ObjectChange,
+) -> usize
     requires { ⌜ at + 120 ≤ length (now reply) ⌝ }
-    ensures { λ r. ⌜ Wrote 120 (now (reply .entry)) (now (reply .exit)) at r (words (status .0 ∷ wccData c)) ⌝ }
+    requires { ⌜ Showable (now store) (c .object .0) ⌝ }
+    ensures { λ r. ⌜ Wrote 120 (now (reply .entry)) (now (reply .exit)) at r (words (status .0 ∷ wccData (changeIn (now (store .entry)) c))) ⌝ }
 {
     let next = put_word(reply, at, status.0);
-    put_change(reply, next, c)
+    put_change(reply, next, store, c)
 }
 
 // RENAME.
 pub fn put_renamed(
     reply: &mut [u8],
     at: usize,
+    store: &[u8],
     status: Status,
     c: HandleChange,
     d: HandleChange,
 ) -> usize
     requires { ⌜ at + 236 ≤ length (now reply) ⌝ }
-    ensures { λ r. ⌜ Wrote (4 + 4 * length (wccOption (changeOf c)) + 4 * length (wccOption (changeOf d))) (now (reply .entry)) (now (reply .exit)) at r (words (status .0 ∷ wccOption (changeOf c) ++ wccOption (changeOf d))) ⌝ }
+    requires { ⌜ ShowableChange (now store) c ⌝ }
+    requires { ⌜ ShowableChange (now store) d ⌝ }
+    ensures { λ r. ⌜ Wrote (4 + 4 * length (wccOption (handleChangeIn (now (store .entry)) c)) + 4 * length (wccOption (handleChangeIn (now (store .entry)) d))) (now (reply .entry)) (now (reply .exit)) at r (words (status .0 ∷ wccOption (handleChangeIn (now (store .entry)) c) ++ wccOption (handleChangeIn (now (store .entry)) d))) ⌝ }
 {
     let next = put_word(reply, at, status.0);
-    let behind = put_handle_change(reply, next, c);
-    put_handle_change(reply, behind, d)
+    let behind = put_handle_change(reply, next, store, c);
+    put_handle_change(reply, behind, store, d)
 }
 
 // GETATTR.
-pub fn put_got_attributes(reply: &mut [u8], at: usize, a: Attributes) -> usize
+pub fn put_got_attributes(reply: &mut [u8], at: usize, store: &[u8], o: ObjectNumber) -> usize
     requires { ⌜ at + 88 ≤ length (now reply) ⌝ }
-    ensures { λ r. ⌜ Wrote 88 (now (reply .entry)) (now (reply .exit)) at r (words (OK ∷ fattr3 a)) ⌝ }
+    requires { ⌜ Showable (now store) (o .0) ⌝ }
+    ensures { λ r. ⌜ Wrote 88 (now (reply .entry)) (now (reply .exit)) at r (words (OK ∷ fattr3 (attributes (now (store .entry)) (o .0)))) ⌝ }
 {
     let next = put_word(reply, at, 0);
-    put_attributes(reply, next, a)
+    put_attributes(reply, next, store, o)
 }
 
 // LOOKUP.
-pub fn put_found(reply: &mut [u8], at: usize, h: Handle, a: Attributes, d: Attributes) -> usize
+pub fn put_found(
+    reply: &mut [u8],
+    at: usize,
+    store: &[u8],
+    o: ObjectNumber,
+    d: ObjectNumber,
+) -> usize
     requires { ⌜ at + 196 ≤ length (now reply) ⌝ }
-    ensures { λ r. ⌜ Wrote 196 (now (reply .entry)) (now (reply .exit)) at r (words (OK ∷ []) ++ opaqueBytes (handleBytes h) ++ words (postOp a ++ postOp d)) ⌝ }
+    requires { ⌜ Showable (now store) (o .0) ⌝ }
+    requires { ⌜ Showable (now store) (d .0) ⌝ }
+    ensures { λ r. ⌜ Wrote 196 (now (reply .entry)) (now (reply .exit)) at r (words (OK ∷ []) ++ opaqueBytes (handleOf (now (store .entry)) (o .0)) ++ words (postOp (attributes (now (store .entry)) (o .0)) ++ postOp (attributes (now (store .entry)) (d .0)))) ⌝ }
 {
     let handle = put_word(reply, at, 0);
-    let object = put_handle(reply, handle, h);
-    let directory = put_post_op(reply, object, a);
-    put_post_op(reply, directory, d)
+    let object = put_handle(reply, handle, store, o);
+    let directory = put_post_op(reply, object, store, o);
+    put_post_op(reply, directory, store, d)
 }
 
 // ACCESS.
-pub fn put_granted(reply: &mut [u8], at: usize, a: Attributes, bits: u32) -> usize
+pub fn put_granted(reply: &mut [u8], at: usize, store: &[u8], o: ObjectNumber, bits: u32) -> usize
     requires { ⌜ at + 96 ≤ length (now reply) ⌝ }
-    ensures { λ r. ⌜ Wrote 96 (now (reply .entry)) (now (reply .exit)) at r (words (OK ∷ postOp a ++ (bits ∷ []))) ⌝ }
+    requires { ⌜ Showable (now store) (o .0) ⌝ }
+    ensures { λ r. ⌜ Wrote 96 (now (reply .entry)) (now (reply .exit)) at r (words (OK ∷ postOp (attributes (now (store .entry)) (o .0)) ++ (bits ∷ []))) ⌝ }
 {
-    let next = put_failed(reply, at, Status::OK, a);
+    let next = put_failed(reply, at, store, Status::OK, o);
     put_word(reply, next, bits)
 }
 
@@ -116,42 +142,57 @@ pub fn put_got_bytes(
     reply: &mut [u8],
     at: usize,
     store: &[u8],
-    a: Attributes,
-    eof: bool,
     o: ObjectNumber,
+    eof: bool,
     offset: usize,
     n: usize,
 ) -> usize
     requires { ⌜ Readable (now store) (o .0) offset n ⌝ }
     requires { ⌜ at + 4200 ≤ length (now reply) ⌝ }
-    ensures { λ r. ⌜ Wrote (100 + (4 + n + padding n)) (now (reply .entry)) (now (reply .exit)) at r (words (OK ∷ postOp a ++ (n ∷ bit eof ∷ [])) ++ opaqueBytes (readFile (now (store .entry)) (o .0) offset n)) ⌝ }
+    ensures { λ r. ⌜ Wrote (100 + (4 + n + padding n)) (now (reply .entry)) (now (reply .exit)) at r (words (OK ∷ postOp (attributes (now (store .entry)) (o .0)) ++ (n ∷ bit eof ∷ [])) ++ opaqueBytes (readFile (now (store .entry)) (o .0) offset n)) ⌝ }
 {
-    let next = put_failed(reply, at, Status::OK, a);
+    let next = put_failed(reply, at, store, Status::OK, o);
     let ws = [n as u32, flag(eof)];
     let bytes = put_words(reply, next, &ws);
     put_file_bytes(reply, bytes, store, o, offset, n)
 }
 
 // WRITE: the count, FILE_SYNC and the verifier follow the change.
-pub fn put_wrote(reply: &mut [u8], at: usize, c: Change, count: u32, verifier: u64) -> usize
+pub fn put_wrote(
+    reply: &mut [u8],
+    at: usize,
+    store: &[u8],
+    c: ObjectChange,
+    count: u32,
+    verifier: u64,
+) -> usize
     requires { ⌜ at + 136 ≤ length (now reply) ⌝ }
-    ensures { λ r. ⌜ Wrote 136 (now (reply .entry)) (now (reply .exit)) at r (words (OK ∷ wccData c ++ (count ∷ 2 ∷ hyper verifier))) ⌝ }
+    requires { ⌜ Showable (now store) (c .object .0) ⌝ }
+    ensures { λ r. ⌜ Wrote 136 (now (reply .entry)) (now (reply .exit)) at r (words (OK ∷ wccData (changeIn (now (store .entry)) c) ++ (count ∷ 2 ∷ hyper verifier))) ⌝ }
 {
-    let next = put_changed(reply, at, Status::OK, c);
+    let next = put_changed(reply, at, store, Status::OK, c);
     let ws = [count, 2, high(verifier), low(verifier)];
     put_words(reply, next, &ws)
 }
 
 // CREATE and MKDIR.
-pub fn put_created(reply: &mut [u8], at: usize, h: Handle, a: Attributes, d: Change) -> usize
+pub fn put_created(
+    reply: &mut [u8],
+    at: usize,
+    store: &[u8],
+    o: ObjectNumber,
+    d: ObjectChange,
+) -> usize
     requires { ⌜ at + 228 ≤ length (now reply) ⌝ }
-    ensures { λ r. ⌜ Wrote 228 (now (reply .entry)) (now (reply .exit)) at r (words (OK ∷ 1 ∷ []) ++ opaqueBytes (handleBytes h) ++ words (postOp a ++ wccData d)) ⌝ }
+    requires { ⌜ Showable (now store) (o .0) ⌝ }
+    requires { ⌜ Showable (now store) (d .object .0) ⌝ }
+    ensures { λ r. ⌜ Wrote 228 (now (reply .entry)) (now (reply .exit)) at r (words (OK ∷ 1 ∷ []) ++ opaqueBytes (handleOf (now (store .entry)) (o .0)) ++ words (postOp (attributes (now (store .entry)) (o .0)) ++ wccData (changeIn (now (store .entry)) d))) ⌝ }
 {
     let ws = [0, 1];
     let handle = put_words(reply, at, &ws);
-    let object = put_handle(reply, handle, h);
-    let directory = put_post_op(reply, object, a);
-    put_change(reply, directory, d)
+    let object = put_handle(reply, handle, store, o);
+    let directory = put_post_op(reply, object, store, o);
+    put_change(reply, directory, store, d)
 }
 
 // READDIR: a verifier of zero follows the attributes; the word 0 ends the entries.
@@ -159,20 +200,19 @@ pub fn put_listed(
     reply: &mut [u8],
     at: usize,
     store: &[u8],
-    a: Attributes,
+    o: ObjectNumber,
     eof: bool,
-    d: ObjectNumber,
     cookie: u64,
     n: usize,
 ) -> usize
-    requires { ⌜ Listable (now store) (d .0) cookie n ⌝ }
+    requires { ⌜ Listable (now store) (o .0) cookie n ⌝ }
     requires { ⌜ at + 4200 ≤ length (now reply) ⌝ }
-    ensures { λ r. ⌜ Wrote (100 + length (entriesBytes (take n (entriesAbove cookie (entries (now (store .entry)) (d .0))))) + 8) (now (reply .entry)) (now (reply .exit)) at r (words (OK ∷ postOp a ++ hyper 0) ++ entriesBytes (take n (entriesAbove cookie (entries (now (store .entry)) (d .0)))) ++ words (0 ∷ bit eof ∷ [])) ⌝ }
+    ensures { λ r. ⌜ Wrote (100 + length (entriesBytes (take n (entriesAbove cookie (entries (now (store .entry)) (o .0))))) + 8) (now (reply .entry)) (now (reply .exit)) at r (words (OK ∷ postOp (attributes (now (store .entry)) (o .0)) ++ hyper 0) ++ entriesBytes (take n (entriesAbove cookie (entries (now (store .entry)) (o .0)))) ++ words (0 ∷ bit eof ∷ [])) ⌝ }
 {
-    let next = put_failed(reply, at, Status::OK, a);
+    let next = put_failed(reply, at, store, Status::OK, o);
     let zeros = [0u32, 0];
     let entries = put_words(reply, next, &zeros);
-    let behind = put_entries(reply, entries, store, d, cookie, n);
+    let behind = put_entries(reply, entries, store, o, cookie, n);
     let ws = [0, flag(eof)];
     put_words(reply, behind, &ws)
 }
@@ -181,16 +221,18 @@ pub fn put_listed(
 pub fn put_got_room(
     reply: &mut [u8],
     at: usize,
-    a: Attributes,
+    store: &[u8],
+    o: ObjectNumber,
     total: u32,
     free: u32,
     objects: u32,
     available: u32,
 ) -> usize
     requires { ⌜ at + 144 ≤ length (now reply) ⌝ }
-    ensures { λ r. ⌜ Wrote 144 (now (reply .entry)) (now (reply .exit)) at r (words (OK ∷ postOp a ++ hyper total ++ hyper free ++ hyper free ++ hyper objects ++ hyper available ++ hyper available ++ (0 ∷ []))) ⌝ }
+    requires { ⌜ Showable (now store) (o .0) ⌝ }
+    ensures { λ r. ⌜ Wrote 144 (now (reply .entry)) (now (reply .exit)) at r (words (OK ∷ postOp (attributes (now (store .entry)) (o .0)) ++ hyper total ++ hyper free ++ hyper free ++ hyper objects ++ hyper available ++ hyper available ++ (0 ∷ []))) ⌝ }
 {
-    let next = put_failed(reply, at, Status::OK, a);
+    let next = put_failed(reply, at, store, Status::OK, o);
     let ws = [
         0,
         total,
@@ -210,31 +252,40 @@ pub fn put_got_room(
 }
 
 // FSINFO.
-pub fn put_got_limits(reply: &mut [u8], at: usize, a: Attributes) -> usize
+pub fn put_got_limits(reply: &mut [u8], at: usize, store: &[u8], o: ObjectNumber) -> usize
     requires { ⌜ at + 140 ≤ length (now reply) ⌝ }
-    ensures { λ r. ⌜ Wrote 140 (now (reply .entry)) (now (reply .exit)) at r (words (OK ∷ postOp a ++ (4096 ∷ 4096 ∷ 1 ∷ 4096 ∷ 4096 ∷ 1 ∷ 4096 ∷ hyper 8192) ++ (0 ∷ 1 ∷ 0x18 ∷ []))) ⌝ }
+    requires { ⌜ Showable (now store) (o .0) ⌝ }
+    ensures { λ r. ⌜ Wrote 140 (now (reply .entry)) (now (reply .exit)) at r (words (OK ∷ postOp (attributes (now (store .entry)) (o .0)) ++ (4096 ∷ 4096 ∷ 1 ∷ 4096 ∷ 4096 ∷ 1 ∷ 4096 ∷ hyper 8192) ++ (0 ∷ 1 ∷ 0x18 ∷ []))) ⌝ }
 {
-    let next = put_failed(reply, at, Status::OK, a);
+    let next = put_failed(reply, at, store, Status::OK, o);
     let ws = [4096, 4096, 1, 4096, 4096, 1, 4096, 0, 8192, 0, 1, 0x18];
     put_words(reply, next, &ws)
 }
 
 // PATHCONF.
-pub fn put_got_naming(reply: &mut [u8], at: usize, a: Attributes) -> usize
+pub fn put_got_naming(reply: &mut [u8], at: usize, store: &[u8], o: ObjectNumber) -> usize
     requires { ⌜ at + 116 ≤ length (now reply) ⌝ }
-    ensures { λ r. ⌜ Wrote 116 (now (reply .entry)) (now (reply .exit)) at r (words (OK ∷ postOp a ++ (1 ∷ 32 ∷ 1 ∷ 0 ∷ 0 ∷ 1 ∷ []))) ⌝ }
+    requires { ⌜ Showable (now store) (o .0) ⌝ }
+    ensures { λ r. ⌜ Wrote 116 (now (reply .entry)) (now (reply .exit)) at r (words (OK ∷ postOp (attributes (now (store .entry)) (o .0)) ++ (1 ∷ 32 ∷ 1 ∷ 0 ∷ 0 ∷ 1 ∷ []))) ⌝ }
 {
-    let next = put_failed(reply, at, Status::OK, a);
+    let next = put_failed(reply, at, store, Status::OK, o);
     let ws = [1, 32, 1, 0, 0, 1];
     put_words(reply, next, &ws)
 }
 
 // COMMIT.
-pub fn put_committed(reply: &mut [u8], at: usize, c: Change, verifier: u64) -> usize
+pub fn put_committed(
+    reply: &mut [u8],
+    at: usize,
+    store: &[u8],
+    c: ObjectChange,
+    verifier: u64,
+) -> usize
     requires { ⌜ at + 128 ≤ length (now reply) ⌝ }
-    ensures { λ r. ⌜ Wrote 128 (now (reply .entry)) (now (reply .exit)) at r (words (OK ∷ wccData c ++ hyper verifier)) ⌝ }
+    requires { ⌜ Showable (now store) (c .object .0) ⌝ }
+    ensures { λ r. ⌜ Wrote 128 (now (reply .entry)) (now (reply .exit)) at r (words (OK ∷ wccData (changeIn (now (store .entry)) c) ++ hyper verifier)) ⌝ }
 {
-    let next = put_changed(reply, at, Status::OK, c);
+    let next = put_changed(reply, at, store, Status::OK, c);
     let ws = [high(verifier), low(verifier)];
     put_words(reply, next, &ws)
 }

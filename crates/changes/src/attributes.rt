@@ -8,14 +8,12 @@ ghost use Rattle.spec.specs.Procedures.Attributes.{isGiven, orServer, sizeTouch
 ghost use Rattle.laws.proofs.GoodRecords.{GoodRecords};
 ghost use Rattle.laws.proofs.SetAttributes.{FitsSettable};
 ghost use Rattle.find.specs.Blocks.{UsedMap};
-ghost use Rattle.results.specs.Meaning.{Does};
+ghost use Rattle.results.specs.Does.{Does};
 ghost use Rattle.changes.specs.Ready.{Ready, Sizable};
 use crate::setting::check_setattr;
 use edits::size::resize;
 use files::failure::fail_changing;
 use files::handle::Reached;
-use files::shown::before;
-use files::shown::change_from;
 use kinds::call::Guard;
 use kinds::call::Part;
 use kinds::call::SetSize;
@@ -26,8 +24,10 @@ use kinds::numbers::Status;
 use kinds::object::Context;
 use making::answers::reached_status;
 use metadata::set_attributes;
+use results::ObjectChange;
 use results::Reply;
 use settable::is_given;
+use shown::before;
 
 // A time that the server sets where none is given.
 fn or_server(time: SetTime) -> SetTime
@@ -118,6 +118,9 @@ pub fn setattr(
     };
     let earlier = before(store, o);
     setattr_edit(store, used, context, o, a);
-    let shown = change_from(earlier, store, o);
-    Reply::Changed(Status::OK, shown)
+    let change = ObjectChange {
+        before: earlier,
+        object: o,
+    };
+    Reply::Changed(Status::OK, change)
 }

@@ -4,7 +4,7 @@ ghost use lib.ListN.{length};
 ghost use Rattle.spec.specs.Room.{freeBlockCount};
 ghost use Rattle.spec.specs.Procedures.{cut};
 ghost use Rattle.spec.specs.Procedures.Data.{write};
-ghost use Rattle.results.specs.Meaning.{Does};
+ghost use Rattle.results.specs.Does.{Does};
 ghost use Rattle.changes.specs.Ready.{Ready};
 use crate::setting::check_write;
 use files::failure::fail_changing;

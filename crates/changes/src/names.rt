@@ -9,7 +9,7 @@ ghost use Rattle.laws.proofs.ArgumentRange.{FitsHow};
 ghost use Rattle.laws.proofs.GoodRecords.{GoodRecords, GoodClock};
 ghost use Rattle.laws.proofs.SetAttributes.{FitsSettable};
 ghost use Rattle.find.specs.Blocks.{UsedMap};
-ghost use Rattle.results.specs.Meaning.{Does};
+ghost use Rattle.results.specs.Does.{Does};
 ghost use Rattle.changes.specs.Ready.{Ready, Sizable, Makable};
 use crate::attributes::resize_to;
 use creating::CreateChecked;
@@ -17,10 +17,6 @@ use creating::check_create;
 use creating::create_status;
 use edits::size::resize;
 use files::failure::fail_changing;
-use files::handle::handle_of;
-use files::shown::attributes;
-use files::shown::before;
-use files::shown::change_from;
 use kinds::call::How;
 use kinds::call::NameIn;
 use kinds::call::Part;
@@ -41,7 +37,9 @@ use metadata::only_ctime;
 use metadata::touch;
 use metadata::with_attributes;
 use naming::create_object;
+use results::ObjectChange;
 use results::Reply;
+use shown::before;
 
 // A new object: attributes that are not given are 0, times that are not given the clock.
 fn new_object(clock: Time, kind: u32, a: Settable) -> Object
@@ -131,8 +129,11 @@ fn make_new(
 {
     let earlier = before(store, d);
     new_edit(store, used, context, kind, o, n, d, call, name, a);
-    let shown = change_from(earlier, store, d);
-    Reply::Created(handle_of(store, o), attributes(store, o), shown)
+    let change = ObjectChange {
+        before: earlier,
+        object: d,
+    };
+    Reply::Created(o, change)
 }
 
 // MKDIR: the new directory and the change of the one that it is in, or the status of the check that failed.
@@ -189,8 +190,11 @@ fn obey_size(
 {
     let earlier = before(store, d);
     existing_edit(store, used, context, o, size);
-    let shown = change_from(earlier, store, d);
-    Reply::Created(handle_of(store, o), attributes(store, o), shown)
+    let change = ObjectChange {
+        before: earlier,
+        object: d,
+    };
+    Reply::Created(o, change)
 }
 
 // The attributes that CREATE sets.

@@ -1,3 +1,2 @@
-pub mod Good
 pub mod Reach
 pub mod NameBytes

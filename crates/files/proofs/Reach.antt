@@ -16,6 +16,8 @@ use Rattle.spec.specs.Procedures.Data.{reachRegular}
 use Rattle.laws.proofs.Bytes.{part-length, be-part}
 use Rattle.laws.proofs.Passed as passed
 use Rattle.laws.proofs.Passed.{reach-passed, directory-passed, regular-passed}
+use Rattle.laws.proofs.GoodRecords.{GoodRecords}
+use Rattle.results.specs.Writable.{Showable}
 use Rattle.files.specs.Meaning.{reachedOf}
 use Rattle.files.specs.declared.handle.Reached.{Reached}
 use Rattle.files.specs.declared.handle.Reached.the-variants as Reached
@@ -44,3 +46,12 @@ module _ (s : Store) (h : List ℕ) (r : Reached) (o : ObjectNumber) (is : r ≡
 
   pub regular-reached : reachedOf r ≡ reachRegular s h → passed.Reached s h (o .0) × (objectAt s (o .0) .kind ≡ REGULAR)
   regular-reached e = regular-passed s h (o .0) (sym e ∙ ap reachedOf is)
+
+  pub object-showable : GoodRecords s → reachedOf r ≡ reach s h → Showable s (o .0)
+  object-showable g e = record { good = g; object = object-reached e .below }
+
+  pub directory-showable : GoodRecords s → reachedOf r ≡ reachDirectory s h → Showable s (o .0)
+  directory-showable g e = record { good = g; object = directory-reached e .0 .below }
+
+  pub regular-showable : GoodRecords s → reachedOf r ≡ reachRegular s h → Showable s (o .0)
+  regular-showable g e = record { good = g; object = regular-reached e .0 .below }

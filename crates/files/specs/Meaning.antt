@@ -1,9 +1,5 @@
 -- What each answer of the code stands for.
 use Prim.Native.Nat.{ℕ}
-use Rattle.kinds.specs.declared.object.Before.{Before}
-use Rattle.kinds.specs.declared.object.Change.{Change}
-use Rattle.spec.specs.Handles.{attributes}
-use Rattle.spec.specs.Image.{Store}
 use Rattle.spec.specs.Checked.{Checked, refused, passed}
 use Rattle.files.specs.declared.handle.Reached.{Reached}
 use Rattle.files.specs.declared.handle.Reached.the-variants as Reached
@@ -19,7 +15,3 @@ reachedOf (Reached.Refused status) = refused (status .0)
 abbrev pub textOf : TextChecked → Checked (Unit {0})
 textOf TextChecked.Good = passed tt
 textOf (TextChecked.Refused status) = refused (status .0)
-
--- an object's attributes before a call, and after it, in t
-abbrev pub changeFrom : Before → Store → ℕ → Change
-changeFrom earlier t o = record { before = earlier; after = attributes t o }

@@ -2,12 +2,11 @@
 ghost use mathlib.Core.Path.{_≡_};
 ghost use Prim.Native.Nat.{_+_, _≤_, _<_};
 ghost use lib.ListN.{length};
-ghost use Rattle.spec.specs.Handles.{reach, reachDirectory, handleOf};
+ghost use Rattle.spec.specs.Handles.{reach, reachDirectory};
 ghost use Rattle.spec.specs.Procedures.{cut};
 ghost use Rattle.spec.specs.Procedures.Data.{reachRegular};
 ghost use Rattle.spec.specs.Image.{objects};
 ghost use Rattle.laws.proofs.GoodRecords.{GoodRecords};
-ghost use Rattle.results.specs.Meaning.{handleBytes};
 ghost use Rattle.files.specs.Meaning.{reachedOf};
 use image::counts::object_count;
 use image::counts::stamp_of;
@@ -19,7 +18,6 @@ use kinds::call::Part;
 use kinds::numbers::Limit;
 use kinds::numbers::ObjectNumber;
 use kinds::numbers::Status;
-use results::Handle;
 
 pub enum Reached {
     At(ObjectNumber),
@@ -84,18 +82,4 @@ pub fn reach_regular(store: &[u8], call: &[u8], h: Part) -> Reached
         return Reached::At(o);
     }
     Reached::Refused(Status::INVAL)
-}
-
-// The handle of an object.
-pub fn handle_of(store: &[u8], o: ObjectNumber) -> Handle
-    requires { ⌜ GoodRecords (now store) ⌝ }
-    requires { ⌜ o .0 < objects (now store) ⌝ }
-    ensures { λ r. ⌜ handleBytes r ≡ handleOf (now (store .entry)) (o .0) ⌝ }
-{
-    let number = o.0;
-    Handle {
-        stamp: stamp_of(store),
-        object: number as u32,
-        generation: generation_of(store, o),
-    }
 }

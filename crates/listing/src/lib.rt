@@ -15,7 +15,6 @@ ghost use Rattle.listing.specs.Run.{cost, openRun, namedEntries, lengthI
 use files::failure::fail_showing;
 use files::handle::Reached;
 use files::handle::reach_directory;
-use files::shown::attributes;
 use image::counts::name_count;
 use image::counts::object_count;
 use kinds::call::Part;
@@ -197,7 +196,7 @@ fn readdir_in(
     let limit = least(count as u64, Limit::TRANSFER as u64);
     let listing = check_listing(store, d, cookie, limit as usize);
     match listing {
-        Listing::Sent(n, all) => Reply::Listed(attributes(store, d), all, d, cookie, n),
+        Listing::Sent(n, all) => Reply::Listed(d, all, cookie, n),
         Listing::Refused(status) => fail_showing(store, call, h, status),
     }
 }

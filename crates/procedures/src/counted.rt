@@ -11,7 +11,9 @@ ghost use Rattle.laws.proofs.ArgumentRange.{FitsHow};
 ghost use Rattle.laws.proofs.GoodRecords.{GoodRecords};
 ghost use Rattle.laws.proofs.SetAttributes.{FitsSettable};
 ghost use Rattle.find.specs.Blocks.{UsedMap};
-ghost use Rattle.results.specs.Meaning.{resultOf, Does};
+ghost use Rattle.results.specs.Meaning.{resultOf};
+ghost use Rattle.results.specs.Writable.{Writable};
+ghost use Rattle.results.specs.Does.{Does};
 ghost use Rattle.changes.specs.Ready.{Ready};
 use changes::attributes;
 use changes::names;
@@ -84,6 +86,7 @@ pub fn fsstat(store: &[u8], used: &[u8; 1024], call: &[u8], h: Part) -> Reply
     requires { ⌜ h .start + h .length ≤ length (now call) ⌝ }
     requires { ⌜ UsedMap (now store) (now used) ⌝ }
     ensures { λ r. ⌜ resultOf (now (store .entry)) r ≡ fsstat (now (store .entry)) (cut (now (call .entry)) h) .result ⌝ }
+    ensures { λ r. ⌜ Writable (now (store .entry)) r ⌝ }
 {
     let free = free_block_count(store, used);
     volume::fsstat(store, call, h, free)

@@ -5,7 +5,7 @@ ghost use Rattle.spec.specs.Room.{freeBlockCount};
 ghost use Rattle.laws.proofs.Arguments.{Within};
 ghost use Rattle.laws.proofs.ArgumentRange.{FitsArguments};
 ghost use Rattle.changes.specs.Ready.{Ready};
-ghost use Rattle.procedures.specs.Runs.{Runs};
+ghost use Rattle.results.specs.Does.{Does};
 use crate::counted::create;
 use crate::counted::fsstat;
 use crate::counted::mkdir;
@@ -38,7 +38,7 @@ pub fn run(
     requires { ⌜ Ready (now store) (now used) (freeBlockCount (now store)) context ⌝ }
     requires { ⌜ Within (length (now call)) a ⌝ }
     requires { ⌜ FitsArguments a ⌝ }
-    ensures { λ r. ⌜ Runs (act (now (store .entry)) context (now (call .entry)) a) r (now (store .exit)) ⌝ }
+    ensures { λ r. ⌜ Does (act (now (store .entry)) context (now (call .entry)) a) r (now (store .exit)) ⌝ }
 {
     match a {
         Arguments::Null => Reply::Null,

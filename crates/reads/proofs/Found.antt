@@ -21,7 +21,7 @@ use Rattle.laws.proofs.Passed.{bind-passed, directory-passed, found-record}
 use Rattle.find.specs.Found.{foundName}
 use Rattle.find.specs.declared.found.FoundName.{FoundName}
 use Rattle.find.specs.declared.found.FoundName.the-variants as FoundName
-use Rattle.files.proofs.Good.{used-record}
+use Rattle.shown.proofs.Good.{used-record}
 use Rattle.reads.specs.Parts.{lookedOf, checkIn}
 use Rattle.reads.specs.declared.lookup.Looked.{Looked}
 use Rattle.reads.specs.declared.lookup.Looked.the-variants as Looked

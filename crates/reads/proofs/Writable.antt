@@ -1,19 +1,11 @@
 -- The replies of READ can be written from the store that they are made from. Assumes nothing.
 use Prim.Native.Nat.{ℕ, _<_}
 use mathlib.Core.Path.{_≡_}
-use mathlib.Core.List.{List}
 use native.Mathlib.Omega.{arith}
 use Rattle.spec.specs.Image.{Store, objects}
 use Rattle.spec.specs.Procedures.Data.{readLength}
-use Rattle.spec.specs.Results.{failShowing}
 use Rattle.laws.proofs.GoodRecords.{GoodRecords}
-use Rattle.results.specs.Meaning.{resultOf}
-use Rattle.results.specs.Writable.{Readable, Writable}
-use Rattle.results.specs.declared.Reply.{Reply}
-use Rattle.results.proofs.Plain.{plain-writable, fail-showing-plain}
-
-pub failure-writable : (s : Store) (h : List ℕ) (status : ℕ) (r : Reply) → resultOf s r ≡ failShowing s h status → Writable s r
-failure-writable s h status r e = plain-writable s r (failShowing s h status) e (fail-showing-plain s h status)
+use Rattle.results.specs.Writable.{Readable}
 
 -- "n = min(count, 4096, bytes left)"
 pub readable : (s : Store) (o offset count n : ℕ) → GoodRecords s → o < objects s → n ≡ readLength s o offset count → Readable s o offset n

@@ -2,10 +2,10 @@
 use Prim.Native.Nat.{ℕ, _*_}
 use mathlib.Core.List.{List}
 use Rattle.spec.specs.Checked.{Checked, _>>=_, _>>_, refused, passed}
-use Rattle.spec.specs.Handles.{handleOf, checkName, attributes}
+use Rattle.spec.specs.Handles.{checkName, attributes}
 use Rattle.spec.specs.Image.{Store, blockLength, objects, blocks}
 use Rattle.spec.specs.Procedures.Names.{lookIn}
-use Rattle.spec.specs.Results.{Result, found, gotRoom}
+use Rattle.spec.specs.Results.{Result, gotRoom}
 use Rattle.spec.specs.Room.{freeBlockCount, availableCount}
 use Rattle.reads.specs.declared.lookup.Looked.{Looked}
 use Rattle.reads.specs.declared.lookup.Looked.the-variants as Looked
@@ -13,10 +13,6 @@ use Rattle.reads.specs.declared.lookup.Looked.the-variants as Looked
 -- FSSTAT, of an object that was reached
 abbrev pub roomOf : Store → ℕ → Result
 roomOf s o = gotRoom (attributes s o) (blockLength * blocks s) (blockLength * freeBlockCount s) (objects s) (availableCount s)
-
--- LOOKUP, of the directory and the object that was found
-abbrev pub foundOf : Store → ℕ → ℕ → Result
-foundOf s d o = found (handleOf s o) (attributes s o) (attributes s d)
 
 -- LOOKUP's checks once the directory is known
 abbrev pub checkIn : Store → ℕ → List ℕ → Checked (ℕ × ℕ)

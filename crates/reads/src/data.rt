@@ -10,10 +10,9 @@ ghost use Rattle.results.specs.Meaning.{resultOf};
 ghost use Rattle.results.specs.Writable.{Writable};
 use files::failure::fail_changing;
 use files::failure::fail_showing;
+use files::failure::unchanged;
 use files::handle::Reached;
 use files::handle::reach_regular;
-use files::shown::attributes;
-use files::shown::unchanged;
 use image::object::size_of;
 use kinds::call::Part;
 use kinds::numbers::Limit;
@@ -50,8 +49,7 @@ fn read_result(store: &[u8], o: ObjectNumber, offset: u64, count: u32) -> Reply
     let n = read_length(store, o, offset, count);
     let size = size_of(store, o) as u64;
     let eof = size <= offset + n;
-    let shown = attributes(store, o);
-    Reply::GotBytes(shown, eof, o, offset as usize, n as usize)
+    Reply::GotBytes(o, eof, offset as usize, n as usize)
 }
 
 pub fn read(store: &[u8], call: &[u8], h: Part, offset: u64, count: u32) -> Reply
@@ -71,6 +69,7 @@ pub fn commit(store: &[u8], call: &[u8], h: Part, context: Context) -> Reply
     requires { ⌜ GoodRecords (now store) ⌝ }
     requires { ⌜ h .start + h .length ≤ length (now call) ⌝ }
     ensures { λ r. ⌜ resultOf (now (store .entry)) r ≡ commit (now (store .entry)) context (cut (now (call .entry)) h) .result ⌝ }
+    ensures { λ r. ⌜ Writable (now (store .entry)) r ⌝ }
 {
     let answer = reach_regular(store, call, h);
     match answer {

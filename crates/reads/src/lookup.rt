@@ -1,19 +1,17 @@
 // LOOKUP.
 ghost use mathlib.Core.Path.{_≡_};
-ghost use Prim.Native.Nat.{_+_, _≤_, _<_};
+ghost use Prim.Native.Nat.{_+_, _≤_};
 ghost use lib.ListN.{length};
-ghost use Rattle.spec.specs.Image.{objects};
 ghost use Rattle.spec.specs.Procedures.{cut};
 ghost use Rattle.spec.specs.Procedures.Names.{lookIn, checkLookup, lookup};
 ghost use Rattle.laws.proofs.GoodRecords.{GoodRecords};
 ghost use Rattle.files.specs.Meaning.{reachedOf};
 ghost use Rattle.results.specs.Meaning.{resultOf};
-ghost use Rattle.reads.specs.Parts.{lookedOf, checkIn, foundOf};
+ghost use Rattle.results.specs.Writable.{Writable};
+ghost use Rattle.reads.specs.Parts.{lookedOf, checkIn};
 use files::failure::fail_showing;
 use files::handle::Reached;
-use files::handle::handle_of;
 use files::handle::reach_directory;
-use files::shown::attributes;
 use files::text::TextChecked;
 use files::text::check_name;
 use files::text::is_dot;
@@ -87,29 +85,17 @@ fn check_lookup(store: &[u8], call: &[u8], p: NameIn) -> Looked
     }
 }
 
-// The object that was found in a directory.
-fn found_in(store: &[u8], d: ObjectNumber, o: ObjectNumber) -> Reply
-    requires { ⌜ GoodRecords (now store) ⌝ }
-    requires { ⌜ d .0 < objects (now store) ⌝ }
-    requires { ⌜ o .0 < objects (now store) ⌝ }
-    ensures { λ r. ⌜ resultOf (now (store .entry)) r ≡ foundOf (now (store .entry)) (d .0) (o .0) ⌝ }
-{
-    let handle = handle_of(store, o);
-    let shown = attributes(store, o);
-    let around = attributes(store, d);
-    Reply::Found(handle, shown, around)
-}
-
 pub fn lookup(store: &[u8], call: &[u8], p: NameIn) -> Reply
     requires { ⌜ GoodRecords (now store) ⌝ }
     requires { ⌜ p .directory .start + p .directory .length ≤ length (now call) ⌝ }
     requires { ⌜ p .name .start + p .name .length ≤ length (now call) ⌝ }
     ensures { λ r. ⌜ resultOf (now (store .entry)) r ≡ lookup (now (store .entry)) (cut (now (call .entry)) (p .directory)) (cut (now (call .entry)) (p .name)) .result ⌝ }
+    ensures { λ r. ⌜ Writable (now (store .entry)) r ⌝ }
 {
     let directory = p.directory;
     let looked = check_lookup(store, call, p);
     match looked {
-        Looked::At(d, o) => found_in(store, d, o),
+        Looked::At(d, o) => Reply::Found(o, d),
         Looked::Refused(status) => fail_showing(store, call, directory, status),
     }
 }

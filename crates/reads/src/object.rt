@@ -7,10 +7,10 @@ ghost use Rattle.spec.specs.Procedures.{cut};
 ghost use Rattle.spec.specs.Procedures.Attributes.{getattr, grantedBits, access};
 ghost use Rattle.laws.proofs.GoodRecords.{GoodRecords};
 ghost use Rattle.results.specs.Meaning.{resultOf};
+ghost use Rattle.results.specs.Writable.{Writable};
 use files::failure::fail_showing;
 use files::handle::Reached;
 use files::handle::reach;
-use files::shown::attributes;
 use image::object::is_directory;
 use kinds::call::Part;
 use kinds::numbers::ObjectNumber;
@@ -20,10 +20,11 @@ pub fn getattr(store: &[u8], call: &[u8], h: Part) -> Reply
     requires { ⌜ GoodRecords (now store) ⌝ }
     requires { ⌜ h .start + h .length ≤ length (now call) ⌝ }
     ensures { λ r. ⌜ resultOf (now (store .entry)) r ≡ getattr (now (store .entry)) (cut (now (call .entry)) h) .result ⌝ }
+    ensures { λ r. ⌜ Writable (now (store .entry)) r ⌝ }
 {
     let answer = reach(store, call, h);
     match answer {
-        Reached::At(o) => Reply::GotAttributes(attributes(store, o)),
+        Reached::At(o) => Reply::GotAttributes(o),
         Reached::Refused(status) => Reply::Dead(status),
     }
 }
@@ -44,10 +45,11 @@ pub fn access(store: &[u8], call: &[u8], h: Part, bits: u32) -> Reply
     requires { ⌜ GoodRecords (now store) ⌝ }
     requires { ⌜ h .start + h .length ≤ length (now call) ⌝ }
     ensures { λ r. ⌜ resultOf (now (store .entry)) r ≡ access (now (store .entry)) (cut (now (call .entry)) h) bits .result ⌝ }
+    ensures { λ r. ⌜ Writable (now (store .entry)) r ⌝ }
 {
     let answer = reach(store, call, h);
     match answer {
-        Reached::At(o) => Reply::Granted(attributes(store, o), granted_bits(store, o, bits)),
+        Reached::At(o) => Reply::Granted(o, granted_bits(store, o, bits)),
         Reached::Refused(status) => fail_showing(store, call, h, status),
     }
 }

@@ -8,11 +8,11 @@ ghost use Rattle.spec.specs.Procedures.Volume.{fsstat, fsinfo, pathconf};
 ghost use Rattle.spec.specs.Room.{freeBlockCount};
 ghost use Rattle.laws.proofs.GoodRecords.{GoodRecords};
 ghost use Rattle.results.specs.Meaning.{resultOf};
+ghost use Rattle.results.specs.Writable.{Writable};
 ghost use Rattle.reads.specs.Parts.{roomOf};
 use files::failure::fail_showing;
 use files::handle::Reached;
 use files::handle::reach;
-use files::shown::attributes;
 use find::object::available_count;
 use image::counts::block_count;
 use image::counts::object_count;
@@ -27,19 +27,13 @@ fn room(store: &[u8], o: ObjectNumber, free: usize) -> Reply
     requires { ⌜ o .0 < objects (now store) ⌝ }
     requires { ⌜ free ≡ freeBlockCount (now store) ⌝ }
     ensures { λ r. ⌜ resultOf (now (store .entry)) r ≡ roomOf (now (store .entry)) (o .0) ⌝ }
+    ensures { λ r. ⌜ Writable (now (store .entry)) r ⌝ }
 {
     let total = Limit::BLOCK_BYTES * block_count(store);
     let unused = Limit::BLOCK_BYTES * free;
     let all = object_count(store);
     let available = available_count(store);
-    let shown = attributes(store, o);
-    Reply::GotRoom(
-        shown,
-        total as u32,
-        unused as u32,
-        all as u32,
-        available as u32,
-    )
+    Reply::GotRoom(o, total as u32, unused as u32, all as u32, available as u32)
 }
 
 pub fn fsstat(store: &[u8], call: &[u8], h: Part, free: usize) -> Reply
@@ -47,6 +41,7 @@ pub fn fsstat(store: &[u8], call: &[u8], h: Part, free: usize) -> Reply
     requires { ⌜ h .start + h .length ≤ length (now call) ⌝ }
     requires { ⌜ free ≡ freeBlockCount (now store) ⌝ }
     ensures { λ r. ⌜ resultOf (now (store .entry)) r ≡ fsstat (now (store .entry)) (cut (now (call .entry)) h) .result ⌝ }
+    ensures { λ r. ⌜ Writable (now (store .entry)) r ⌝ }
 {
     let answer = reach(store, call, h);
     match answer {
@@ -59,10 +54,11 @@ pub fn fsinfo(store: &[u8], call: &[u8], h: Part) -> Reply
     requires { ⌜ GoodRecords (now store) ⌝ }
     requires { ⌜ h .start + h .length ≤ length (now call) ⌝ }
     ensures { λ r. ⌜ resultOf (now (store .entry)) r ≡ fsinfo (now (store .entry)) (cut (now (call .entry)) h) .result ⌝ }
+    ensures { λ r. ⌜ Writable (now (store .entry)) r ⌝ }
 {
     let answer = reach(store, call, h);
     match answer {
-        Reached::At(o) => Reply::GotLimits(attributes(store, o)),
+        Reached::At(o) => Reply::GotLimits(o),
         Reached::Refused(status) => fail_showing(store, call, h, status),
     }
 }
@@ -71,10 +67,11 @@ pub fn pathconf(store: &[u8], call: &[u8], h: Part) -> Reply
     requires { ⌜ GoodRecords (now store) ⌝ }
     requires { ⌜ h .start + h .length ≤ length (now call) ⌝ }
     ensures { λ r. ⌜ resultOf (now (store .entry)) r ≡ pathconf (now (store .entry)) (cut (now (call .entry)) h) .result ⌝ }
+    ensures { λ r. ⌜ Writable (now (store .entry)) r ⌝ }
 {
     let answer = reach(store, call, h);
     match answer {
-        Reached::At(o) => Reply::GotNaming(attributes(store, o)),
+        Reached::At(o) => Reply::GotNaming(o),
         Reached::Refused(status) => fail_showing(store, call, h, status),
     }
 }

@@ -7,7 +7,6 @@ use lib.ListN.{length}
 use Rattle.kinds.specs.declared.numbers.NameNumber.{NameNumber}
 use Rattle.kinds.specs.declared.numbers.ObjectNumber.{ObjectNumber}
 use Rattle.kinds.specs.declared.object.Before.{Before}
-use Rattle.kinds.specs.declared.object.Change.{Change}
 use Rattle.kinds.specs.declared.object.Context.{Context}
 use Rattle.kinds.specs.declared.call.NameIn.{NameIn}
 use Rattle.kinds.specs.declared.call.Arguments.the-variants as Arguments
@@ -24,7 +23,8 @@ use Rattle.laws.proofs.GoodRecords.{GoodRecords, StillGood, GoodClock, used-at}
 use Rattle.laws.proofs.Passed.{EntryPassed, remove-passed, rmdir-passed, rename-passed, found-record}
 use Rattle.laws.proofs.Range.{Below}
 use Rattle.laws.proofs.Valid.{Valid}
-use Rattle.files.specs.Meaning.{changeFrom}
+use Rattle.results.specs.Meaning.{changeIn}
+use Rattle.results.specs.Writable.{Showable}
 use Rattle.entry_edits.specs.Records.{RemovableAt, MovableAt}
 use Rattle.removable.specs.Meaning.{removableOf}
 use Rattle.renamable.specs.Meaning.{renamableOf}
@@ -35,13 +35,13 @@ use Rattle.renamable.specs.declared.Renamable.the-variants as Renamable
 
 -- ---- after an edit
 -- the store u is t, which came from s
-pub still-here : (s t u : Store) (d : ℕ) → StillGood s t → d < objects s → u ≡ t → GoodRecords u × (d < objects u)
-still-here s t u d a l e = rw e (a .good, omega (arith, a .shape .objects))
+pub still-showable : (s t u : Store) (d : ℕ) → StillGood s t → d < objects s → u ≡ t → Showable u d
+still-showable s t u d a l e = rw e (record { good = a .good; object = omega (arith, a .shape .objects) })
 
--- a change is made of what was read before, and of what is read after
-pub change-made : (s t u : Store) (d : ℕ) (b : Before) (x : Change) → b ≡ before s d → x ≡ changeFrom b u d → u ≡ t → x ≡ change s t d
+-- a change is made of what was read before, and of the store that is left
+pub change-made : (s t u : Store) (d : ObjectNumber) (b : Before) → b ≡ before s (d .0) → u ≡ t → changeIn u (record { before = b; object = d }) ≡ change s t (d .0)
 unfolding change
-change-made s t u d b x e f g = f ∙ rw (e, g)
+change-made s t u d b e g = rw (e, g)
 
 -- ---- what the checks give
 pub record Removing (s : Store) (c : Context) (d n : ℕ) : Type 0 where

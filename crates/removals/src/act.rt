@@ -9,14 +9,14 @@ ghost use Rattle.spec.specs.Procedures.Names.{touchDirectory};
 ghost use Rattle.spec.specs.Procedures.Removal.{remove, rmdir, renameEdit, failRenaming, renamedTo, rename};
 ghost use Rattle.laws.proofs.GoodRecords.{GoodRecords, StillGood, GoodClock};
 ghost use Rattle.laws.proofs.Valid.{Valid};
-ghost use Rattle.results.specs.Meaning.{resultOf, Does};
+ghost use Rattle.results.specs.Meaning.{resultOf};
+ghost use Rattle.results.specs.Writable.{Writable};
+ghost use Rattle.results.specs.Does.{Does};
 ghost use Rattle.entry_edits.specs.Records.{RemovableAt, MovableAt};
 use entry_edits::remove_edit;
 use entry_edits::rename_edit;
 use files::failure::fail_changing;
 use files::failure::handle_change;
-use files::shown::before;
-use files::shown::change_from;
 use kinds::call::NameIn;
 use kinds::call::Part;
 use kinds::numbers::NameNumber;
@@ -29,7 +29,9 @@ use removable::check_rmdir;
 use renamable::Renamable;
 use renamable::check_rename;
 use results::HandleChange;
+use results::ObjectChange;
 use results::Reply;
+use shown::before;
 
 // The edit, and the directory's change.
 fn remove_entry(store: &mut [u8], context: Context, d: ObjectNumber, n: NameNumber) -> Reply
@@ -40,7 +42,10 @@ fn remove_entry(store: &mut [u8], context: Context, d: ObjectNumber, n: NameNumb
 {
     let earlier = before(store, d);
     remove_edit(store, context, d, n);
-    let change = change_from(earlier, store, d);
+    let change = ObjectChange {
+        before: earlier,
+        object: d,
+    };
     Reply::Changed(Status::OK, change)
 }
 
@@ -82,6 +87,7 @@ fn fail_renaming(store: &[u8], call: &[u8], source: Part, target: Part, status: 
     requires { ⌜ source .start + source .length ≤ length (now call) ⌝ }
     requires { ⌜ target .start + target .length ≤ length (now call) ⌝ }
     ensures { λ r. ⌜ resultOf (now (store .entry)) r ≡ failRenaming (now (store .entry)) (cut (now (call .entry)) source) (cut (now (call .entry)) target) (status .0) ⌝ }
+    ensures { λ r. ⌜ Writable (now (store .entry)) r ⌝ }
 {
     let from = handle_change(store, call, source);
     let to = handle_change(store, call, target);
@@ -113,8 +119,14 @@ fn rename_entry(
     let from = before(store, d);
     let to = before(store, e);
     rename_edit(store, context, d, e, n, call, name);
-    let source = change_from(from, store, d);
-    let target = change_from(to, store, e);
+    let source = ObjectChange {
+        before: from,
+        object: d,
+    };
+    let target = ObjectChange {
+        before: to,
+        object: e,
+    };
     Reply::Renamed(
         Status::OK,
         HandleChange::Present(source),

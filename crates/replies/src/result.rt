@@ -46,25 +46,21 @@ pub fn put_result(reply: &mut [u8], store: &[u8], procedure: u32, xid: u32, r: R
     match r {
         Reply::Null => at,
         Reply::Dead(status) => put_dead(reply, at, procedure as usize, status),
-        Reply::Failed(status, a) => put_failed(reply, at, status, a),
-        Reply::Changed(status, c) => put_changed(reply, at, status, c),
-        Reply::Renamed(status, c, d) => put_renamed(reply, at, status, c, d),
-        Reply::GotAttributes(a) => put_got_attributes(reply, at, a),
-        Reply::Found(h, a, d) => put_found(reply, at, h, a, d),
-        Reply::Granted(a, bits) => put_granted(reply, at, a, bits),
-        Reply::GotBytes(a, eof, o, offset, n) => {
-            put_got_bytes(reply, at, store, a, eof, o, offset, n)
+        Reply::Failed(status, o) => put_failed(reply, at, store, status, o),
+        Reply::Changed(status, c) => put_changed(reply, at, store, status, c),
+        Reply::Renamed(status, c, d) => put_renamed(reply, at, store, status, c, d),
+        Reply::GotAttributes(o) => put_got_attributes(reply, at, store, o),
+        Reply::Found(o, d) => put_found(reply, at, store, o, d),
+        Reply::Granted(o, bits) => put_granted(reply, at, store, o, bits),
+        Reply::GotBytes(o, eof, offset, n) => put_got_bytes(reply, at, store, o, eof, offset, n),
+        Reply::Wrote(c, count, verifier) => put_wrote(reply, at, store, c, count, verifier),
+        Reply::Created(o, d) => put_created(reply, at, store, o, d),
+        Reply::Listed(o, eof, cookie, n) => put_listed(reply, at, store, o, eof, cookie, n),
+        Reply::GotRoom(o, total, free, objects, available) => {
+            put_got_room(reply, at, store, o, total, free, objects, available)
         }
-        Reply::Wrote(c, count, verifier) => put_wrote(reply, at, c, count, verifier),
-        Reply::Created(h, a, d) => put_created(reply, at, h, a, d),
-        Reply::Listed(a, eof, d, cookie, n) => {
-            put_listed(reply, at, store, a, eof, d, cookie, n)
-        }
-        Reply::GotRoom(a, total, free, objects, available) => {
-            put_got_room(reply, at, a, total, free, objects, available)
-        }
-        Reply::GotLimits(a) => put_got_limits(reply, at, a),
-        Reply::GotNaming(a) => put_got_naming(reply, at, a),
-        Reply::Committed(c, verifier) => put_committed(reply, at, c, verifier),
+        Reply::GotLimits(o) => put_got_limits(reply, at, store, o),
+        Reply::GotNaming(o) => put_got_naming(reply, at, store, o),
+        Reply::Committed(c, verifier) => put_committed(reply, at, store, c, verifier),
     }
 }

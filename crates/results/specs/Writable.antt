@@ -6,8 +6,19 @@ use Rattle.spec.specs.Room.{sizeOf}
 use Rattle.spec.specs.Replies.{entriesBytes}
 use Rattle.spec.specs.Procedures.Listing.{entries, entriesAbove}
 use Rattle.laws.proofs.GoodRecords.{GoodRecords}
+use Rattle.results.specs.declared.HandleChange.{HandleChange}
+use Rattle.results.specs.declared.HandleChange.the-variants as HandleChange
 use Rattle.results.specs.declared.Reply.{Reply}
 use Rattle.results.specs.declared.Reply.the-variants as Reply
+
+-- an object whose attributes, and whose handle, the store has
+pub record Showable (s : Store) (o : ℕ) : Type 0 where
+  pub good : GoodRecords s
+  pub object : o < objects s
+
+abbrev pub ShowableChange : Store → HandleChange → Type 0
+ShowableChange s HandleChange.Absent = Unit {0}
+ShowableChange s (HandleChange.Present c) = Showable s (c .object .0)
 
 -- n bytes of object o's file from an offset: at most as many as one READ moves, and at most as many as are left
 pub record Readable (s : Store) (o offset n : ℕ) : Type 0 where
@@ -27,17 +38,17 @@ pub record Listable (s : Store) (d cookie count : ℕ) : Type 0 where
 abbrev pub Writable : Store → Reply → Type 0
 Writable s Reply.Null = Unit {0}
 Writable s (Reply.Dead status) = Unit {0}
-Writable s (Reply.Failed status a) = Unit {0}
-Writable s (Reply.Changed status c) = Unit {0}
-Writable s (Reply.Renamed status c d) = Unit {0}
-Writable s (Reply.GotAttributes a) = Unit {0}
-Writable s (Reply.Found h a d) = Unit {0}
-Writable s (Reply.Granted a bits) = Unit {0}
-Writable s (Reply.GotBytes a eof o offset n) = Readable s (o .0) offset n
-Writable s (Reply.Wrote c count verifier) = Unit {0}
-Writable s (Reply.Created h a d) = Unit {0}
-Writable s (Reply.Listed a eof d cookie n) = Listable s (d .0) cookie n
-Writable s (Reply.GotRoom a total free objects available) = Unit {0}
-Writable s (Reply.GotLimits a) = Unit {0}
-Writable s (Reply.GotNaming a) = Unit {0}
-Writable s (Reply.Committed c verifier) = Unit {0}
+Writable s (Reply.Failed status o) = Showable s (o .0)
+Writable s (Reply.Changed status c) = Showable s (c .object .0)
+Writable s (Reply.Renamed status c d) = ShowableChange s c × ShowableChange s d
+Writable s (Reply.GotAttributes o) = Showable s (o .0)
+Writable s (Reply.Found o d) = Showable s (o .0) × Showable s (d .0)
+Writable s (Reply.Granted o bits) = Showable s (o .0)
+Writable s (Reply.GotBytes o eof offset n) = Readable s (o .0) offset n
+Writable s (Reply.Wrote c count verifier) = Showable s (c .object .0)
+Writable s (Reply.Created o d) = Showable s (o .0) × Showable s (d .object .0)
+Writable s (Reply.Listed d eof cookie n) = Listable s (d .0) cookie n
+Writable s (Reply.GotRoom o total free objects available) = Showable s (o .0)
+Writable s (Reply.GotLimits o) = Showable s (o .0)
+Writable s (Reply.GotNaming o) = Showable s (o .0)
+Writable s (Reply.Committed c verifier) = Showable s (c .object .0)

@@ -10,7 +10,6 @@ ghost use Rattle.spec.specs.Procedures.Names.{roomForNew};
 ghost use Rattle.laws.proofs.GoodRecords.{GoodRecords};
 ghost use Rattle.find.specs.Blocks.{UsedMap};
 ghost use Rattle.room.specs.Meaning.{roomOf};
-use files::shown::need;
 use find::block::free_block_count;
 use find::found::FoundName;
 use find::found::FoundObject;
@@ -23,6 +22,7 @@ use kinds::numbers::NameNumber;
 use kinds::numbers::ObjectNumber;
 use kinds::numbers::Status;
 use settable::size_set;
+use shown::need;
 
 // A free object record and a free name record, or the status.
 pub enum RoomChecked {

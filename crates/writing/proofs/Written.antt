@@ -23,8 +23,13 @@ use Rattle.laws.proofs.Range.{Below}
 use Rattle.laws.proofs.Resize.{resize-size, resize-tree}
 use Rattle.laws.proofs.Shape.{SameShape}
 use Rattle.laws.proofs.Valid.{Live}
-use Rattle.files.proofs.Good.{size-few}
+use Rattle.results.specs.Writable.{Showable}
+use Rattle.shown.proofs.Good.{size-few}
 use Rattle.writing.specs.Writable.{Writable}
+
+-- an object's attributes can be written from the store that an edit leaves
+pub left-showable : (s t u : Store) (o : ℕ) → StillGood s u → t ≡ u → o < objects s → Showable t o
+left-showable s t u o h e l = rw e (record { good = h .good; object = rw (h .shape .objects) l })
 
 -- the record of an object lies in a store of the same shape
 pub record-inside : (s t : Store) (o : ℕ) → GoodRecords s → SameShape s t → o < objects s → objectStart o + 80 ≤ length t

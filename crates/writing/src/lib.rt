@@ -8,20 +8,20 @@ ghost use Rattle.spec.specs.Procedures.{cut};
 ghost use Rattle.spec.specs.Procedures.Data.{mostBytes, writeEdit, writeStore, writeDone};
 ghost use Rattle.laws.proofs.GoodRecords.{GoodRecords, StillGood};
 ghost use Rattle.find.specs.Blocks.{UsedMap};
-ghost use Rattle.results.specs.Meaning.{Does};
+ghost use Rattle.results.specs.Does.{Does};
 ghost use Rattle.writing.specs.Writable.{Writable, WritableSome};
 use blocks::write_file;
 use edits::size::resize;
-use files::shown::before;
-use files::shown::change_from;
-use files::shown::unchanged;
+use files::failure::unchanged;
 use image::object::size_of;
 use kinds::call::Part;
 use kinds::numbers::ObjectNumber;
 use kinds::object::Context;
 use metadata::touch;
+use results::ObjectChange;
 use results::Reply;
 use room::transferred;
+use shown::before;
 
 // The larger of two numbers.
 fn larger(a: usize, b: usize) -> usize
@@ -94,5 +94,9 @@ pub fn write_checked(
         n,
     );
     let written = n as u32;
-    Reply::Wrote(change_from(earlier, store, o), written, context.verifier)
+    let change = ObjectChange {
+        before: earlier,
+        object: o,
+    };
+    Reply::Wrote(change, written, context.verifier)
 }

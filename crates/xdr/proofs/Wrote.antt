@@ -6,8 +6,8 @@ use native.Mathlib.Omega.{arith}
 use native.Mathlib.Numerals.{add-one}
 use lib.ListN.{length, take, getD, length-append}
 use lib.Seq.{take-suc}
-use Rattle.spec.specs.Bytes.{overlay, words, part}
-use Rattle.laws.proofs.Bytes.{part-cons, part-add, overlay-none, overlay-length, overlay-more}
+use Rattle.spec.specs.Bytes.{overlay, words}
+use Rattle.laws.proofs.Bytes.{overlay-none, overlay-length, overlay-more}
 use Rattle.laws.proofs.Words.{words-append, words-length}
 use Rattle.xdr.specs.Wrote.{Wrote}
 
@@ -57,32 +57,3 @@ pub wrote-word : (ws : List ℕ) (i : ℕ) {r r₁ r₂ : List ℕ} {at p q : �
 wrote-word ws i h a b =
     let e : 4 * (i + 1) ≡ 4 * i + 4 = omega arith in
     rw (add-one i, take-suc ws i 0 h, ← add-one i, e) (andWords (take i ws) (getD ws i 0 ∷ []) a b)
-
--- seven words of a list, and seven words more of it
-next-word : (ws : List ℕ) (i j w : ℕ) → j ≡ i + 1 → i < length ws → part ws i (w + 1) ≡ getD ws i 0 ∷ part ws j w
-next-word ws i j w e h = rw (add-one w, e, add-one i) (part-cons ws i w h)
-
-pub seven : (ws : List ℕ) (i : ℕ) → i + 7 ≤ length ws
-    → part ws i 7 ≡ getD ws i 0 ∷ getD ws (i + 1) 0 ∷ getD ws (i + 2) 0 ∷ getD ws (i + 3) 0 ∷ getD ws (i + 4) 0 ∷ getD ws (i + 5) 0 ∷ getD ws (i + 6) 0 ∷ []
-unfolding part
-seven ws i h =
-    rw (
-      next-word ws i (i + 1) 6 (omega arith) (omega arith),
-      next-word ws (i + 1) (i + 2) 5 (omega arith) (omega arith),
-      next-word ws (i + 2) (i + 3) 4 (omega arith) (omega arith),
-      next-word ws (i + 3) (i + 4) 3 (omega arith) (omega arith),
-      next-word ws (i + 4) (i + 5) 2 (omega arith) (omega arith),
-      next-word ws (i + 5) (i + 6) 1 (omega arith) (omega arith),
-      next-word ws (i + 6) (i + 7) 0 (omega arith) (omega arith),
-    )
-
-more-seven : (ws : List ℕ) (i : ℕ) → take (i + 7) ws ≡ take i ws ++ part ws i 7
-unfolding part
-more-seven ws i = let z : 0 + i ≡ i = omega arith in part-add ws 0 i 7 ∙ ap (λ (k : ℕ). take i ws ++ part ws k 7) z
-
-pub wrote-seven : (ws : List ℕ) (i : ℕ) {r r₁ r₂ : List ℕ} {at p q : ℕ}
-    → Wrote (4 * i) r r₁ at p (words (take i ws)) → Wrote 28 r₁ r₂ p q (words (part ws i 7))
-    → Wrote (4 * (i + 7)) r r₂ at q (words (take (i + 7) ws))
-wrote-seven ws i a b =
-    let e : 4 * (i + 7) ≡ 4 * i + 28 = omega arith in
-    rw (e, more-seven ws i) (andWords (take i ws) (part ws i 7) a b)

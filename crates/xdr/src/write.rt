@@ -1,6 +1,5 @@
 // Writes XDR at a place of the reply space, and answers the place behind it.
-ghost use Prim.Native.Nat.{_+_, _*_, _%_, _≤_};
-ghost use mathlib.Core.Path.{_≡_};
+ghost use Prim.Native.Nat.{_+_, _*_, _≤_};
 ghost use mathlib.Core.List.{[], _∷_};
 ghost use lib.ListN.{length};
 ghost use Rattle.spec.specs.Bytes.{words, part, padding, opaqueBytes};
@@ -30,34 +29,28 @@ pub fn put_words(reply: &mut [u8], at: usize, ws: &[u32]) -> usize
     next
 }
 
-// Seven words of ws from index i on.
-fn put_seven(reply: &mut [u8], at: usize, ws: &[u32], i: usize) -> usize
-    requires { ⌜ i + 7 ≤ length (now ws) ⌝ }
+// Seven words: attributes are three times as many, those before a call as many.
+pub fn put_seven(
+    reply: &mut [u8],
+    at: usize,
+    a: u32,
+    b: u32,
+    c: u32,
+    d: u32,
+    e: u32,
+    f: u32,
+    g: u32,
+) -> usize
     requires { ⌜ at + 28 ≤ length (now reply) ⌝ }
-    ensures { λ r. ⌜ Wrote 28 (now (reply .entry)) (now (reply .exit)) at r (words (part (now (ws .entry)) i 7)) ⌝ }
+    ensures { λ r. ⌜ Wrote 28 (now (reply .entry)) (now (reply .exit)) at r (words (a ∷ b ∷ c ∷ d ∷ e ∷ f ∷ g ∷ [])) ⌝ }
 {
-    let second = put_word(reply, at, ws[i]);
-    let third = put_word(reply, second, ws[i + 1]);
-    let fourth = put_word(reply, third, ws[i + 2]);
-    let fifth = put_word(reply, fourth, ws[i + 3]);
-    let sixth = put_word(reply, fifth, ws[i + 4]);
-    let last = put_word(reply, sixth, ws[i + 5]);
-    put_word(reply, last, ws[i + 6])
-}
-
-// Words, one behind the other, whose number is a multiple of seven: attributes are 21 or 7.
-pub fn put_sevens(reply: &mut [u8], at: usize, ws: &[u32]) -> usize
-    requires { ⌜ length (now ws) % 7 ≡ 0 ⌝ }
-    requires { ⌜ at + 4 * length (now ws) ≤ length (now reply) ⌝ }
-    ensures { λ r. ⌜ Wrote (4 * length (now (ws .entry))) (now (reply .entry)) (now (reply .exit)) at r (words (now (ws .entry))) ⌝ }
-{
-    let mut i = 0;
-    let mut next = at;
-    while i < ws.len() {
-        next = put_seven(reply, next, ws, i);
-        i += 7;
-    }
-    next
+    let second = put_word(reply, at, a);
+    let third = put_word(reply, second, b);
+    let fourth = put_word(reply, third, c);
+    let fifth = put_word(reply, fourth, d);
+    let sixth = put_word(reply, fifth, e);
+    let last = put_word(reply, sixth, f);
+    put_word(reply, last, g)
 }
 
 // The len bytes of src from `from`.

@@ -6,8 +6,8 @@ use Rattle.bodies.proofs.put_got_bytes.Tie as tie
 put-failed-requires : tie.Need-put-failed-requires
 put-failed-requires c κs = search needs
 
-cast-t15 : tie.Need-cast-t15
-cast-t15 c = search needs
+cast-t14 : tie.Need-cast-t14
+cast-t14 c = search needs
 
 flag-requires : tie.Need-flag-requires
 flag-requires c κs = search needs
@@ -29,4 +29,4 @@ returns c = andThen (andWords _ _ (c .before .before .before .before .before .be
 
 pub put-got-bytes-spec : {M : Type 1} → statement M
 put-got-bytes-spec =
-    tie.close (tie.spec put-failed-requires cast-t15 flag-requires slice-aggregate-put-words put-words-requires put-file-bytes-requires same-length returns)
+    tie.close (tie.spec put-failed-requires cast-t14 flag-requires slice-aggregate-put-words put-words-requires put-file-bytes-requires same-length returns)

@@ -12,7 +12,9 @@ put-handle-change-requires : tie.Need-put-handle-change-requires
 put-handle-change-requires c κs = search needs
 
 put-handle-change-requires-2 : tie.Need-put-handle-change-requires-2
-put-handle-change-requires-2 c κs = omega (arith, change-small (c .before .before .before .before .before .before .before .before .before .before .args .c))
+put-handle-change-requires-2 c κs =
+    let st = c .before .before .before .before .before .before .before .before .before .before .before in
+    (omega (arith, change-small (st .args .store .now) (st .args .c)), st .pre .1 .1)
 
 same-length : tie.Need-same-length
 same-length c = search needs

@@ -1,7 +1,6 @@
 use borrow.Author.Needs.{needs}
 use Rattle.spec.specs.Procedures.Listing.{checkReaddir, readdir}
 use Rattle.files.proofs.Reach.{directory-reached}
-use Rattle.reads.proofs.Writable.{failure-writable}
 use Rattle.listing.proofs.readdir.Statement.{statement}
 use Rattle.listing.proofs.readdir.Tie as tie
 
@@ -32,8 +31,8 @@ returns c = (
 returns-2 : tie.Need-returns-2
 unfolding checkReaddir readdir
 returns-2 c = (
-  rw (← c .before .before .before .before .reach-directory .ensures, c .before .before .answer2 .given .1) (c .fail-showing .ensures),
-  failure-writable _ _ _ (c .fail-showing .result) (c .fail-showing .ensures),
+  rw (← c .before .before .before .before .reach-directory .ensures, c .before .before .answer2 .given .1) (c .fail-showing .ensures .0),
+  c .fail-showing .ensures .1,
 )
 
 pub readdir-spec : {M : Type 1} → statement M

@@ -7,7 +7,6 @@ use Rattle.spec.specs.Procedures.{cut}
 use Rattle.spec.specs.Procedures.Listing.{entries, entriesAbove, checkListing}
 use Rattle.listing.specs.Run.{listingOf}
 use Rattle.listing.proofs.Sent.{listed-sent, listed-refused}
-use Rattle.reads.proofs.Writable.{failure-writable}
 use Rattle.listing.proofs.Writable.{listable}
 use Rattle.listing.proofs.readdir_in.Statement.{statement}
 use Rattle.listing.proofs.readdir_in.Tie as tie
@@ -17,8 +16,8 @@ fail-showing-requires c κs = search needs
 
 returns : tie.Need-returns
 returns c = (
-  rw (ne-eqb _ _ (c .before .if1 .taken)) (c .fail-showing .ensures),
-  failure-writable _ _ _ (c .fail-showing .result) (c .fail-showing .ensures),
+  rw (ne-eqb _ _ (c .before .if1 .taken)) (c .fail-showing .ensures .0),
+  c .fail-showing .ensures .1,
 )
 
 least-requires : tie.Need-least-requires
@@ -30,9 +29,6 @@ check-listing-requires c κs = search needs
 enum-known-listing : tie.Need-enum-known-listing
 enum-known-listing c = search needs
 
-attributes-requires : tie.Need-attributes-requires
-attributes-requires c κs = search needs
-
 enum-known-listing-2 : tie.Need-enum-known-listing-2
 enum-known-listing-2 c = search needs
 
@@ -41,19 +37,18 @@ fail-showing-requires-2 c κs = search needs
 
 returns-2 : tie.Need-returns-2
 returns-2 c =
-    let st = c .before .before .before .before .before .before .before .before .before in
+    let st = c .before .before .before .before .before .before .before .before in
     let a = st .args in
     let h = cut (a .call .now) (a .h) in
     let es = entriesAbove (a .cookie) (entries (a .store .now) (a .d .0)) in
-    let limit = c .before .before .before .before .before .least .result in
-    let m : limit ≤ 4096 = omega (arith, c .before .before .before .before .before .least .ensures) in
-    let is = c .before .before .listing .given .1 in
-    let sent = c .before .before .before .before .check-listing .ensures in
+    let limit = c .before .before .before .before .least .result in
+    let m : limit ≤ 4096 = omega (arith, c .before .before .before .before .least .ensures) in
+    let is = c .before .listing .given .1 in
+    let sent = c .before .before .before .check-listing .ensures in
     let e = sym (ap (listingOf es) is) ∙ sent in (
       rw (
-        c .attributes .ensures,
-        eq-eqb _ _ (c .before .before .before .before .before .before .if1 .left),
-        ← c .before .before .before .before .before .least .ensures,
+        eq-eqb _ _ (c .before .before .before .before .before .if1 .left),
+        ← c .before .before .before .before .least .ensures,
       )
           (listed-sent (a .store .now) h (a .d .0) (a .cookie) (checkListing 104 24 limit es) _ _ e),
       listable (a .store .now) (a .d .0) (a .cookie) limit _ _ _ (st .pre .0) (st .pre .1 .1) m is sent,
@@ -70,9 +65,9 @@ returns-3 c =
         eq-eqb _ _ (c .before .before .before .before .before .before .if1 .left),
         ← c .before .before .before .before .before .least .ensures,
       )
-          (c .fail-showing2 .ensures ∙ k),
-      failure-writable _ _ _ (c .fail-showing2 .result) (c .fail-showing2 .ensures),
+          (c .fail-showing2 .ensures .0 ∙ k),
+      c .fail-showing2 .ensures .1,
     )
 
 pub readdir-in-spec : {M : Type 1} → statement M
-readdir-in-spec = tie.close (tie.spec fail-showing-requires returns least-requires check-listing-requires enum-known-listing attributes-requires enum-known-listing-2 fail-showing-requires-2 returns-2 returns-3)
+readdir-in-spec = tie.close (tie.spec fail-showing-requires returns least-requires check-listing-requires enum-known-listing enum-known-listing-2 fail-showing-requires-2 returns-2 returns-3)

@@ -3,7 +3,7 @@ use mathlib.Core.Path.{refl}
 use native.Mathlib.Omega.{arith}
 use borrow.Author.Needs.{needs}
 use Rattle.spec.specs.Handles.{change}
-use Rattle.writing.proofs.Written.{moved-bytes, no-bytes, some-bytes, none-moved, moved-length, written-left}
+use Rattle.writing.proofs.Written.{moved-bytes, no-bytes, some-bytes, none-moved, moved-length, written-left, left-showable}
 use Rattle.writing.proofs.write_checked.Statement.{statement}
 use Rattle.writing.proofs.write_checked.Tie as tie
 
@@ -17,11 +17,12 @@ same-length : tie.Need-same-length
 same-length c = search needs
 
 returns : tie.Need-returns
+unfolding change
 returns c =
     let st = c .before .before .before .before .before .before in
     let n = c .before .before .before .transferred .result in
     rw (← c .before .before .before .transferred .ensures, no-bytes _ _ _ _ _ (none-moved (st .args .call .now) (st .args .bytes) n (c .before .before .if1 .taken)))
-    (record { result = rw (c .unchanged .ensures); store = refl })
+    (record { result = rw (c .unchanged .ensures); store = refl; writable = rw (c .unchanged .ensures) (record { good = st .pre .0; object = st .pre .1 .1 .0 }) })
 
 before-requires : tie.Need-before-requires
 before-requires c κs = let st = c .before .before .before .before .before in (st .pre .0, st .pre .1 .1 .0)
@@ -37,27 +38,20 @@ write-edit-requires c κs =
 cast-written : tie.Need-cast-written
 cast-written c = search needs
 
-change-from-requires : tie.Need-change-from-requires
-change-from-requires c κs =
-    let st = c .before .before .before .before .before .before .before .before .before .before .before in
-    let n = c .before .before .before .before .before .before .before .before .transferred .result in
-    let e = c .before .before .before .before .before .before .before .before .transferred .ensures in
-    let few : n ≤ st .args .bytes .length = rw e (st .pre .1 .1 .1 .1 .1 .0) in
-    let l = written-left (st .args .call .now) (st .args .bytes) n (st .args .store .now) (st .args .context) (st .args .offset) (st .args .o .0) (c .before .before .before .before .before .before .before .if1 .left) few (st .pre .1 .1 .1 .1 .0) (rw (← e) at (st .pre .1 .1 .1 .1 .1 .1)) in
-    (rw (c .before .before .before .write-edit .ensures) (l .good), rw (c .before .before .before .write-edit .ensures, l .shape .objects) (st .pre .1 .1 .0))
-
 same-length-2 : tie.Need-same-length-2
 same-length-2 c = search needs
 
 returns-2 : tie.Need-returns-2
 unfolding change
 returns-2 c =
-    let st = c .before .before .before .before .before .before .before .before .before .before .before .before in
-    let n = c .before .before .before .before .before .before .before .before .before .transferred .result in
-    let e = c .before .before .before .before .before .before .before .before .before .transferred .ensures in
+    let st = c .before .before .before .before .before .before .before .before .before .before in
+    let n = c .before .before .before .before .before .before .before .transferred .result in
+    let e = c .before .before .before .before .before .before .before .transferred .ensures in
     let few : n ≤ st .args .bytes .length = rw e (st .pre .1 .1 .1 .1 .1 .0) in
-    rw (← e, moved-bytes (st .args .call .now) (st .args .bytes) n few, some-bytes _ _ _ _ _ n (moved-length (st .args .call .now) (st .args .bytes) n (st .pre .1 .1 .1 .1 .0) few) (c .before .before .before .before .before .before .before .before .if1 .left))
-    (record { result = rw (c .change-from .ensures, c .before .before .before .before .before .before .before2 .ensures, c .before .before .before .before .write-edit .ensures); store = c .before .before .before .before .write-edit .ensures })
+    let some = c .before .before .before .before .before .before .if1 .left in
+    let l = written-left (st .args .call .now) (st .args .bytes) n (st .args .store .now) (st .args .context) (st .args .offset) (st .args .o .0) some few (st .pre .1 .1 .1 .1 .0) (rw (← e) at (st .pre .1 .1 .1 .1 .1 .1)) in
+    rw (← e, moved-bytes (st .args .call .now) (st .args .bytes) n few, some-bytes _ _ _ _ _ n (moved-length (st .args .call .now) (st .args .bytes) n (st .pre .1 .1 .1 .1 .0) few) some)
+    (record { result = rw (c .before .before .before .before .before2 .ensures, c .before .before .write-edit .ensures); store = c .before .before .write-edit .ensures; writable = left-showable _ _ _ _ l (c .before .before .write-edit .ensures) (st .pre .1 .1 .0) })
 
 pub write-checked-spec : {M : Type 1} → statement M
 write-checked-spec =
@@ -70,6 +64,5 @@ write-checked-spec =
     before-requires
     write-edit-requires
     cast-written
-    change-from-requires
     same-length-2
     returns-2)

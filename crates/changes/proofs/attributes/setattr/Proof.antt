@@ -6,6 +6,7 @@ use Rattle.spec.specs.Handles.{change}
 use Rattle.laws.proofs.GoodRecords.{valid-records}
 use Rattle.files.specs.Meaning.{reachedOf}
 use Rattle.laws.proofs.Passed.{setattr-passed}
+use Rattle.writing.proofs.Written.{left-showable}
 use Rattle.changes.proofs.Edited.{setattr-sizable, setattr-left}
 use Rattle.changes.proofs.attributes.setattr.Statement.{statement}
 use Rattle.changes.proofs.attributes.setattr.Tie as tie
@@ -38,7 +39,7 @@ returns : tie.Need-returns
 unfolding setattr
 returns c =
     rw (← c .before .before .before .before .before .check-setattr .ensures, c .before .before .before .enum-told .given .1)
-    (record { result = rw (c .fail-changing .ensures, c .before .reached-status .ensures, c .before .before .before .enum-told .given .1); store = refl })
+    (record { result = rw (c .fail-changing .ensures .0, c .before .reached-status .ensures, c .before .before .before .enum-told .given .1); store = refl; writable = c .fail-changing .ensures .1 })
 
 before-requires : tie.Need-before-requires
 before-requires c κs =
@@ -56,22 +57,18 @@ setattr-edit-requires c κs =
     let p = setattr-passed (st .args .store .now) (cut (st .args .call .now) (st .args .h)) (st .args .a) (st .args .g) _ e in
     (g, (st .pre .0 .map, setattr-sizable (st .args .store .now) (cut (st .args .call .now) (st .args .h)) (st .args .a) (st .args .g) _ g p))
 
-change-from-requires : tie.Need-change-from-requires
-change-from-requires c κs =
-    let st = c .before .before .before .before .before .before .before .before .before .before .before .before .before .before in
-    let e = sym (c .before .before .before .before .before .before .before .before .before .before .check-setattr .ensures) ∙ ap reachedOf (c .before .before .before .before .before .before .before .before .answer .given .1) in
-    let p = setattr-passed (st .args .store .now) (cut (st .args .call .now) (st .args .h)) (st .args .a) (st .args .g) _ e in
-    let l = setattr-left (st .args .store .now) (st .args .context) (st .pre .0 .valid) (st .pre .0 .bytes) (st .pre .0 .clock) (st .args .call .now) (λ k. c .before .before .before .before .before .before .before .before .before .before .before .before .shared-slice-known .given k .fits) (st .args .h) (st .args .a) (st .args .g) _ (st .pre .1 .0) e in
-    (rw (c .before .before .before .setattr-edit .ensures) (l .good), rw (c .before .before .before .setattr-edit .ensures, l .shape .objects) (p .reached .below))
-
 same-length-2 : tie.Need-same-length-2
 same-length-2 c = search needs
 
 returns-2 : tie.Need-returns-2
 unfolding setattr change
 returns-2 c =
-    rw (← c .before .before .before .before .before .before .before .before .before .before .before .check-setattr .ensures, c .before .before .before .before .before .before .before .before .before .answer .given .1)
-    (record { result = rw (c .change-from .ensures, c .before .before .before .before .before .before .before2 .ensures, c .before .before .before .before .setattr-edit .ensures); store = c .before .before .before .before .setattr-edit .ensures })
+    let st = c .before .before .before .before .before .before .before .before .before .before .before .before .before in
+    let e = sym (c .before .before .before .before .before .before .before .before .before .check-setattr .ensures) ∙ ap reachedOf (c .before .before .before .before .before .before .before .answer .given .1) in
+    let p = setattr-passed (st .args .store .now) (cut (st .args .call .now) (st .args .h)) (st .args .a) (st .args .g) _ e in
+    let l = setattr-left (st .args .store .now) (st .args .context) (st .pre .0 .valid) (st .pre .0 .bytes) (st .pre .0 .clock) (st .args .call .now) (λ k. c .before .before .before .before .before .before .before .before .before .before .before .shared-slice-known .given k .fits) (st .args .h) (st .args .a) (st .args .g) _ (st .pre .1 .0) e in
+    rw (← c .before .before .before .before .before .before .before .before .before .check-setattr .ensures, c .before .before .before .before .before .before .before .answer .given .1)
+    (record { result = rw (c .before .before .before .before .before2 .ensures, c .before .before .setattr-edit .ensures); store = c .before .before .setattr-edit .ensures; writable = left-showable _ _ _ _ l (c .before .before .setattr-edit .ensures) (p .reached .below) })
 
 pub setattr-spec : {M : Type 1} → statement M
 setattr-spec =
@@ -86,6 +83,5 @@ setattr-spec =
     returns
     before-requires
     setattr-edit-requires
-    change-from-requires
     same-length-2
     returns-2)

@@ -37,7 +37,7 @@ returns : tie.Need-returns
 unfolding write
 returns c =
     rw (← c .before .before .before .before .before .check-write .ensures, c .before .before .before .enum-told .given .1)
-    (record { result = rw (c .fail-changing .ensures, c .before .reached-status .ensures, c .before .before .before .enum-told .given .1); store = refl })
+    (record { result = rw (c .fail-changing .ensures .0, c .before .reached-status .ensures, c .before .before .before .enum-told .given .1); store = refl; writable = c .fail-changing .ensures .1 })
 
 write-checked-requires : tie.Need-write-checked-requires
 write-checked-requires c κs =

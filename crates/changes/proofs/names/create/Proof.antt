@@ -37,7 +37,7 @@ returns : tie.Need-returns
 unfolding create
 returns c =
     rw (← c .before .before .before .before .before .before .check-create .ensures, c .before .before .before .before .enum-told .given .1)
-    (record { result = rw (c .fail-changing .ensures, c .before .create-status .ensures, c .before .before .before .before .enum-told .given .1); store = refl })
+    (record { result = rw (c .fail-changing .ensures .0, c .before .create-status .ensures, c .before .before .before .before .enum-told .given .1); store = refl; writable = c .fail-changing .ensures .1 })
 
 settable-of-requires : tie.Need-settable-of-requires
 settable-of-requires c κs = search needs

@@ -3,6 +3,7 @@ use lib.Dec.{lit<}
 use Rattle.spec.specs.Procedures.{cut}
 use Rattle.spec.specs.Handles.{change}
 use Rattle.laws.proofs.RecordRange.{below-part}
+use Rattle.writing.proofs.Written.{left-showable}
 use Rattle.changes.proofs.Made.{new-still}
 use Rattle.changes.proofs.names.make_new.Statement.{statement}
 use Rattle.changes.proofs.names.make_new.Tie as tie
@@ -17,34 +18,21 @@ new-edit-requires c κs =
     let st = c .before .before .before .before .before in
     (st .pre .0, (st .pre .1 .0, (st .pre .1 .1 .0, st .pre .1 .1 .1)))
 
-change-from-requires : tie.Need-change-from-requires
-change-from-requires c κs =
-    let st = c .before .before .before .before .before .before .before .before .before in
-    let w = below-part 256 (st .args .call .now) (st .args .name .start) (st .args .name .length) (lit< tt) (λ k. c .before .before .before .before .before .before .before .shared-slice-known .given k .fits) in
-    let h = new-still (st .args .store .now) (st .args .context) (st .args .kind) (st .args .o .0) (st .args .n .0) (st .args .d .0) (cut (st .args .call .now) (st .args .name)) (st .args .a) (st .pre .0) (st .pre .1 .1 .1) w in
-    (rw (c .before .before .before .new-edit .ensures) (h .good), rw (c .before .before .before .new-edit .ensures, h .shape .objects) (st .pre .1 .1 .1 .below))
-
-handle-of-requires : tie.Need-handle-of-requires
-handle-of-requires c κs =
-    let st = c .before .before .before .before .before .before .before .before .before .before .before in
-    let w = below-part 256 (st .args .call .now) (st .args .name .start) (st .args .name .length) (lit< tt) (λ k. c .before .before .before .before .before .before .before .before .before .shared-slice-known .given k .fits) in
-    let h = new-still (st .args .store .now) (st .args .context) (st .args .kind) (st .args .o .0) (st .args .n .0) (st .args .d .0) (cut (st .args .call .now) (st .args .name)) (st .args .a) (st .pre .0) (st .pre .1 .1 .1) w in
-    (rw (c .before .before .before .before .before .new-edit .ensures) (h .good), rw (c .before .before .before .before .before .new-edit .ensures, h .shape .objects) (st .pre .1 .1 .1 .room .object-below))
-
-attributes-requires : tie.Need-attributes-requires
-attributes-requires c κs =
-    let st = c .before .before .before .before .before .before .before .before .before .before .before .before .before in
-    let w = below-part 256 (st .args .call .now) (st .args .name .start) (st .args .name .length) (lit< tt) (λ k. c .before .before .before .before .before .before .before .before .before .before .before .shared-slice-known .given k .fits) in
-    let h = new-still (st .args .store .now) (st .args .context) (st .args .kind) (st .args .o .0) (st .args .n .0) (st .args .d .0) (cut (st .args .call .now) (st .args .name)) (st .args .a) (st .pre .0) (st .pre .1 .1 .1) w in
-    (rw (c .before .before .before .before .before .before .before .new-edit .ensures) (h .good), rw (c .before .before .before .before .before .before .before .new-edit .ensures, h .shape .objects) (st .pre .1 .1 .1 .room .object-below))
-
 same-length : tie.Need-same-length
 same-length c = search needs
 
 returns : tie.Need-returns
 unfolding change
 returns c =
-    record { result = rw (c .before .before .handle-of .ensures, c .attributes .ensures, c .before .before .before .before .change-from .ensures, c .before .before .before .before .before .before .before .before .before .before .before2 .ensures, c .before .before .before .before .before .before .before .before .new-edit .ensures); store = c .before .before .before .before .before .before .before .before .new-edit .ensures }
+    let st = c .before .before .before .before .before .before .before .before in
+    let w = below-part 256 (st .args .call .now) (st .args .name .start) (st .args .name .length) (lit< tt) (λ k. c .before .before .before .before .before .before .shared-slice-known .given k .fits) in
+    let h = new-still (st .args .store .now) (st .args .context) (st .args .kind) (st .args .o .0) (st .args .n .0) (st .args .d .0) (cut (st .args .call .now) (st .args .name)) (st .args .a) (st .pre .0) (st .pre .1 .1 .1) w in
+    let e = c .before .before .new-edit .ensures in
+    record {
+      result = rw (c .before .before .before .before .before2 .ensures, e);
+      store = e;
+      writable = (left-showable _ _ _ _ h e (st .pre .1 .1 .1 .room .object-below), left-showable _ _ _ _ h e (st .pre .1 .1 .1 .below));
+    }
 
 pub make-new-spec : {M : Type 1} → statement M
 make-new-spec =
@@ -52,8 +40,5 @@ make-new-spec =
     (tie.spec
     before-requires
     new-edit-requires
-    change-from-requires
-    handle-of-requires
-    attributes-requires
     same-length
     returns)

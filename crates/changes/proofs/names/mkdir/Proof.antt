@@ -37,7 +37,7 @@ returns : tie.Need-returns
 unfolding mkdir
 returns c =
     rw (← c .before .before .before .before .before .before .check-mkdir .ensures, c .before .before .before .before .enum-told .given .1)
-    (record { result = rw (c .fail-changing .ensures, c .before .mkdir-status .ensures, c .before .before .before .before .enum-told .given .1); store = refl })
+    (record { result = rw (c .fail-changing .ensures .0, c .before .mkdir-status .ensures, c .before .before .before .before .enum-told .given .1); store = refl; writable = c .fail-changing .ensures .1 })
 
 make-new-requires : tie.Need-make-new-requires
 make-new-requires c κs =

@@ -1,21 +1,19 @@
-use Rattle.spec.specs.Replies.{fattr3}
 use borrow.Author.Needs.{needs}
 use Rattle.fields.proofs.attributes.put_attributes.Statement.{statement}
 use Rattle.fields.proofs.attributes.put_attributes.Tie as tie
 
-slice-aggregate-put-sevens : tie.Need-slice-aggregate-put-sevens
-slice-aggregate-put-sevens c = search needs
+attributes-requires : tie.Need-attributes-requires
+attributes-requires c κs = search needs
 
-put-sevens-requires : tie.Need-put-sevens-requires
-put-sevens-requires c κs = search needs
+put-fattr3-requires : tie.Need-put-fattr3-requires
+put-fattr3-requires c κs = search needs
 
 same-length : tie.Need-same-length
 same-length c = search needs
 
 returns : tie.Need-returns
-unfolding fattr3
-returns c = c .before .before .put-sevens .ensures
+returns c = rw (c .before .before .before .attributes .ensures) at (c .before .before .put-fattr3 .ensures)
 
 pub put-attributes-spec : {M : Type 1} → statement M
 put-attributes-spec =
-    tie.close (tie.spec slice-aggregate-put-sevens put-sevens-requires same-length returns)
+    tie.close (tie.spec attributes-requires put-fattr3-requires same-length returns)

@@ -3,19 +3,15 @@ use borrow.Author.Needs.{needs}
 use Rattle.fields.proofs.attributes.put_before.Statement.{statement}
 use Rattle.fields.proofs.attributes.put_before.Tie as tie
 
-slice-aggregate-put-sevens : tie.Need-slice-aggregate-put-sevens
-slice-aggregate-put-sevens c = search needs
-
-put-sevens-requires : tie.Need-put-sevens-requires
-put-sevens-requires c κs = search needs
+put-seven-requires : tie.Need-put-seven-requires
+put-seven-requires c κs = search needs
 
 same-length : tie.Need-same-length
 same-length c = search needs
 
 returns : tie.Need-returns
 unfolding preOp
-returns c = c .before .before .put-sevens .ensures
+returns c = c .before .before .put-seven .ensures
 
 pub put-before-spec : {M : Type 1} → statement M
-put-before-spec =
-    tie.close (tie.spec slice-aggregate-put-sevens put-sevens-requires same-length returns)
+put-before-spec = tie.close (tie.spec put-seven-requires same-length returns)

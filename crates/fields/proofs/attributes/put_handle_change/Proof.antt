@@ -1,3 +1,4 @@
+use native.Mathlib.Omega.{arith}
 use Rattle.xdr.proofs.Wrote.{inWords}
 use borrow.Author.Needs.{needs}
 use Rattle.fields.proofs.attributes.put_handle_change.Statement.{statement}
@@ -16,7 +17,7 @@ enum-known-c : tie.Need-enum-known-c
 enum-known-c c = search needs
 
 put-change-requires : tie.Need-put-change-requires
-put-change-requires c κs = search needs
+put-change-requires c κs = (omega arith, rw (c .before .before .c .given .1) at (c .before .before .before .before .before .before .pre .1))
 
 same-length : tie.Need-same-length
 same-length c = search needs

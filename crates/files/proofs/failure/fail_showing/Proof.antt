@@ -1,6 +1,6 @@
 use borrow.Author.Needs.{needs}
 use Rattle.spec.specs.Results.{failShowing}
-use Rattle.files.proofs.Reach.{object-reached}
+use Rattle.files.proofs.Reach.{object-showable}
 use Rattle.files.proofs.failure.fail_showing.Statement.{statement}
 use Rattle.files.proofs.failure.fail_showing.Tie as tie
 
@@ -15,18 +15,15 @@ enum-told c = search needs
 
 returns : tie.Need-returns
 unfolding failShowing
-returns c = rw (← c .before .before .reach .ensures, c .enum-told .given .1)
-
-attributes-requires : tie.Need-attributes-requires
-attributes-requires c κs =
-    let st = c .before .before .before .before .before .before in
-    (st .pre .0, object-reached _ _ _ _ (c .before .answer .given .1) (c .before .before .before .reach .ensures) .below)
+returns c = (rw (← c .before .before .reach .ensures, c .enum-told .given .1), tt)
 
 returns-2 : tie.Need-returns-2
 unfolding failShowing
-returns-2 c = rw (← c .before .before .before .before .reach .ensures, c .before .before .answer .given .1, c .attributes .ensures)
+returns-2 c =
+    let st = c .before .before .before .before .before .before in (
+      rw (← c .before .before .before .reach .ensures, c .before .answer .given .1),
+      object-showable _ _ _ _ (c .before .answer .given .1) (st .pre .0) (c .before .before .before .reach .ensures),
+    )
 
 pub fail-showing-spec : {M : Type 1} → statement M
-fail-showing-spec =
-    tie.close
-    (tie.spec reach-requires enum-known-answer enum-told returns attributes-requires returns-2)
+fail-showing-spec = tie.close (tie.spec reach-requires enum-known-answer enum-told returns returns-2)

@@ -1,6 +1,6 @@
 use borrow.Author.Needs.{needs}
-use Rattle.spec.specs.Handles.{handleChange}
-use Rattle.files.proofs.Reach.{object-reached}
+use Rattle.spec.specs.Handles.{handleChange, change}
+use Rattle.files.proofs.Reach.{object-reached, object-showable}
 use Rattle.files.proofs.failure.handle_change.Statement.{statement}
 use Rattle.files.proofs.failure.handle_change.Tie as tie
 
@@ -14,8 +14,8 @@ enum-told : tie.Need-enum-told
 enum-told c = search needs
 
 returns : tie.Need-returns
-unfolding handleChange
-returns c = rw (← c .before .before .reach .ensures, c .enum-told .given .1)
+unfolding handleChange change
+returns c = (rw (← c .before .before .reach .ensures, c .enum-told .given .1), tt)
 
 unchanged-requires : tie.Need-unchanged-requires
 unchanged-requires c κs =
@@ -23,8 +23,12 @@ unchanged-requires c κs =
     (st .pre .0, object-reached _ _ _ _ (c .before .answer .given .1) (c .before .before .before .reach .ensures) .below)
 
 returns-2 : tie.Need-returns-2
-unfolding handleChange
-returns-2 c = rw (← c .before .before .before .before .reach .ensures, c .before .before .answer .given .1, c .unchanged .ensures)
+unfolding handleChange change
+returns-2 c =
+    let st = c .before .before .before .before .before .before .before in (
+      rw (c .unchanged .ensures, ← c .before .before .before .before .reach .ensures, c .before .before .answer .given .1),
+      rw (c .unchanged .ensures) (object-showable _ _ _ _ (c .before .before .answer .given .1) (st .pre .0) (c .before .before .before .before .reach .ensures)),
+    )
 
 pub handle-change-spec : {M : Type 1} → statement M
 handle-change-spec =

@@ -1,6 +1,7 @@
 use borrow.Author.Needs.{needs}
+use Rattle.spec.specs.Handles.{change}
 use Rattle.spec.specs.Procedures.Data.{commit}
-use Rattle.files.proofs.Reach.{regular-reached}
+use Rattle.files.proofs.Reach.{regular-reached, regular-showable}
 use Rattle.reads.proofs.data.commit.Statement.{statement}
 use Rattle.reads.proofs.data.commit.Tie as tie
 
@@ -22,12 +23,19 @@ fail-changing-requires : tie.Need-fail-changing-requires
 fail-changing-requires c κs = search needs
 
 returns : tie.Need-returns
-unfolding commit
-returns c = rw (← c .before .before .before .before .reach-regular .ensures, c .before .before .answer .given .1, c .unchanged .ensures)
+unfolding commit change
+returns c =
+    let st = c .before .before .before .before .before .before .before in (
+      rw (c .unchanged .ensures, ← c .before .before .before .before .reach-regular .ensures, c .before .before .answer .given .1),
+      rw (c .unchanged .ensures) (regular-showable _ _ _ _ (c .before .before .answer .given .1) (st .pre .0) (c .before .before .before .before .reach-regular .ensures)),
+    )
 
 returns-2 : tie.Need-returns-2
 unfolding commit
-returns-2 c = rw (← c .before .before .before .before .reach-regular .ensures, c .before .before .answer2 .given .1) (c .fail-changing .ensures)
+returns-2 c = (
+  rw (← c .before .before .before .before .reach-regular .ensures, c .before .before .answer2 .given .1) (c .fail-changing .ensures .0),
+  c .fail-changing .ensures .1,
+)
 
 pub commit-spec : {M : Type 1} → statement M
 commit-spec =

@@ -1,7 +1,6 @@
 use borrow.Author.Needs.{needs}
 use Rattle.spec.specs.Procedures.Data.{read}
 use Rattle.files.proofs.Reach.{regular-reached}
-use Rattle.reads.proofs.Writable.{failure-writable}
 use Rattle.reads.proofs.data.read.Statement.{statement}
 use Rattle.reads.proofs.data.read.Tie as tie
 
@@ -32,8 +31,8 @@ returns c = (
 returns-2 : tie.Need-returns-2
 unfolding read
 returns-2 c = (
-  rw (← c .before .before .before .before .reach-regular .ensures, c .before .before .answer2 .given .1) (c .fail-showing .ensures),
-  failure-writable _ _ _ (c .fail-showing .result) (c .fail-showing .ensures),
+  rw (← c .before .before .before .before .reach-regular .ensures, c .before .before .answer2 .given .1) (c .fail-showing .ensures .0),
+  c .fail-showing .ensures .1,
 )
 
 pub read-spec : {M : Type 1} → statement M

@@ -1,7 +1,7 @@
 use native.Mathlib.Omega.{arith}
 use borrow.Author.Needs.{needs}
 use Rattle.spec.specs.Procedures.Data.{readLength, readResult}
-use Rattle.files.proofs.Good.{size-few}
+use Rattle.shown.proofs.Good.{size-few}
 use Rattle.reads.proofs.Writable.{readable}
 use Rattle.reads.proofs.data.read_result.Statement.{statement}
 use Rattle.reads.proofs.data.read_result.Tie as tie
@@ -19,18 +19,15 @@ add-eof : tie.Need-add-eof
 unfolding readLength
 add-eof c = let st = c .before .before .before in omega (arith, size-few (st .args .store .now) (st .pre .0) (st .args .o .0) (st .pre .1))
 
-attributes-requires : tie.Need-attributes-requires
-attributes-requires c κs = search needs
-
 returns : tie.Need-returns
 unfolding readResult
 returns c =
-    let st = c .before .before .before .before in (
-      rw (c .attributes .ensures, ← c .before .size-of .ensures, ← c .before .before .read-length .ensures),
-      readable (st .args .store .now) (st .args .o .0) (st .args .offset) (st .args .count) _ (st .pre .0) (st .pre .1) (c .before .before .read-length .ensures),
+    let st = c .before .before .before in (
+      rw (← c .size-of .ensures, ← c .before .read-length .ensures),
+      readable (st .args .store .now) (st .args .o .0) (st .args .offset) (st .args .count) _ (st .pre .0) (st .pre .1) (c .before .read-length .ensures),
     )
 
 pub read-result-spec : {M : Type 1} → statement M
 read-result-spec =
     tie.close
-    (tie.spec read-length-requires size-of-requires cast-size add-eof attributes-requires returns)
+    (tie.spec read-length-requires size-of-requires cast-size add-eof returns)

@@ -2,7 +2,7 @@ use native.Mathlib.Omega.{arith}
 use borrow.Author.Needs.{needs}
 use Rattle.spec.specs.Procedures.{cut}
 use Rattle.spec.specs.Procedures.Names.{lookIn}
-use Rattle.files.proofs.Good.{good-shaped, good-names-sound}
+use Rattle.shown.proofs.Good.{good-shaped, good-names-sound}
 use Rattle.reads.proofs.Found.{found-below}
 use Rattle.reads.proofs.lookup.look_in.Statement.{statement}
 use Rattle.reads.proofs.lookup.look_in.Tie as tie

@@ -11,13 +11,6 @@ check-lookup-requires c κs = search needs
 enum-known-looked : tie.Need-enum-known-looked
 enum-known-looked c = search needs
 
-found-in-requires : tie.Need-found-in-requires
-found-in-requires c κs =
-    let st = c .before .before .before .before .before .before .before in
-    let a = st .args in
-    let b = looked-below (a .store .now) (st .pre .0) (cut (a .call .now) (a .p .directory)) (cut (a .call .now) (a .p .name)) _ _ _ (c .before .looked .given .1) (c .before .before .before .check-lookup .ensures) in
-    (st .pre .0, (b .0, b .1))
-
 enum-known-looked-2 : tie.Need-enum-known-looked-2
 enum-known-looked-2 c = search needs
 
@@ -26,11 +19,20 @@ fail-showing-requires c κs = search needs
 
 returns : tie.Need-returns
 unfolding lookup
-returns c = rw (← c .before .before .before .before .check-lookup .ensures, c .before .before .looked .given .1) (c .found-in .ensures)
+returns c =
+    let st = c .before .before .before .before .before .before .before in
+    let a = st .args in
+    let b = looked-below (a .store .now) (st .pre .0) (cut (a .call .now) (a .p .directory)) (cut (a .call .now) (a .p .name)) _ _ _ (c .before .looked .given .1) (c .before .before .before .check-lookup .ensures) in (
+      rw (← c .before .before .before .check-lookup .ensures, c .before .looked .given .1),
+      (record { good = st .pre .0; object = b .1 }, record { good = st .pre .0; object = b .0 }),
+    )
 
 returns-2 : tie.Need-returns-2
 unfolding lookup
-returns-2 c = rw (← c .before .before .before .before .check-lookup .ensures, c .before .before .looked2 .given .1) (c .fail-showing .ensures)
+returns-2 c = (
+  rw (← c .before .before .before .before .check-lookup .ensures, c .before .before .looked2 .given .1) (c .fail-showing .ensures .0),
+  c .fail-showing .ensures .1,
+)
 
 pub lookup-spec : {M : Type 1} → statement M
 lookup-spec =
@@ -38,7 +40,6 @@ lookup-spec =
     (tie.spec
     check-lookup-requires
     enum-known-looked
-    found-in-requires
     enum-known-looked-2
     fail-showing-requires
     returns

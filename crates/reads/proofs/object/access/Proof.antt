@@ -1,6 +1,6 @@
 use borrow.Author.Needs.{needs}
 use Rattle.spec.specs.Procedures.Attributes.{access}
-use Rattle.files.proofs.Reach.{object-reached}
+use Rattle.files.proofs.Reach.{object-reached, object-showable}
 use Rattle.reads.proofs.object.access.Statement.{statement}
 use Rattle.reads.proofs.object.access.Tie as tie
 
@@ -10,15 +10,10 @@ reach-requires c κs = search needs
 enum-known-answer : tie.Need-enum-known-answer
 enum-known-answer c = search needs
 
-attributes-requires : tie.Need-attributes-requires
-attributes-requires c κs =
-    let st = c .before .before .before .before .before .before in
-    (st .pre .0, object-reached _ _ _ _ (c .before .answer .given .1) (c .before .before .before .reach .ensures) .below)
-
 granted-bits-requires : tie.Need-granted-bits-requires
 granted-bits-requires c κs =
-    let st = c .before .before .before .before .before .before .before in
-    (st .pre .0, object-reached _ _ _ _ (c .before .before .answer .given .1) (c .before .before .before .before .reach .ensures) .below)
+    let st = c .before .before .before .before .before .before in
+    (st .pre .0, object-reached _ _ _ _ (c .before .answer .given .1) (c .before .before .before .reach .ensures) .below)
 
 enum-known-answer-2 : tie.Need-enum-known-answer-2
 enum-known-answer-2 c = search needs
@@ -29,16 +24,17 @@ fail-showing-requires c κs = search needs
 returns : tie.Need-returns
 unfolding access
 returns c =
-    rw (
-      ← c .before .before .before .before .before .reach .ensures,
-      c .before .before .before .answer .given .1,
-      c .before .attributes .ensures,
-      c .granted-bits .ensures,
+    let st = c .before .before .before .before .before .before .before in (
+      rw (← c .before .before .before .before .reach .ensures, c .before .before .answer .given .1, c .granted-bits .ensures),
+      object-showable _ _ _ _ (c .before .before .answer .given .1) (st .pre .0) (c .before .before .before .before .reach .ensures),
     )
 
 returns-2 : tie.Need-returns-2
 unfolding access
-returns-2 c = rw (← c .before .before .before .before .reach .ensures, c .before .before .answer2 .given .1) (c .fail-showing .ensures)
+returns-2 c = (
+  rw (← c .before .before .before .before .reach .ensures, c .before .before .answer2 .given .1) (c .fail-showing .ensures .0),
+  c .fail-showing .ensures .1,
+)
 
 pub access-spec : {M : Type 1} → statement M
 access-spec =
@@ -46,7 +42,6 @@ access-spec =
     (tie.spec
     reach-requires
     enum-known-answer
-    attributes-requires
     granted-bits-requires
     enum-known-answer-2
     fail-showing-requires

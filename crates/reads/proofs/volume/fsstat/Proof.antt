@@ -23,11 +23,17 @@ fail-showing-requires c κs = search needs
 
 returns : tie.Need-returns
 unfolding fsstat
-returns c = rw (← c .before .before .before .before .reach .ensures, c .before .before .answer .given .1) (c .room .ensures)
+returns c = (
+  rw (← c .before .before .before .before .reach .ensures, c .before .before .answer .given .1) (c .room .ensures .0),
+  c .room .ensures .1,
+)
 
 returns-2 : tie.Need-returns-2
 unfolding fsstat
-returns-2 c = rw (← c .before .before .before .before .reach .ensures, c .before .before .answer2 .given .1) (c .fail-showing .ensures)
+returns-2 c = (
+  rw (← c .before .before .before .before .reach .ensures, c .before .before .answer2 .given .1) (c .fail-showing .ensures .0),
+  c .fail-showing .ensures .1,
+)
 
 pub fsstat-spec : {M : Type 1} → statement M
 fsstat-spec =

@@ -19,29 +19,23 @@ object-count-requires c κs = search needs
 available-count-requires : tie.Need-available-count-requires
 available-count-requires c κs = search needs
 
-attributes-requires : tie.Need-attributes-requires
-attributes-requires c κs = search needs
+cast-t9 : tie.Need-cast-t9
+cast-t9 c = search needs
 
 cast-t10 : tie.Need-cast-t10
-cast-t10 c = search needs
+cast-t10 c = omega (arith, free-few (c .before .before .before .before .args .store .now))
 
 cast-t11 : tie.Need-cast-t11
-cast-t11 c = omega (arith, free-few (c .before .before .before .before .before .args .store .now))
+cast-t11 c = search needs
 
 cast-t12 : tie.Need-cast-t12
-cast-t12 c = search needs
-
-cast-t13 : tie.Need-cast-t13
-cast-t13 c = omega (arith, available-few (c .before .before .before .before .before .args .store .now))
+cast-t12 c = omega (arith, available-few (c .before .before .before .before .args .store .now))
 
 returns : tie.Need-returns
 returns c =
-    rw (
-      c .attributes .ensures,
-      ← c .before .available-count .ensures,
-      ← c .before .before .object-count .ensures,
-      ← c .before .before .before .block-count .ensures,
-      ← c .before .before .before .before .before .pre .1 .1,
+    let st = c .before .before .before .before in (
+      rw (← c .available-count .ensures, ← c .before .object-count .ensures, ← c .before .before .block-count .ensures, ← st .pre .1 .1),
+      record { good = st .pre .0; object = st .pre .1 .0 },
     )
 
 pub room-spec : {M : Type 1} → statement M
@@ -53,9 +47,8 @@ room-spec =
     mul-unused
     object-count-requires
     available-count-requires
-    attributes-requires
+    cast-t9
     cast-t10
     cast-t11
     cast-t12
-    cast-t13
     returns)

@@ -1,5 +1,7 @@
+use mathlib.Core.Path.{subst}
 use borrow.Author.Needs.{needs}
 use Rattle.spec.specs.Procedures.Removal.{failRenaming}
+use Rattle.results.specs.Writable.{ShowableChange}
 use Rattle.removals.proofs.act.fail_renaming.Statement.{statement}
 use Rattle.removals.proofs.act.fail_renaming.Tie as tie
 
@@ -14,7 +16,10 @@ enum-known-from c = search needs
 
 returns : tie.Need-returns
 unfolding failRenaming
-returns c = rw (← c .before .before .before .before .handle-change .ensures, c .before .from .given .1, ← c .before .before .before .handle-change2 .ensures)
+returns c = (
+  rw (← c .before .before .before .before .handle-change .ensures .0, c .before .from .given .1, ← c .before .before .before .handle-change2 .ensures .0),
+  (subst (ShowableChange _) (c .before .from .given .1) (c .before .before .before .before .handle-change .ensures .1), c .before .before .before .handle-change2 .ensures .1),
+)
 
 enum-told : tie.Need-enum-told
 enum-told c = search needs
@@ -24,14 +29,17 @@ enum-known-to c = search needs
 
 returns-2 : tie.Need-returns-2
 unfolding failRenaming
-returns-2 c = rw (← c .before .before .before .before .before .before .handle-change .ensures, c .before .before .before .enum-told .given .1, ← c .before .before .before .before .before .handle-change2 .ensures, c .before .to .given .1)
+returns-2 c = (
+  rw (← c .before .before .before .before .before .before .handle-change .ensures .0, c .before .before .before .enum-told .given .1, ← c .before .before .before .before .before .handle-change2 .ensures .0, c .before .to .given .1),
+  (c .before .before .before .before .before .before .handle-change .ensures .1, subst (ShowableChange _) (c .before .to .given .1) (c .before .before .before .before .before .handle-change2 .ensures .1)),
+)
 
 enum-told-2 : tie.Need-enum-told-2
 enum-told-2 c = search needs
 
 returns-3 : tie.Need-returns-3
 unfolding failRenaming
-returns-3 c = rw (← c .before .before .before .before .before .handle-change .ensures, c .before .before .enum-told .given .1, ← c .before .before .before .before .handle-change2 .ensures, c .enum-told2 .given .1)
+returns-3 c = (rw (← c .before .before .before .before .before .handle-change .ensures .0, c .before .before .enum-told .given .1, ← c .before .before .before .before .handle-change2 .ensures .0, c .enum-told2 .given .1), tt)
 
 pub fail-renaming-spec : {M : Type 1} → statement M
 fail-renaming-spec =

@@ -37,7 +37,7 @@ same-length-2 c = search needs
 
 returns-2 : tie.Need-returns-2
 unfolding rename
-returns-2 c = rw (← c .before .before .before .before .before .check-rename .ensures, c .before .before .before .checked2 .given .1) (record { result = c .fail-renaming .ensures; store = refl })
+returns-2 c = rw (← c .before .before .before .before .before .check-rename .ensures, c .before .before .before .checked2 .given .1) (record { result = c .fail-renaming .ensures .0; store = refl; writable = c .fail-renaming .ensures .1 })
 
 pub rename-spec : {M : Type 1} → statement M
 rename-spec =

@@ -1,10 +1,12 @@
 use mathlib.Core.Path.{ap₂}
 use mathlib.Core.Option.{some}
 use borrow.Author.Needs.{needs}
+use Rattle.spec.specs.Procedures.{cut}
+use Rattle.spec.specs.Procedures.Removal.{renameEdit}
 use Rattle.spec.specs.Results.{renamed}
 use Rattle.kinds.specs.declared.object.Change.{Change}
 use Rattle.kinds.specs.Numbers.{OK}
-use Rattle.removals.proofs.Acts.{still-here, change-made}
+use Rattle.removals.proofs.Acts.{still-showable, change-made}
 use Rattle.removals.proofs.act.rename_entry.Statement.{statement}
 use Rattle.removals.proofs.act.rename_entry.Tie as tie
 
@@ -17,26 +19,22 @@ before-requires-2 c κs = search needs
 rename-edit-requires : tie.Need-rename-edit-requires
 rename-edit-requires c κs = search needs
 
-change-from-requires : tie.Need-change-from-requires
-change-from-requires c κs =
-    let st = c .before .before .before .before .before .before .before .before .before .before .before in
-    let a = st .args in
-    still-here (a .store .now) _ _ (a .d .0) (st .pre .1 .1 .1) (st .pre .1 .0 .directory) (c .before .before .before .rename-edit .ensures)
-
-change-from-requires-2 : tie.Need-change-from-requires-2
-change-from-requires-2 c κs =
-    let st = c .before .before .before .before .before .before .before .before .before .before .before .before .before in
-    let a = st .args in
-    still-here (a .store .now) _ _ (a .e .0) (st .pre .1 .1 .1) (st .pre .1 .0 .target) (c .before .before .before .before .before .rename-edit .ensures)
-
 same-length : tie.Need-same-length
 same-length c = search needs
 
 returns : tie.Need-returns
 returns c =
-    let a = c .before .before .before .before .before .before .before .before .before .before .before .before .before .before .args in
-    let e = c .before .before .before .before .before .before .rename-edit .ensures in
-    record { result = ap₂ (λ (x y : Change). renamed OK (some x) (some y)) (change-made (a .store .now) _ _ (a .d .0) _ _ (c .before .before .before .before .before .before .before .before .before .before .before2 .ensures) (c .before .before .change-from .ensures) e) (change-made (a .store .now) _ _ (a .e .0) _ _ (c .before .before .before .before .before .before .before .before .before3 .ensures) (c .change-from2 .ensures) e); store = e }
+    let st = c .before .before .before .before .before .before .before .before .before .before in
+    let a = st .args in
+    let e = c .before .before .rename-edit .ensures in
+    record {
+      result = ap₂ (λ (x y : Change). renamed OK (some x) (some y)) (change-made (a .store .now) (renameEdit (a .store .now) (a .context) (a .d .0) (a .e .0) (a .n .0) (cut (a .call .now) (a .name))) (c .before .before .rename-edit .last .0) (a .d) _ (c .before .before .before .before .before .before .before2 .ensures) e) (change-made (a .store .now) (renameEdit (a .store .now) (a .context) (a .d .0) (a .e .0) (a .n .0) (cut (a .call .now) (a .name))) (c .before .before .rename-edit .last .0) (a .e) _ (c .before .before .before .before .before3 .ensures) e);
+      store = e;
+      writable = (
+        still-showable (a .store .now) _ _ (a .d .0) (st .pre .1 .1 .1) (st .pre .1 .0 .directory) e,
+        still-showable (a .store .now) _ _ (a .e .0) (st .pre .1 .1 .1) (st .pre .1 .0 .target) e,
+      );
+    }
 
 pub rename-entry-spec : {M : Type 1} → statement M
 rename-entry-spec =
@@ -45,7 +43,5 @@ rename-entry-spec =
     before-requires
     before-requires-2
     rename-edit-requires
-    change-from-requires
-    change-from-requires-2
     same-length
     returns)

@@ -36,7 +36,7 @@ same-length-2 c = search needs
 
 returns-2 : tie.Need-returns-2
 unfolding rmdir removeFrom
-returns-2 c = rw (← c .before .before .before .before .before .check-rmdir .ensures, c .before .before .before .checked2 .given .1) (record { result = c .fail-changing .ensures; store = refl })
+returns-2 c = rw (← c .before .before .before .before .before .check-rmdir .ensures, c .before .before .before .checked2 .given .1) (record { result = c .fail-changing .ensures .0; store = refl; writable = c .fail-changing .ensures .1 })
 
 pub rmdir-spec : {M : Type 1} → statement M
 rmdir-spec =

@@ -23,37 +23,41 @@ enum-known-r-2 : tie.Need-enum-known-r-2
 enum-known-r-2 c = search needs
 
 put-failed-requires : tie.Need-put-failed-requires
-put-failed-requires c κs = search needs
+put-failed-requires c κs = (omega arith, rw (c .before .before .r2 .given .1) at (c .before .before .before .before .before .before .before .before .before .before .pre .1 .1))
 
 enum-known-r-3 : tie.Need-enum-known-r-3
 enum-known-r-3 c = search needs
 
 put-changed-requires : tie.Need-put-changed-requires
-put-changed-requires c κs = search needs
+put-changed-requires c κs = (omega arith, rw (c .before .before .r3 .given .1) at (c .before .before .before .before .before .before .before .before .before .before .pre .1 .1))
 
 enum-known-r-4 : tie.Need-enum-known-r-4
 enum-known-r-4 c = search needs
 
 put-renamed-requires : tie.Need-put-renamed-requires
-put-renamed-requires c κs = search needs
+put-renamed-requires c κs =
+    let w = rw (c .before .before .r4 .given .1) at (c .before .before .before .before .before .before .before .before .before .before .pre .1 .1) in
+    (omega arith, (w .0, w .1))
 
 enum-known-r-5 : tie.Need-enum-known-r-5
 enum-known-r-5 c = search needs
 
 put-got-attributes-requires : tie.Need-put-got-attributes-requires
-put-got-attributes-requires c κs = search needs
+put-got-attributes-requires c κs = (omega arith, rw (c .before .before .r5 .given .1) at (c .before .before .before .before .before .before .before .before .before .before .pre .1 .1))
 
 enum-known-r-6 : tie.Need-enum-known-r-6
 enum-known-r-6 c = search needs
 
 put-found-requires : tie.Need-put-found-requires
-put-found-requires c κs = search needs
+put-found-requires c κs =
+    let w = rw (c .before .before .r6 .given .1) at (c .before .before .before .before .before .before .before .before .before .before .pre .1 .1) in
+    (omega arith, (w .0, w .1))
 
 enum-known-r-7 : tie.Need-enum-known-r-7
 enum-known-r-7 c = search needs
 
 put-granted-requires : tie.Need-put-granted-requires
-put-granted-requires c κs = search needs
+put-granted-requires c κs = (omega arith, rw (c .before .before .r7 .given .1) at (c .before .before .before .before .before .before .before .before .before .before .pre .1 .1))
 
 enum-known-r-8 : tie.Need-enum-known-r-8
 enum-known-r-8 c = search needs
@@ -65,13 +69,15 @@ enum-known-r-9 : tie.Need-enum-known-r-9
 enum-known-r-9 c = search needs
 
 put-wrote-requires : tie.Need-put-wrote-requires
-put-wrote-requires c κs = search needs
+put-wrote-requires c κs = (omega arith, rw (c .before .before .r9 .given .1) at (c .before .before .before .before .before .before .before .before .before .before .pre .1 .1))
 
 enum-known-r-10 : tie.Need-enum-known-r-10
 enum-known-r-10 c = search needs
 
 put-created-requires : tie.Need-put-created-requires
-put-created-requires c κs = search needs
+put-created-requires c κs =
+    let w = rw (c .before .before .r10 .given .1) at (c .before .before .before .before .before .before .before .before .before .before .pre .1 .1) in
+    (omega arith, (w .0, w .1))
 
 enum-known-r-11 : tie.Need-enum-known-r-11
 enum-known-r-11 c = search needs
@@ -83,25 +89,25 @@ enum-known-r-12 : tie.Need-enum-known-r-12
 enum-known-r-12 c = search needs
 
 put-got-room-requires : tie.Need-put-got-room-requires
-put-got-room-requires c κs = search needs
+put-got-room-requires c κs = (omega arith, rw (c .before .before .r12 .given .1) at (c .before .before .before .before .before .before .before .before .before .before .pre .1 .1))
 
 enum-known-r-13 : tie.Need-enum-known-r-13
 enum-known-r-13 c = search needs
 
 put-got-limits-requires : tie.Need-put-got-limits-requires
-put-got-limits-requires c κs = search needs
+put-got-limits-requires c κs = (omega arith, rw (c .before .before .r13 .given .1) at (c .before .before .before .before .before .before .before .before .before .before .pre .1 .1))
 
 enum-known-r-14 : tie.Need-enum-known-r-14
 enum-known-r-14 c = search needs
 
 put-got-naming-requires : tie.Need-put-got-naming-requires
-put-got-naming-requires c κs = search needs
+put-got-naming-requires c κs = (omega arith, rw (c .before .before .r14 .given .1) at (c .before .before .before .before .before .before .before .before .before .before .pre .1 .1))
 
 enum-known-r-15 : tie.Need-enum-known-r-15
 enum-known-r-15 c = search needs
 
 put-committed-requires : tie.Need-put-committed-requires
-put-committed-requires c κs = search needs
+put-committed-requires c κs = (omega arith, rw (c .before .before .r15 .given .1) at (c .before .before .before .before .before .before .before .before .before .before .pre .1 .1))
 
 same-length : tie.Need-same-length
 same-length c = search needs

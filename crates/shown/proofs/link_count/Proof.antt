@@ -1,9 +1,9 @@
 use native.Mathlib.Omega.{arith}
 use borrow.Author.Needs.{needs}
 use Rattle.spec.specs.Handles.{linkCount}
-use Rattle.files.proofs.Good.{good-shaped, good-names-sound, subdirectories-few}
-use Rattle.files.proofs.shown.link_count.Statement.{statement}
-use Rattle.files.proofs.shown.link_count.Tie as tie
+use Rattle.shown.proofs.Good.{good-shaped, good-names-sound, subdirectories-few}
+use Rattle.shown.proofs.link_count.Statement.{statement}
+use Rattle.shown.proofs.link_count.Tie as tie
 
 is-directory-requires : tie.Need-is-directory-requires
 is-directory-requires c κs = search needs

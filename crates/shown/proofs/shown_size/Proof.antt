@@ -1,7 +1,7 @@
 use borrow.Author.Needs.{needs}
 use Rattle.spec.specs.Handles.{shownSize}
-use Rattle.files.proofs.shown.shown_size.Statement.{statement}
-use Rattle.files.proofs.shown.shown_size.Tie as tie
+use Rattle.shown.proofs.shown_size.Statement.{statement}
+use Rattle.shown.proofs.shown_size.Tie as tie
 
 is-directory-requires : tie.Need-is-directory-requires
 is-directory-requires c κs = search needs

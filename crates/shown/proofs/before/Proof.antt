@@ -1,7 +1,7 @@
 use borrow.Author.Needs.{needs}
 use Rattle.spec.specs.Handles.{before}
-use Rattle.files.proofs.shown.before.Statement.{statement}
-use Rattle.files.proofs.shown.before.Tie as tie
+use Rattle.shown.proofs.before.Statement.{statement}
+use Rattle.shown.proofs.before.Tie as tie
 
 shown-size-requires : tie.Need-shown-size-requires
 shown-size-requires c κs = search needs

@@ -1,9 +1,9 @@
 use native.Mathlib.Omega.{arith}
 use borrow.Author.Needs.{needs}
 use Rattle.spec.specs.Handles.{usedBytes}
-use Rattle.files.proofs.Good.{size-few}
-use Rattle.files.proofs.shown.used_bytes.Statement.{statement}
-use Rattle.files.proofs.shown.used_bytes.Tie as tie
+use Rattle.shown.proofs.Good.{size-few}
+use Rattle.shown.proofs.used_bytes.Statement.{statement}
+use Rattle.shown.proofs.used_bytes.Tie as tie
 
 size-of-requires : tie.Need-size-of-requires
 size-of-requires c κs = search needs

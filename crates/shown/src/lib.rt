@@ -1,12 +1,11 @@
-// Attributes as replies show them.
+// The attributes of an object, as replies show them.
 ghost use mathlib.Core.Path.{_≡_};
 ghost use mathlib.Core.Bool.{true};
 ghost use Prim.Native.Nat.{_<_, _≤_};
 ghost use Rattle.spec.specs.Image.{objects};
 ghost use Rattle.spec.specs.Room.{need, sizeOf};
-ghost use Rattle.spec.specs.Handles.{shownSize, usedBytes, linkCount, attributes, before, change};
+ghost use Rattle.spec.specs.Handles.{shownSize, usedBytes, linkCount, attributes, before};
 ghost use Rattle.laws.proofs.GoodRecords.{GoodRecords};
-ghost use Rattle.files.specs.Meaning.{changeFrom};
 use find::name::subdirectory_count;
 use image::counts::stamp_of;
 use image::object::atime_of;
@@ -21,7 +20,6 @@ use image::object::uid_of;
 use kinds::numbers::ObjectNumber;
 use kinds::object::Attributes;
 use kinds::object::Before;
-use kinds::object::Change;
 
 // How many blocks a size needs.
 pub fn need(size: usize) -> usize
@@ -102,28 +100,4 @@ pub fn before(store: &[u8], o: ObjectNumber) -> Before
     let mtime = mtime_of(store, o);
     let ctime = ctime_of(store, o);
     Before { size, mtime, ctime }
-}
-
-// An object that a call has not changed: the same before and after.
-pub fn unchanged(store: &[u8], o: ObjectNumber) -> Change
-    requires { ⌜ GoodRecords (now store) ⌝ }
-    requires { ⌜ o .0 < objects (now store) ⌝ }
-    ensures { λ r. ⌜ r ≡ change (now (store .entry)) (now (store .entry)) (o .0) ⌝ }
-{
-    Change {
-        before: before(store, o),
-        after: attributes(store, o),
-    }
-}
-
-// The attributes of an object before a call, and after it, in the store that the call left.
-pub fn change_from(earlier: Before, store: &[u8], o: ObjectNumber) -> Change
-    requires { ⌜ GoodRecords (now store) ⌝ }
-    requires { ⌜ o .0 < objects (now store) ⌝ }
-    ensures { λ r. ⌜ r ≡ changeFrom earlier (now (store .entry)) (o .0) ⌝ }
-{
-    Change {
-        before: earlier,
-        after: attributes(store, o),
-    }
 }

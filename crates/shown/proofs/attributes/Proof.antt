@@ -1,7 +1,7 @@
 use borrow.Author.Needs.{needs}
 use Rattle.spec.specs.Handles.{attributes}
-use Rattle.files.proofs.shown.attributes.Statement.{statement}
-use Rattle.files.proofs.shown.attributes.Tie as tie
+use Rattle.shown.proofs.attributes.Statement.{statement}
+use Rattle.shown.proofs.attributes.Tie as tie
 
 link-count-requires : tie.Need-link-count-requires
 link-count-requires c κs = search needs
