@@ -23,12 +23,10 @@ use Rattle.laws.proofs.Error.{getattr-store, lookup-store, access-store, read-s
 use Rattle.laws.proofs.GoodRecords.{GoodRecords, valid-records}
 use Rattle.results.specs.declared.Reply.{Reply}
 use Rattle.results.specs.declared.Reply.the-variants as Reply
-use Rattle.results.specs.Meaning.{resultOf, Does}
+use Rattle.results.specs.Does.{Does}
+use Rattle.results.specs.Meaning.{resultOf}
 use Rattle.results.specs.Writable.{Writable}
-use Rattle.results.proofs.Plain.{Plain, plain-writable}
 use Rattle.changes.specs.Ready.{Ready}
-use Rattle.procedures.specs.Runs.{Runs}
-use Rattle.procedures.proofs.Plain.{getattr-plain, lookup-plain, access-plain, fsstat-plain, fsinfo-plain, pathconf-plain, commit-plain, setattr-plain, write-plain, create-plain, mkdir-plain, remove-plain, rmdir-plain, rename-plain}
 
 -- what every procedure asks of the store
 pub good : {s : Store} {used : List ℕ} {free : ℕ} {c : Context} → Ready s used free c → GoodRecords s
@@ -36,112 +34,100 @@ good {s} h = valid-records s (h .valid) (h .bytes)
 
 module _ (s : Store) (c : Context) (call : List ℕ) (a : Arguments) where
   -- by the variant of the arguments
-  told : (b : Arguments) (r : Reply) (t : Store) → a ≡ b → Runs (act s c call b) r t → Runs (act s c call a) r t
-  told b r t e h = subst (λ (x : Arguments). Runs (act s c call x) r t) (sym e) h
+  told : (b : Arguments) (r : Reply) (t : Store) → a ≡ b → Does (act s c call b) r t → Does (act s c call a) r t
+  told b r t e h = subst (λ (x : Arguments). Does (act s c call x) r t) (sym e) h
 
   -- a procedure that only reads
-  reading : (b : Arguments) (r : Reply) → a ≡ b → resultOf s r ≡ act s c call b .result → act s c call b .store ≡ s → Writable s r
-      → Runs (act s c call a) r s
-  reading b r e k same w = told b r s e (record { does = record { result = k; store = sym same }; writable = w })
+  reading : (b : Arguments) (r : Reply) → a ≡ b → act s c call b .store ≡ s → (resultOf s r ≡ act s c call b .result) × Writable s r
+      → Does (act s c call a) r s
+  reading b r e same k = told b r s e (record { result = k .0; store = sym same; writable = k .1 })
 
-  -- one with a plain result
-  plainly : (b : Arguments) (r : Reply) → a ≡ b → resultOf s r ≡ act s c call b .result → act s c call b .store ≡ s
-      → Plain (act s c call b .result) → Runs (act s c call a) r s
-  plainly b r e k same p = reading b r e k same (plain-writable s r (act s c call b .result) k p)
-
-  -- a procedure that changes the store
-  changing : (b : Arguments) (r : Reply) (t : Store) → a ≡ b → Does (act s c call b) r t → Plain (act s c call b .result)
-      → Runs (act s c call a) r t
-  changing b r t e h p = told b r t e (record { does = h; writable = plain-writable t r (act s c call b .result) (h .result) p })
-
-  pub told-null : a ≡ Arguments.Null → Runs (act s c call a) Reply.Null s
+  pub told-null : a ≡ Arguments.Null → Does (act s c call a) Reply.Null s
   unfolding act
-  told-null e = reading Arguments.Null Reply.Null e refl refl tt
+  told-null e = reading Arguments.Null Reply.Null e refl (refl, tt)
 
-  pub told-unserved : a ≡ Arguments.Unserved → Runs (act s c call a) (Reply.Dead (record { 0 = NOTSUPP })) s
+  pub told-unserved : a ≡ Arguments.Unserved → Does (act s c call a) (Reply.Dead (record { 0 = NOTSUPP })) s
   unfolding act
-  told-unserved e = reading Arguments.Unserved (Reply.Dead (record { 0 = NOTSUPP })) e refl refl tt
+  told-unserved e = reading Arguments.Unserved (Reply.Dead (record { 0 = NOTSUPP })) e refl (refl, tt)
 
-  pub told-getattr : (h : Part) (r : Reply) → a ≡ Arguments.Getattr h → resultOf s r ≡ getattr s (cut call h) .result → Runs (act s c call a) r s
+  pub told-getattr : (h : Part) (r : Reply) → a ≡ Arguments.Getattr h → (resultOf s r ≡ getattr s (cut call h) .result) × Writable s r
+      → Does (act s c call a) r s
   unfolding act
-  told-getattr h r e k = plainly (Arguments.Getattr h) r e k (getattr-store s (cut call h)) (getattr-plain s (cut call h))
+  told-getattr h r e k = reading (Arguments.Getattr h) r e (getattr-store s (cut call h)) k
 
   pub told-setattr : (h : Part) (x : Settable) (g : Guard) (r : Reply) (t : Store) → a ≡ Arguments.Setattr h x g
-      → Does (setattr s c (cut call h) x g) r t → Runs (act s c call a) r t
+      → Does (setattr s c (cut call h) x g) r t → Does (act s c call a) r t
   unfolding act
-  told-setattr h x g r t e k = changing (Arguments.Setattr h x g) r t e k (setattr-plain s c (cut call h) x g)
+  told-setattr h x g r t e k = told (Arguments.Setattr h x g) r t e k
 
   pub told-lookup : (p : NameIn) (r : Reply) → a ≡ Arguments.Lookup p
-      → resultOf s r ≡ lookup s (cut call (p .directory)) (cut call (p .name)) .result → Runs (act s c call a) r s
+      → (resultOf s r ≡ lookup s (cut call (p .directory)) (cut call (p .name)) .result) × Writable s r → Does (act s c call a) r s
   unfolding act
-  told-lookup p r e k =
-      plainly (Arguments.Lookup p) r e k (lookup-store s (cut call (p .directory)) (cut call (p .name)))
-      (lookup-plain s (cut call (p .directory)) (cut call (p .name)))
+  told-lookup p r e k = reading (Arguments.Lookup p) r e (lookup-store s (cut call (p .directory)) (cut call (p .name))) k
 
-  pub told-access : (h : Part) (bits : ℕ) (r : Reply) → a ≡ Arguments.Access h bits → resultOf s r ≡ access s (cut call h) bits .result
-      → Runs (act s c call a) r s
+  pub told-access : (h : Part) (bits : ℕ) (r : Reply) → a ≡ Arguments.Access h bits → (resultOf s r ≡ access s (cut call h) bits .result) × Writable s r
+      → Does (act s c call a) r s
   unfolding act
-  told-access h bits r e k = plainly (Arguments.Access h bits) r e k (access-store s (cut call h) bits) (access-plain s (cut call h) bits)
+  told-access h bits r e k = reading (Arguments.Access h bits) r e (access-store s (cut call h) bits) k
 
   pub told-read : (h : Part) (offset count : ℕ) (r : Reply) → a ≡ Arguments.Read h offset count
-      → resultOf s r ≡ read s (cut call h) offset count .result → Writable s r → Runs (act s c call a) r s
+      → (resultOf s r ≡ read s (cut call h) offset count .result) × Writable s r → Does (act s c call a) r s
   unfolding act
-  told-read h offset count r e k w = reading (Arguments.Read h offset count) r e k (read-store s (cut call h) offset count) w
+  told-read h offset count r e k = reading (Arguments.Read h offset count) r e (read-store s (cut call h) offset count) k
 
   pub told-write : (h : Part) (offset count : ℕ) (bytes : Part) (r : Reply) (t : Store) → a ≡ Arguments.Write h offset count bytes
-      → Does (write s c (cut call h) offset count (cut call bytes)) r t → Runs (act s c call a) r t
+      → Does (write s c (cut call h) offset count (cut call bytes)) r t → Does (act s c call a) r t
   unfolding act
-  told-write h offset count bytes r t e k =
-      changing (Arguments.Write h offset count bytes) r t e k (write-plain s c (cut call h) offset count (cut call bytes))
+  told-write h offset count bytes r t e k = told (Arguments.Write h offset count bytes) r t e k
 
   pub told-create : (p : NameIn) (manner : How) (r : Reply) (t : Store) → a ≡ Arguments.Create p manner
-      → Does (create s c (cut call (p .directory)) (cut call (p .name)) manner) r t → Runs (act s c call a) r t
+      → Does (create s c (cut call (p .directory)) (cut call (p .name)) manner) r t → Does (act s c call a) r t
   unfolding act
-  told-create p manner r t e k =
-      changing (Arguments.Create p manner) r t e k (create-plain s c (cut call (p .directory)) (cut call (p .name)) manner)
+  told-create p manner r t e k = told (Arguments.Create p manner) r t e k
 
   pub told-mkdir : (p : NameIn) (x : Settable) (r : Reply) (t : Store) → a ≡ Arguments.Mkdir p x
-      → Does (mkdir s c (cut call (p .directory)) (cut call (p .name)) x) r t → Runs (act s c call a) r t
+      → Does (mkdir s c (cut call (p .directory)) (cut call (p .name)) x) r t → Does (act s c call a) r t
   unfolding act
-  told-mkdir p x r t e k = changing (Arguments.Mkdir p x) r t e k (mkdir-plain s c (cut call (p .directory)) (cut call (p .name)) x)
+  told-mkdir p x r t e k = told (Arguments.Mkdir p x) r t e k
 
   pub told-remove : (p : NameIn) (r : Reply) (t : Store) → a ≡ Arguments.Remove p
-      → Does (remove s c (cut call (p .directory)) (cut call (p .name))) r t → Runs (act s c call a) r t
+      → Does (remove s c (cut call (p .directory)) (cut call (p .name))) r t → Does (act s c call a) r t
   unfolding act
-  told-remove p r t e k = changing (Arguments.Remove p) r t e k (remove-plain s c (cut call (p .directory)) (cut call (p .name)))
+  told-remove p r t e k = told (Arguments.Remove p) r t e k
 
   pub told-rmdir : (p : NameIn) (r : Reply) (t : Store) → a ≡ Arguments.Rmdir p
-      → Does (rmdir s c (cut call (p .directory)) (cut call (p .name))) r t → Runs (act s c call a) r t
+      → Does (rmdir s c (cut call (p .directory)) (cut call (p .name))) r t → Does (act s c call a) r t
   unfolding act
-  told-rmdir p r t e k = changing (Arguments.Rmdir p) r t e k (rmdir-plain s c (cut call (p .directory)) (cut call (p .name)))
+  told-rmdir p r t e k = told (Arguments.Rmdir p) r t e k
 
   pub told-rename : (p q : NameIn) (r : Reply) (t : Store) → a ≡ Arguments.Rename p q
       → Does (rename s c (cut call (p .directory)) (cut call (p .name)) (cut call (q .directory)) (cut call (q .name))) r t
-      → Runs (act s c call a) r t
+      → Does (act s c call a) r t
   unfolding act
-  told-rename p q r t e k =
-      changing (Arguments.Rename p q) r t e k
-      (rename-plain s c (cut call (p .directory)) (cut call (p .name)) (cut call (q .directory)) (cut call (q .name)))
+  told-rename p q r t e k = told (Arguments.Rename p q) r t e k
 
   pub told-readdir : (h : Part) (cookie verifier count : ℕ) (r : Reply) → a ≡ Arguments.Readdir h cookie verifier count
-      → resultOf s r ≡ readdir s (cut call h) cookie verifier count .result → Writable s r → Runs (act s c call a) r s
+      → (resultOf s r ≡ readdir s (cut call h) cookie verifier count .result) × Writable s r → Does (act s c call a) r s
   unfolding act
-  told-readdir h cookie verifier count r e k w =
-      reading (Arguments.Readdir h cookie verifier count) r e k (readdir-store s (cut call h) cookie verifier count) w
+  told-readdir h cookie verifier count r e k =
+      reading (Arguments.Readdir h cookie verifier count) r e (readdir-store s (cut call h) cookie verifier count) k
 
-  pub told-fsstat : (h : Part) (r : Reply) → a ≡ Arguments.Fsstat h → resultOf s r ≡ fsstat s (cut call h) .result → Runs (act s c call a) r s
+  pub told-fsstat : (h : Part) (r : Reply) → a ≡ Arguments.Fsstat h → (resultOf s r ≡ fsstat s (cut call h) .result) × Writable s r
+      → Does (act s c call a) r s
   unfolding act
-  told-fsstat h r e k = plainly (Arguments.Fsstat h) r e k (fsstat-store s (cut call h)) (fsstat-plain s (cut call h))
+  told-fsstat h r e k = reading (Arguments.Fsstat h) r e (fsstat-store s (cut call h)) k
 
-  pub told-fsinfo : (h : Part) (r : Reply) → a ≡ Arguments.Fsinfo h → resultOf s r ≡ fsinfo s (cut call h) .result → Runs (act s c call a) r s
+  pub told-fsinfo : (h : Part) (r : Reply) → a ≡ Arguments.Fsinfo h → (resultOf s r ≡ fsinfo s (cut call h) .result) × Writable s r
+      → Does (act s c call a) r s
   unfolding act
-  told-fsinfo h r e k = plainly (Arguments.Fsinfo h) r e k (fsinfo-store s (cut call h)) (fsinfo-plain s (cut call h))
+  told-fsinfo h r e k = reading (Arguments.Fsinfo h) r e (fsinfo-store s (cut call h)) k
 
-  pub told-pathconf : (h : Part) (r : Reply) → a ≡ Arguments.Pathconf h → resultOf s r ≡ pathconf s (cut call h) .result
-      → Runs (act s c call a) r s
+  pub told-pathconf : (h : Part) (r : Reply) → a ≡ Arguments.Pathconf h → (resultOf s r ≡ pathconf s (cut call h) .result) × Writable s r
+      → Does (act s c call a) r s
   unfolding act
-  told-pathconf h r e k = plainly (Arguments.Pathconf h) r e k (pathconf-store s (cut call h)) (pathconf-plain s (cut call h))
+  told-pathconf h r e k = reading (Arguments.Pathconf h) r e (pathconf-store s (cut call h)) k
 
-  pub told-commit : (h : Part) (r : Reply) → a ≡ Arguments.Commit h → resultOf s r ≡ commit s c (cut call h) .result → Runs (act s c call a) r s
+  pub told-commit : (h : Part) (r : Reply) → a ≡ Arguments.Commit h → (resultOf s r ≡ commit s c (cut call h) .result) × Writable s r
+      → Does (act s c call a) r s
   unfolding act
-  told-commit h r e k = plainly (Arguments.Commit h) r e k (commit-store s (cut call h) c) (commit-plain s (cut call h) c)
+  told-commit h r e k = reading (Arguments.Commit h) r e (commit-store s (cut call h) c) k

@@ -1,3 +1,67 @@
-// What a call does, by what was read of its arguments.
-pub mod counted; // the procedures that ask for the number of free blocks
-pub mod run; // the procedure of each kind of arguments
+// What a call does: the procedure of each kind of arguments.
+ghost use lib.ListN.{length};
+ghost use Rattle.spec.specs.Procedures.{act};
+ghost use Rattle.spec.specs.Room.{freeBlockCount};
+ghost use Rattle.laws.proofs.Arguments.{Within};
+ghost use Rattle.laws.proofs.ArgumentRange.{FitsArguments};
+ghost use Rattle.changes.specs.Ready.{Ready};
+ghost use Rattle.results.specs.Does.{Does};
+use changes::data::write;
+use counted::create;
+use counted::fsstat;
+use counted::mkdir;
+use counted::setattr;
+use kinds::call::Arguments;
+use kinds::numbers::Status;
+use kinds::object::Context;
+use listing::readdir;
+use reads::data::commit;
+use reads::data::read;
+use reads::lookup::lookup;
+use reads::object::access;
+use reads::object::getattr;
+use reads::volume::fsinfo;
+use reads::volume::pathconf;
+use removals::act::remove;
+use removals::act::rename;
+use removals::act::rmdir;
+use results::Reply;
+
+// Runs a call, by what was read of its arguments.
+pub fn run(
+    store: &mut [u8],
+    used: &[u8; 1024],
+    context: Context,
+    call: &[u8],
+    a: Arguments,
+) -> Reply
+    requires { ⌜ Ready (now store) (now used) (freeBlockCount (now store)) context ⌝ }
+    requires { ⌜ Within (length (now call)) a ⌝ }
+    requires { ⌜ FitsArguments a ⌝ }
+    ensures { λ r. ⌜ Does (act (now (store .entry)) context (now (call .entry)) a) r (now (store .exit)) ⌝ }
+{
+    match a {
+        Arguments::Null => Reply::Null,
+        Arguments::Getattr(h) => getattr(store, call, h),
+        Arguments::Setattr(h, set, g) => setattr(store, used, context, call, h, set, g),
+        Arguments::Lookup(p) => lookup(store, call, p),
+        Arguments::Access(h, bits) => access(store, call, h, bits),
+        Arguments::Read(h, offset, count) => read(store, call, h, offset, count),
+        Arguments::Write(h, offset, count, bytes) => {
+            write(store, used, context, call, h, offset, count, bytes)
+        }
+        Arguments::Create(p, manner) => create(store, used, context, call, p, manner),
+        Arguments::Mkdir(p, set) => mkdir(store, used, context, call, p, set),
+        Arguments::Remove(p) => remove(store, context, call, p),
+        Arguments::Rmdir(p) => rmdir(store, context, call, p),
+        Arguments::Rename(p, q) => rename(store, context, call, p, q),
+        Arguments::Readdir(h, cookie, verifier, count) => {
+            readdir(store, call, h, cookie, verifier, count)
+        }
+        Arguments::Fsstat(h) => fsstat(store, used, call, h),
+        Arguments::Fsinfo(h) => fsinfo(store, call, h),
+        Arguments::Pathconf(h) => pathconf(store, call, h),
+        Arguments::Commit(h) => commit(store, call, h, context),
+        Arguments::Unserved => Reply::Dead(Status::NOTSUPP),
+    }
+}

@@ -15,7 +15,8 @@ use Rattle.spec.specs.Results.{Done}
 use Rattle.spec.specs.Rpc.{Program, nfs, accepted, judge}
 use Rattle.spec.specs.Serve.{finish}
 use Rattle.laws.proofs.Count.{by-bool}
-use Rattle.results.specs.Meaning.{resultOf, Does}
+use Rattle.results.specs.Does.{Does}
+use Rattle.results.specs.Meaning.{resultOf}
 use Rattle.results.specs.declared.Reply.{Reply}
 use Rattle.rpc.specs.Meaning.{judgedOf}
 use Rattle.rpc.specs.declared.outcome.Judged.{Judged}

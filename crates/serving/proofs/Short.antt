@@ -7,6 +7,7 @@ use lib.Dec.{eqb, lit≤}
 use lib.ListN.{length, take, length-append, length-replicate}
 use Rattle.spec.specs.Bytes.{bytesOf, words, opaqueBytes}
 use Rattle.spec.specs.Edits.{readFile}
+use Rattle.spec.specs.Handles.{handleOf, attributes}
 use Rattle.spec.specs.Image.{Store}
 use Rattle.spec.specs.Count.{bit}
 use Rattle.spec.specs.Procedures.Listing.{entries, entriesAbove}
@@ -15,7 +16,7 @@ use Rattle.spec.specs.Rpc.{Program, accepted, mismatch}
 use Rattle.laws.proofs.Count.{by-bool}
 use Rattle.laws.proofs.FileBytes.{readFile-length}
 use Rattle.laws.proofs.Words.{words-length, opaque-length}
-use Rattle.results.specs.Meaning.{handleBytes, changeOf, resultOf}
+use Rattle.results.specs.Meaning.{handleChangeIn, resultOf}
 use Rattle.results.specs.Writable.{Writable}
 use Rattle.results.specs.declared.HandleChange.{HandleChange}
 use Rattle.results.specs.declared.Reply.{Reply}
@@ -36,10 +37,10 @@ stopped-short p xid stat =
     (by-bool (eqb stat 2) (λ t. rw (t, words-length) (lit≤ tt)) (λ t. rw t (lit≤ tt)))
 
 -- ---- the results of a procedure
-renamed-short : (status : ℕ) (c d : HandleChange) → length (words (status ∷ wccOption (changeOf c) ++ wccOption (changeOf d))) ≤ 4200
-renamed-short status c d =
-    let k = change-small c in
-    let l = change-small d in
+renamed-short : (s : Store) (status : ℕ) (c d : HandleChange) → length (words (status ∷ wccOption (handleChangeIn s c) ++ wccOption (handleChangeIn s d))) ≤ 4200
+renamed-short s status c d =
+    let k = change-small s c in
+    let l = change-small s d in
     rw (words-length, length-append) (omega arith)
 
 bytes-short : (ws bytes : List ℕ) → length ws ≡ 25 → length bytes ≤ 4096 → length (words ws ++ opaqueBytes bytes) ≤ 4200
@@ -50,26 +51,26 @@ listed-short ws es vs e f h = simp (length-append, words-length) (omega arith)
 
 module _ (s : Store) (p : ℕ) where
   body-short : (r : Reply) → Writable s r → length (resultBytes p (resultOf s r)) ≤ 4200
-  unfolding resultBytes words bytesOf opaqueBytes handleBytes fattr3 postOp preOp wccData
+  unfolding resultBytes words bytesOf opaqueBytes handleOf fattr3 postOp preOp wccData
   body-short Reply.Null w = lit≤ tt
   body-short (Reply.Dead status) w =
       let k = zeroWords-small p in
       rw words-length (simp length-replicate (omega arith))
-  body-short (Reply.Failed status a) w = lit≤ tt
+  body-short (Reply.Failed status o) w = lit≤ tt
   body-short (Reply.Changed status c) w = lit≤ tt
-  body-short (Reply.Renamed status c d) w = renamed-short (status .0) c d
-  body-short (Reply.GotAttributes a) w = lit≤ tt
-  body-short (Reply.Found h a d) w = lit≤ tt
-  body-short (Reply.Granted a bits) w = lit≤ tt
-  body-short (Reply.GotBytes a eof o offset n) w =
-      bytes-short (0 ∷ postOp a ++ (length (readFile s (o .0) offset n) ∷ bit eof ∷ [])) (readFile s (o .0) offset n) refl (rw readFile-length (w .few))
+  body-short (Reply.Renamed status c d) w = renamed-short s (status .0) c d
+  body-short (Reply.GotAttributes o) w = lit≤ tt
+  body-short (Reply.Found o d) w = lit≤ tt
+  body-short (Reply.Granted o bits) w = lit≤ tt
+  body-short (Reply.GotBytes o eof offset n) w =
+      bytes-short (0 ∷ postOp (attributes s (o .0)) ++ (length (readFile s (o .0) offset n) ∷ bit eof ∷ [])) (readFile s (o .0) offset n) refl (rw readFile-length (w .few))
   body-short (Reply.Wrote c count verifier) w = lit≤ tt
-  body-short (Reply.Created h a d) w = lit≤ tt
-  body-short (Reply.Listed a eof d cookie n) w =
-      listed-short (0 ∷ postOp a ++ hyper 0) (entriesBytes (take n (entriesAbove cookie (entries s (d .0))))) (0 ∷ bit eof ∷ []) refl refl (w .few)
-  body-short (Reply.GotRoom a total free objects available) w = lit≤ tt
-  body-short (Reply.GotLimits a) w = lit≤ tt
-  body-short (Reply.GotNaming a) w = lit≤ tt
+  body-short (Reply.Created o d) w = lit≤ tt
+  body-short (Reply.Listed d eof cookie n) w =
+      listed-short (0 ∷ postOp (attributes s (d .0)) ++ hyper 0) (entriesBytes (take n (entriesAbove cookie (entries s (d .0))))) (0 ∷ bit eof ∷ []) refl refl (w .few)
+  body-short (Reply.GotRoom o total free objects available) w = lit≤ tt
+  body-short (Reply.GotLimits o) w = lit≤ tt
+  body-short (Reply.GotNaming o) w = lit≤ tt
   body-short (Reply.Committed c verifier) w = lit≤ tt
 
   -- a reply is at most the least reply space

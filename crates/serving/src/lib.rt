@@ -19,7 +19,7 @@ use kinds::call::Cursor;
 use kinds::call::Header;
 use kinds::numbers::Message;
 use kinds::object::Context;
-use procedures::run::run;
+use procedures::run;
 use replies::result::put_result;
 use rpc::outcome::Judged;
 use rpc::outcome::Program;

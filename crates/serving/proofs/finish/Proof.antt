@@ -26,7 +26,7 @@ same-length-2 c = search needs
 returns : tie.Need-returns
 returns c =
     let h = c .before .before .before .before .before .before .before .before .before .before .before .before .args .h in
-    sends-done h _ (c .before .before .before .before .before .before .before .run .last .0) (c .before .before .before .before .before .before .before .run .result) (c .before .before .before .before .before .before .before .run .ensures .does) (c .before .before .put-result .ensures)
+    sends-done h _ (c .before .before .before .before .before .before .before .run .last .0) (c .before .before .before .before .before .before .before .run .result) (c .before .before .before .before .before .before .before .run .ensures) (c .before .before .put-result .ensures)
 
 pub finish-spec : {M : Type 1} → statement M
 finish-spec =

@@ -4,8 +4,8 @@ use borrow.Author.Needs.{needs}
 use Rattle.laws.proofs.Arguments.{Within}
 use Rattle.laws.proofs.ArgumentRange.{FitsArguments}
 use Rattle.procedures.proofs.Told.{good, told-null, told-unserved, told-getattr, told-setattr, told-lookup, told-access, told-read, told-write, told-create, told-mkdir, told-remove, told-rmdir, told-rename, told-readdir, told-fsstat, told-fsinfo, told-pathconf, told-commit}
-use Rattle.procedures.proofs.run.run.Statement.{statement}
-use Rattle.procedures.proofs.run.run.Tie as tie
+use Rattle.procedures.proofs.run.Statement.{statement}
+use Rattle.procedures.proofs.run.Tie as tie
 
 enum-told : tie.Need-enum-told
 enum-told c = search needs
@@ -200,7 +200,7 @@ same-length-5 c = search needs
 returns-6 : tie.Need-returns-6
 returns-6 c =
     let a = c .before .before .before .before .before .before .before .args in
-    told-read (a .store .now) (a .context) (a .call .now) (a .a) _ _ _ (c .read .result) (c .before .before .before .a5 .given .1) (c .read .ensures .0) (c .read .ensures .1)
+    told-read (a .store .now) (a .context) (a .call .now) (a .a) _ _ _ (c .read .result) (c .before .before .before .a5 .given .1) (c .read .ensures)
 
 same-length-6 : tie.Need-same-length-6
 same-length-6 c = search needs
@@ -256,7 +256,7 @@ same-length-12 c = search needs
 returns-13 : tie.Need-returns-13
 returns-13 c =
     let a = c .before .before .before .before .before .before .before .args in
-    told-readdir (a .store .now) (a .context) (a .call .now) (a .a) _ _ _ _ (c .readdir .result) (c .before .before .before .a12 .given .1) (c .readdir .ensures .0) (c .readdir .ensures .1)
+    told-readdir (a .store .now) (a .context) (a .call .now) (a .a) _ _ _ _ (c .readdir .result) (c .before .before .before .a12 .given .1) (c .readdir .ensures)
 
 same-length-13 : tie.Need-same-length-13
 same-length-13 c = search needs
