@@ -1,11 +1,6 @@
 // Runs the calls of the file `vectors` through the entries of the library, and prints a line for each run, a line for each thing that
 // differs, and the counts. `data/vectors` and `stdout` are what the independent program in `peer` wrote (`peer/README.md`).
-mod buffers;
-mod counts;
-mod file;
 mod replay;
-mod report;
-mod steps;
 
 fn main() {
     let path = b"vectors";

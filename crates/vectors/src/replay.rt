@@ -1,88 +1,131 @@
 // The replay, record by record.
-use crate::counts::Counts;
-use crate::file::Kind;
-use crate::file::KindRead;
-use crate::file::head_length;
-use crate::file::read_kind;
-use crate::file::read_part;
-use crate::report::Place;
-use crate::report::print_broken;
-use crate::report::print_run;
-use crate::report::print_total;
-use crate::steps::Step;
-use crate::steps::act;
-use crate::steps::call;
-use crate::steps::read_call;
-use crate::steps::start;
+use kinds::numbers::Answer;
+use vector_file::file::Kind;
+use vector_file::file::asks_an_entry;
+use vector_file::file::read_record;
+use vector_file::progress::Progress;
+use vector_file::progress::after;
+use vector_file::progress::place_of;
+use vector_file::report::Place;
+use vector_file::steps::CallInput;
+use vector_file::steps::FormatInput;
+use vector_file::steps::Step;
+use vector_file::steps::checked;
+use vector_file::steps::clear_reply;
+use vector_file::steps::formatted;
+use vector_file::steps::input_of_call;
+use vector_file::steps::input_of_format;
+use vector_file::steps::other;
+use vector_file::steps::replied;
 
-// The run that is under way, the length of its store, what it has done, and what the runs before it did.
-struct Progress {
-    goes_on: bool,
-    run: u32,
-    length: usize,
-    own: Counts,
-    total: Counts,
-}
-
-// The place of the next step of this kind.
-fn place_of(kind: u32, progress: Progress) -> Place {
-    let own = progress.own;
-    let before = match kind {
-        Kind::FORMAT => own.formats,
-        Kind::CHECK => own.checks,
-        _ => own.calls,
-    };
-    Place {
-        run: progress.run,
-        kind,
-        number: std::num::wrapping_add_u64(before, 1),
-    }
-}
-
-// A record other than a call.
-fn plain_step(fd: i32, kind: u32, head: &[u8; 40], progress: Progress, store: &mut [u8]) -> Step {
-    let length = progress.length;
-    if length > store.len() {
-        return Step::Broken;
-    }
-    match kind {
-        Kind::END => Step::Ended,
-        Kind::RUN => start(head, store),
-        _ => act(
-            fd,
-            kind,
-            head,
-            place_of(kind, progress),
-            &mut store[0..length],
-        ),
-    }
-}
-
-// A call.
-fn call_step(
-    fd: i32,
-    head: &[u8; 40],
-    progress: Progress,
-    store: &mut [u8],
-    bytes: &mut [u8],
-    want: &mut [u8],
-    reply: &mut [u8],
-) -> Step {
-    let length = progress.length;
-    if length > store.len() {
-        return Step::Broken;
-    }
-    if !read_call(fd, head, bytes, want) {
-        return Step::Broken;
-    }
-    call(
-        head,
-        place_of(Kind::CALL, progress),
-        &mut store[0..length],
-        bytes,
-        want,
-        reply,
+// Formats the store.
+fn format(given: FormatInput, store: &mut [u8]) -> Answer {
+    nfs3::nfs3_format(
+        store,
+        given.stamp,
+        given.objects,
+        given.names,
+        given.blocks,
+        given.seconds,
+        given.nanoseconds,
     )
+}
+
+// Checks the store.
+fn check(store: &[u8]) -> Answer {
+    nfs3::nfs3_check(store)
+}
+
+// Sends a call.
+fn send(given: CallInput, call: &[u8], store: &mut [u8], reply: &mut [u8]) -> Answer {
+    nfs3::nfs3_call(
+        call,
+        store,
+        reply,
+        given.seconds,
+        given.nanoseconds,
+        given.verifier,
+    )
+}
+
+// The record of a format.
+fn format_record(head: &[u8; 40], place: Place, store: &mut [u8]) -> Step {
+    let answer = format(input_of_format(head), store);
+    formatted(head, place, answer, store)
+}
+
+// The record of a check.
+fn check_record(head: &[u8; 40], place: Place, store: &[u8]) -> Step {
+    checked(head, place, check(store))
+}
+
+// The answer to a call, or that the record gives too great a length.
+enum Sending {
+    Answered(Answer),
+    Broken,
+}
+
+// Sends the first bytes of `call`, with the first bytes of `reply` as reply space.
+fn send_part(given: CallInput, call: &[u8], store: &mut [u8], reply: &mut [u8]) -> Sending {
+    let length = given.length;
+    let space = given.space;
+    if length > call.len() {
+        return Sending::Broken;
+    }
+    if space > reply.len() {
+        return Sending::Broken;
+    }
+    Sending::Answered(send(given, &call[0..length], store, &mut reply[0..space]))
+}
+
+// The record of a call.
+fn call_record(
+    head: &[u8; 40],
+    place: Place,
+    store: &mut [u8],
+    call: &[u8; 10000],
+    want: &[u8; 4224],
+    reply: &mut [u8; 8192],
+) -> Step {
+    clear_reply(reply);
+    let sending = send_part(input_of_call(head), call, store, reply);
+    match sending {
+        Sending::Answered(answer) => replied(head, place, answer, store, want, reply),
+        Sending::Broken => Step::Broken,
+    }
+}
+
+// A record that asks something of the entries.
+fn entry(
+    head: &[u8; 40],
+    place: Place,
+    store: &mut [u8],
+    call: &[u8; 10000],
+    want: &[u8; 4224],
+    reply: &mut [u8; 8192],
+) -> Step {
+    let kind = place.kind;
+    match kind {
+        Kind::FORMAT => format_record(head, place, store),
+        Kind::CHECK => check_record(head, place, store),
+        _ => call_record(head, place, store, call, want, reply),
+    }
+}
+
+// The same, on a store of the first `used` bytes of `store`.
+fn act(
+    head: &[u8; 40],
+    place: Place,
+    store: &mut [u8],
+    used: usize,
+    call: &[u8; 10000],
+    want: &[u8; 4224],
+    reply: &mut [u8; 8192],
+) -> Step {
+    if used > store.len() {
+        return Step::Broken;
+    }
+    entry(head, place, &mut store[0..used], call, want, reply)
 }
 
 // Reads one record and does what it says.
@@ -90,77 +133,37 @@ fn one_record(
     fd: i32,
     progress: Progress,
     store: &mut [u8; 535061],
-    bytes: &mut [u8; 10000],
+    call: &mut [u8; 10000],
     want: &mut [u8; 4224],
     reply: &mut [u8; 8192],
 ) -> Step {
-    let read = read_kind(fd);
-    let KindRead::Got(kind) = read else {
-        return Step::Broken;
-    };
     let mut head = [0u8; 40];
-    if !read_part(fd, &mut head, head_length(kind)) {
-        return Step::Broken;
-    }
-    if kind == Kind::CALL {
-        call_step(fd, &head, progress, store, bytes, want, reply)
+    let kind = read_record(fd, &mut head, call, want);
+    if asks_an_entry(kind) {
+        act(
+            &head,
+            place_of(kind, progress),
+            store,
+            progress.length,
+            call,
+            want,
+            reply,
+        )
     } else {
-        plain_step(fd, kind, &head, progress, store)
+        other(fd, kind, &head, store, progress.length)
     }
-}
-
-// Prints the line of the run that is under way, if there is one; what has been done in all.
-fn close_run(progress: Progress) -> Counts {
-    let own = progress.own;
-    let total = progress.total;
-    if own.runs != 0 {
-        print_run(progress.run, own);
-    }
-    total.plus(own)
-}
-
-// What has been done after a step; prints the line of a run that it ends.
-fn after(progress: Progress, step: Step) -> Progress {
-    let own = progress.own;
-    let mut next = progress;
-    match step {
-        Step::Started(run, length) => {
-            next.total = close_run(progress);
-            next.own = Counts::one(Kind::RUN, true);
-            next.run = run;
-            next.length = length;
-        }
-        Step::Did(counts) => {
-            next.own = own.plus(counts);
-        }
-        Step::Ended => {
-            print_total(close_run(progress));
-            next.goes_on = false;
-        }
-        Step::Broken => {
-            print_broken();
-            next.goes_on = false;
-        }
-    }
-    next
 }
 
 // Replays the file. The arrays are lent as slices below this function only.
 pub fn replay(fd: i32) {
     let mut store = [0u8; 535061];
-    let mut bytes = [0u8; 10000];
+    let mut call = [0u8; 10000];
     let mut want = [0u8; 4224];
     let mut reply = [0u8; 8192];
-    let mut progress = Progress {
-        goes_on: true,
-        run: 0,
-        length: 0,
-        own: Counts::NONE,
-        total: Counts::NONE,
-    };
+    let mut progress = Progress::NONE;
     let mut at: u64 = 0;
     while at < 10000000 && progress.goes_on {
-        let done = one_record(fd, progress, &mut store, &mut bytes, &mut want, &mut reply);
+        let done = one_record(fd, progress, &mut store, &mut call, &mut want, &mut reply);
         progress = after(progress, done);
         at += 1;
     }

@@ -4,10 +4,10 @@ use Rattle.vectors.proofs.replay.replay.Statement.{statement}
 use Rattle.vectors.proofs.replay.replay.Tie as tie
 
 abbrev Inv-loop : tie.InvT-loop
-Inv-loop fd store₀ bytes₀ want₀ reply₀ progress₀ at₀ store bytes want reply progress at = at ≤ 10000000
+Inv-loop fd store₀ call₀ want₀ reply₀ progress₀ at₀ store call want reply progress at = at ≤ 10000000
 
 abbrev μ-loop : tie.MeasureT-loop
-μ-loop fd store₀ bytes₀ want₀ reply₀ progress₀ at₀ store bytes want reply progress at = 10000000 - at
+μ-loop fd store₀ call₀ want₀ reply₀ progress₀ at₀ store call want reply progress at = 10000000 - at
 
 loop-holds : tie.Need-loop-holds Inv-loop μ-loop
 loop-holds c = search needs
