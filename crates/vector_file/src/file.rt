@@ -21,11 +21,6 @@ impl Kind {
     pub const BROKEN: u32 = 6;
 }
 
-// Whether a record of this kind asks something of the entries.
-pub fn asks_an_entry(kind: u32) -> bool {
-    kind == Kind::FORMAT || kind == Kind::CHECK || kind == Kind::CALL
-}
-
 // The kind of the next record.
 fn read_kind(fd: i32) -> u32 {
     let mut bytes = [0u8; 4];

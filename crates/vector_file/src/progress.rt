@@ -2,16 +2,12 @@
 use crate::counts::Counts;
 use crate::file::Kind;
 use crate::report::Place;
-use crate::report::print_broken;
 use crate::report::print_run;
-use crate::report::print_total;
-use crate::steps::Step;
 
 // The run that is under way, the length of its store, what it has done, and what the runs before it did.
 pub struct Progress {
-    pub goes_on: bool,
     pub run: u32,
-    pub length: usize,
+    pub used: usize,
     pub own: Counts,
     pub total: Counts,
 }
@@ -19,61 +15,52 @@ pub struct Progress {
 impl Progress {
     // Before the first record.
     pub const NONE: Progress = Progress {
-        goes_on: true,
         run: 0,
-        length: 0,
+        used: 0,
         own: Counts::NONE,
         total: Counts::NONE,
     };
-}
 
-// The place of the next step of this kind.
-pub fn place_of(kind: u32, progress: Progress) -> Place {
-    let own = progress.own;
-    let before = match kind {
-        Kind::FORMAT => own.formats,
-        Kind::CHECK => own.checks,
-        _ => own.calls,
-    };
-    Place {
-        run: progress.run,
-        kind,
-        number: std::num::wrapping_add_u64(before, 1),
-    }
-}
-
-// Prints the line of the run that is under way, if there is one; what has been done in all.
-fn close_run(progress: Progress) -> Counts {
-    let own = progress.own;
-    let total = progress.total;
-    if own.runs != 0 {
-        print_run(progress.run, own);
-    }
-    total.plus(own)
-}
-
-// What has been done after a step; prints the line of a run that it ends.
-pub fn after(progress: Progress, step: Step) -> Progress {
-    let own = progress.own;
-    let mut next = progress;
-    match step {
-        Step::Started(run, length) => {
-            next.total = close_run(progress);
-            next.own = Counts::one(Kind::RUN, true);
-            next.run = run;
-            next.length = length;
-        }
-        Step::Did(counts) => {
-            next.own = own.plus(counts);
-        }
-        Step::Ended => {
-            print_total(close_run(progress));
-            next.goes_on = false;
-        }
-        Step::Broken => {
-            print_broken();
-            next.goes_on = false;
+    // The place of the next step of this kind.
+    pub fn place(self, kind: u32) -> Place {
+        let own = self.own;
+        let before = match kind {
+            Kind::FORMAT => own.formats,
+            Kind::CHECK => own.checks,
+            _ => own.calls,
+        };
+        Place {
+            run: self.run,
+            kind,
+            number: std::num::wrapping_add_u64(before, 1),
         }
     }
-    next
+
+    // What has been done in all; prints the line of the run that ends, if there is one.
+    pub fn close_run(self) -> Counts {
+        let own = self.own;
+        let total = self.total;
+        if own.runs != 0 {
+            print_run(self.run, own);
+        }
+        total.plus(own)
+    }
+
+    // A new run, with a store of this length.
+    pub fn with_run(self, run: u32, used: usize) -> Progress {
+        Progress {
+            run,
+            used,
+            own: Counts::one(Kind::RUN, true),
+            total: self.close_run(),
+        }
+    }
+
+    // One step more, of this kind.
+    pub fn with_step(self, kind: u32, agrees: bool) -> Progress {
+        let own = self.own;
+        let mut next = self;
+        next.own = own.plus(Counts::one(kind, agrees));
+        next
+    }
 }
