@@ -35,12 +35,15 @@ pub struct Replay {
     pub task: Task,
 }
 
-impl Replay {
-    pub const START: Replay = Replay {
+// Before the first record.
+pub fn begin() -> Replay
+    ensures { λ r. ⌜ Within (r .task) ⌝ }
+{
+    Replay {
         left: 10000000,
         progress: Progress::NONE,
         task: Task::NONE,
-    };
+    }
 }
 
 // A new run, with a new store.

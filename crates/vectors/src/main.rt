@@ -3,7 +3,7 @@
 mod entries;
 
 use entries::ask;
-use vector_file::replay::Replay;
+use vector_file::replay::begin;
 use vector_file::replay::next;
 
 fn main() {
@@ -23,7 +23,7 @@ fn run(fd: i32) {
     let mut call = [0u8; 10000];
     let mut want = [0u8; 4224];
     let mut reply = [0u8; 8192];
-    let mut replay = Replay::START;
+    let mut replay = begin();
     while replay.left > 0 {
         let answer = ask(replay.task, &mut store, &call, &mut reply);
         replay = next(

@@ -9,6 +9,9 @@ Inv-loop fd store₀ call₀ want₀ reply₀ replay₀ store call want reply re
 abbrev μ-loop : tie.MeasureT-loop
 μ-loop fd store₀ call₀ want₀ reply₀ replay₀ store call want reply replay = replay .left
 
+begin-requires : tie.Need-begin-requires Inv-loop μ-loop
+begin-requires c κs = search needs
+
 loop-holds : tie.Need-loop-holds Inv-loop μ-loop
 loop-holds c = search needs
 
@@ -33,6 +36,7 @@ run-spec =
     (tie.spec
     Inv-loop
     μ-loop
+    begin-requires
     loop-holds
     ask-requires
     next-requires
