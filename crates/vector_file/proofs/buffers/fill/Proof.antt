@@ -3,8 +3,8 @@ use native.Mathlib.Omega.{arith}
 use lib.ListN.{length, length-set}
 use Prim.Native.Nat.{_≤_, _-_}
 use mathlib.Core.Path.{_≡_}
-use Rattle.vectors.proofs.buffers.fill.Statement.{statement}
-use Rattle.vectors.proofs.buffers.fill.Tie as tie
+use Rattle.vector_file.proofs.buffers.fill.Statement.{statement}
+use Rattle.vector_file.proofs.buffers.fill.Tie as tie
 
 abbrev Inv-loop : tie.InvT-loop
 Inv-loop buf₀ value i₀ buf i = (i ≤ length buf₀) × (length buf ≡ length buf₀)

@@ -1,8 +1,8 @@
 use borrow.Author.Needs.{needs}
 use lib.ListN.{length}
 use Prim.Native.Nat.{_≤_, _<_, _-_}
-use Rattle.vectors.proofs.buffers.digest.Statement.{statement}
-use Rattle.vectors.proofs.buffers.digest.Tie as tie
+use Rattle.vector_file.proofs.buffers.digest.Statement.{statement}
+use Rattle.vector_file.proofs.buffers.digest.Tie as tie
 
 abbrev Inv-loop : tie.InvT-loop
 Inv-loop store a₀ b₀ i₀ a b i = (i ≤ length store) × ((a < 4294967296) × (b < 4294967296))

@@ -16,24 +16,22 @@ impl Kind {
     pub const CHECK: u32 = 4;
 
     pub const CALL: u32 = 5;
+
+    // No record: the file ends too early, or is no vector file.
+    pub const BROKEN: u32 = 6;
 }
 
-// The kind of the next record, or that the file has no further one.
-pub enum KindRead {
-    Got(u32),
-    Cut,
-}
-
-pub fn read_kind(fd: i32) -> KindRead {
+// The kind of the next record.
+fn read_kind(fd: i32) -> u32 {
     let mut bytes = [0u8; 4];
     if io::read_full(fd, &mut bytes) < 4 {
-        return KindRead::Cut;
+        return Kind::BROKEN;
     }
-    KindRead::Got(wire::get_u32(&bytes, 0))
+    wire::get_u32(&bytes, 0)
 }
 
 // The length of the head that follows a kind; over 40, that of the longest, for a kind that there is not.
-pub fn head_length(kind: u32) -> usize {
+fn head_length(kind: u32) -> usize {
     match kind {
         Kind::END => 0,
         Kind::RUN => 8,
@@ -51,6 +49,42 @@ pub fn read_part(fd: i32, buf: &mut [u8], n: usize) -> bool {
         return false;
     }
     io::read_full(fd, &mut buf[0..n]) == n
+}
+
+// Reads the next record up to the end of its head: its kind.
+fn read_head(fd: i32, head: &mut [u8; 40]) -> u32 {
+    let kind = read_kind(fd);
+    if read_part(fd, head, head_length(kind)) {
+        kind
+    } else {
+        Kind::BROKEN
+    }
+}
+
+// Reads the bytes of a call and of the wanted reply.
+fn read_call(fd: i32, head: &[u8; 40], call: &mut [u8], want: &mut [u8]) -> bool {
+    if !read_part(fd, call, size(head, 20)) {
+        return false;
+    }
+    read_part(fd, want, size(head, 28))
+}
+
+// Reads the next record, but for the bytes of a patch: its kind.
+pub fn read_record(
+    fd: i32,
+    head: &mut [u8; 40],
+    call: &mut [u8; 10000],
+    want: &mut [u8; 4224],
+) -> u32 {
+    let kind = read_head(fd, head);
+    if kind != Kind::CALL {
+        return kind;
+    }
+    if read_call(fd, head, call, want) {
+        Kind::CALL
+    } else {
+        Kind::BROKEN
+    }
 }
 
 // The number in the four bytes of a head from `at`.

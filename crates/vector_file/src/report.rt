@@ -84,7 +84,7 @@ pub fn same_answer(place: Place, got: Answer, number: u32, length: u32) -> bool 
 }
 
 // Whether the digest of the store is the wanted one.
-pub fn same_store(place: Place, got: u64, wanted: u64) -> bool {
+pub fn same_digest(place: Place, got: u64, wanted: u64) -> bool {
     if got == wanted {
         return true;
     }

@@ -1,8 +1,8 @@
 use borrow.Author.Needs.{needs}
 use lib.ListN.{length}
 use Prim.Native.Nat.{_≤_, _-_}
-use Rattle.vectors.proofs.buffers.first_other.Statement.{statement}
-use Rattle.vectors.proofs.buffers.first_other.Tie as tie
+use Rattle.vector_file.proofs.buffers.first_other.Statement.{statement}
+use Rattle.vector_file.proofs.buffers.first_other.Tie as tie
 
 abbrev Inv-loop : tie.InvT-loop
 Inv-loop buf from value i₀ i = i ≤ length buf

@@ -1,7 +1,7 @@
 use borrow.Author.Needs.{needs}
 use Prim.Native.Nat.{_≤_, _-_}
-use Rattle.vectors.proofs.buffers.first_difference.Statement.{statement}
-use Rattle.vectors.proofs.buffers.first_difference.Tie as tie
+use Rattle.vector_file.proofs.buffers.first_difference.Statement.{statement}
+use Rattle.vector_file.proofs.buffers.first_difference.Tie as tie
 
 abbrev Inv-loop : tie.InvT-loop
 Inv-loop a b n i₀ i = i ≤ n
