@@ -2,3 +2,4 @@ pub mod Copies
 pub mod Files
 pub mod Hyper
 pub mod Runs
+pub mod Together

@@ -4,7 +4,8 @@ use native.Mathlib.Omega.{arith}
 use lib.ListN.{length}
 use Rattle.spec.specs.Edits.{readFile}
 use Rattle.spec.specs.Room.{sizeOf}
-use Rattle.laws.proofs.FileBytes.{readFile-none, readFile-more}
+use Rattle.laws.proofs.FileBytes.{readFile-none}
+use Rattle.laws.proofs.FileData.{read-parts}
 use Rattle.xdr.specs.Wrote.{Wrote}
 use Rattle.xdr.proofs.Wrote.{wrote-none, andThen}
 use Rattle.contents.proofs.Files.{object-in, byte-few, run-in}
@@ -53,29 +54,23 @@ byte-at-requires c κs =
 
 put-bytes-requires : tie.Need-put-bytes-requires Inv-loop μ-loop
 put-bytes-requires c κs =
-    let a = c .before .before .before .before .before .before .before .args in
-    let l = c .before .before .before .before .loop in
-    let f = c .before .before .before .before .before .before .before .pre .0 in
-    let h : a .offset + l .done < sizeOf (a .store .now) (a .o .0) = omega (arith, f .left) in
-    let n = c .before .before .run-length .result in
-    (omega (arith, c .before .before .run-length .ensures), omega (arith, c .before .byte-at .ensures, run-in (a .store .now) (a .o .0) (a .offset + l .done) (f .good) (f .object) n h (omega (arith, c .before .before .run-length .ensures))))
+    let r = c .before .before .run-length .ensures in
+    (omega (arith, r .1 .0), omega (arith, c .before .byte-at .ensures, r .1 .1 .inside))
 
 add-done : tie.Need-add-done Inv-loop μ-loop
-add-done c = omega (arith, c .before .before .before .before .before .run-length .ensures)
+add-done c = omega (arith, c .before .before .before .before .before .run-length .ensures .1 .0)
 
 loop-less : tie.Need-loop-less Inv-loop μ-loop
-loop-less c = omega (arith, c .before .before .before .before .before .run-length .ensures)
+loop-less c = let r = c .before .before .before .before .before .run-length .ensures in omega (arith, r .0, r .1 .0)
 
 loop-again : tie.Need-loop-again Inv-loop μ-loop
 loop-again c =
     let a = c .before .before .before .before .before .before .before .before .before .before .args in
     let l = c .before .before .before .before .before .before .before .loop in
-    let f = c .before .before .before .before .before .before .before .before .before .before .pre .0 in
-    let h : a .offset + l .done < sizeOf (a .store .now) (a .o .0) = omega (arith, f .left) in
     let n = c .before .before .before .before .before .run-length .result in
-    let k : (a .offset + l .done) % 512 + n ≤ 512 = omega (arith, c .before .before .before .before .before .run-length .ensures) in (
-      omega (arith, c .before .before .before .before .before .run-length .ensures),
-      rw (readFile-more (a .store .now) (a .o .0) (a .offset) (l .done) n k (run-in (a .store .now) (a .o .0) (a .offset + l .done) (f .good) (f .object) n h k))
+    let r = c .before .before .before .before .before .run-length .ensures in (
+      omega (arith, r .1 .0),
+      rw (read-parts (a .store .now) (a .o .0) (a .offset) (l .done) n, r .1 .1 .bytes)
           (andThen (l .inv .1) (rw (c .before .before .before .before .byte-at .ensures) at (c .before .before .put-bytes .ensures))),
       omega arith,
     )
