@@ -2,9 +2,8 @@
 ghost use Prim.Native.Nat.{_+_, _*_, _≤_};
 ghost use mathlib.Core.List.{[], _∷_};
 ghost use lib.ListN.{length};
-ghost use Rattle.spec.specs.Bytes.{words, part, padding, opaqueBytes};
+ghost use Rattle.spec.specs.Bytes.{words, part};
 ghost use Rattle.xdr.specs.Wrote.{Wrote};
-use crate::read::padding;
 
 // One word.
 pub fn put_word(reply: &mut [u8], at: usize, v: u32) -> usize
@@ -61,18 +60,4 @@ pub fn put_bytes(reply: &mut [u8], at: usize, src: &[u8], from: usize, len: usiz
 {
     wire::copy_bytes(reply, at, src, from, len);
     at + len
-}
-
-// Variable-length opaque data: the length, the len bytes of src from `from`, and zeros up to a multiple of four.
-pub fn put_opaque(reply: &mut [u8], at: usize, src: &[u8], from: usize, len: usize) -> usize
-    requires { ⌜ len ≤ 4294967295 ⌝ }
-    requires { ⌜ at + (4 + len + padding len) ≤ length (now reply) ⌝ }
-    requires { ⌜ from + len ≤ length (now src) ⌝ }
-    ensures { λ r. ⌜ Wrote (4 + len + padding len) (now (reply .entry)) (now (reply .exit)) at r (opaqueBytes (part (now (src .entry)) from len)) ⌝ }
-{
-    let start = put_word(reply, at, len as u32);
-    let end = put_bytes(reply, start, src, from, len);
-    let zeros = padding(len);
-    wire::clear_bytes(reply, end, zeros);
-    end + zeros
 }
