@@ -95,15 +95,13 @@ module _ (s : Store) (at n : ℕ) (fits : at + 32 ≤ length s) (least : 1 ≤ n
   text-yes dots d e = rw (named, d) (padded-yes (goodBytes (part s at n)) (isZero (part s (at + n) (32 - n))) (not (isDots (part s at n))) e)
 
 -- ---- a free record, whose length is 0
-number-zero : (s : Store) (at : ℕ) → isZero (part s at 4) ≡ eqb (beAt s at 4) 0
-number-zero s at =
-    by-bool (isZero (part s at 4)) (λ e. e ∙ sym (eq-eqb (beAt s at 4) 0 (zero-be s at 4 e)))
-    (λ e. e ∙ sym (ne-eqb (beAt s at 4) 0 (λ q. true-false (sym (be-zero s at 4 q) ∙ e))))
+number-zero : (s : Store) (at w : ℕ) → isZero (part s at w) ≡ eqb (beAt s at w) 0
+number-zero s at w =
+    by-bool (isZero (part s at w)) (λ e. e ∙ sym (eq-eqb (beAt s at w) 0 (zero-be s at w e)))
+    (λ e. e ∙ sym (ne-eqb (beAt s at w) 0 (λ q. true-false (sym (be-zero s at w q) ∙ e))))
 
-pub free-is : (s : Store) (at : ℕ) → beAt s (at + 8) 4 ≡ 0
-    → isZero (part s at 44) ≡ eqb (beAt s at 4) 0 && (eqb (beAt s (at + 4) 4) 0 && isZero (part s (at + 12) 32))
+pub free-is : (s : Store) (at : ℕ) → beAt s (at + 8) 4 ≡ 0 → isZero (part s at 44) ≡ eqb (beAt s at 8) 0 && isZero (part s (at + 12) 32)
 free-is s at e =
-    let a : at + 4 + 4 ≡ at + 8 = omega arith in
     let b : at + 8 + 4 ≡ at + 12 = omega arith in
-    let z = number-zero s (at + 8) ∙ eq-eqb (beAt s (at + 8) 4) 0 e in
-    zero-add s at 4 40 ∙ rw (zero-add s (at + 4) 4 36, a, zero-add s (at + 8) 4 32, b, z, number-zero s at, number-zero s (at + 4))
+    let z = number-zero s (at + 8) 4 ∙ eq-eqb (beAt s (at + 8) 4) 0 e in
+    zero-add s at 8 36 ∙ rw (zero-add s (at + 8) 4 32, b, z, number-zero s at 8)

@@ -10,17 +10,17 @@ use native.Mathlib.Omega.{arith}
 use lib.Dec.{eqb, leb}
 use lib.ListN.{length, getD, set, length-set}
 use lib.Seq.{getD-set-same, getD-set-other}
-use borrow.Author.Tests.{eq-eqb, ne-eqb, lt-leb, le-leb}
+use borrow.Author.Tests.{eqb-true, eq-eqb, ne-eqb, lt-leb, le-leb}
 use Rattle.spec.specs.Count.{bit, sum, count, passing, lowest}
 use Rattle.spec.specs.Image.{Store, objects, names, nameAt, objectAt}
 use Rattle.spec.specs.Room.{isLive, isUsedName, isNaming, namings, directoryOf, parent}
-use Rattle.spec.specs.Check.{mostNames, isNamedOnce, passes}
-use Rattle.laws.proofs.Count.{by-bool, true-false, sum-more, sum-at, sum-zero, passing-miss, lowest-hit, lowest-none, lowest-passes, Passes}
+use Rattle.spec.specs.Check.{mostNames, goodNameRecord, isNamedOnce, passes}
+use Rattle.laws.proofs.Count.{by-bool, true-false, and-both, sum-more, sum-at, sum-zero, passing-miss, lowest-hit, lowest-none, lowest-passes, Passes}
 use Rattle.fsck_objects.specs.Told.{Shaped}
 use Rattle.fsck_objects.specs.Objects.{Blank}
-use Rattle.fsck_objects.proofs.Passes.{fails-named}
+use Rattle.fsck_objects.proofs.Passes.{fails-name, fails-named}
 use Rattle.fsck_names.specs.Named.{markOf, NamedBy}
-use Rattle.fsck_names.proofs.Joins.{UsedWell}
+use Rattle.fsck_names.proofs.Joins.{UsedWell, used-well, record-used}
 use Rattle.fsck_names.proofs.Chained.{count-two}
 
 -- ---- searches and counts, one number further
@@ -161,3 +161,15 @@ module _ (s : Store) (t : Shaped s) (parents : List ℕ) (a : NamedBy s (names s
   unnamed-fails o h z v f =
       let e = count-nothing (isNaming s o) (names s) (mark-none s (lowest (names s) (isNaming s o)) (sym (a .marks o h) ∙ f)) in
       fails-named s o h (rw (ne-eqb o 0 z, v, e))
+
+  -- an object with a mark is live, or a used record names a free object
+  pub marked-free-fails : (o : ℕ) → o < objects s → (getD parents o 0 ≡ 0 → ⊥) → isLive s o ≡ false → passes s ≡ false
+  unfolding isNaming
+  marked-free-fails o h f v =
+      let k = mark-some s (names s) o (lowest (names s) (isNaming s o)) refl (λ q. f (a .marks o h ∙ q)) in
+      let n = k .0 in
+      let b = and-both (isUsedName s n) (eqb (nameAt s n .child) o) (k .1 .names) in
+      let c = eqb-true (nameAt s n .child) o (b .1) in
+      by-bool (goodNameRecord s n)
+      (λ e. true-false (sym (rw c at (used-well s n t (k .1 .below) (record-used s n (b .0) e) .live)) ∙ v))
+      (fails-name s n (k .1 .below))

@@ -101,10 +101,7 @@ fn is_free(store: &[u8], at: usize) -> bool
     requires { ⌜ beAt (now store) (at + 8) 4 ≡ 0 ⌝ }
     ensures { λ r. ⌜ r ≡ isZero (part (now (store .entry)) at 44) ⌝ }
 {
-    if wire::get_u32(store, at) != 0 {
-        return false;
-    }
-    if wire::get_u32(store, at + 4) != 0 {
+    if wire::get_u64(store, at) != 0 {
         return false;
     }
     is_zero(store, at + 12, Limit::NAME)

@@ -5,26 +5,14 @@ use borrow.Author.Needs.{needs}
 use Rattle.fsck_names.proofs.record.is_free.Statement.{statement}
 use Rattle.fsck_names.proofs.record.is_free.Tie as tie
 
-get-u32-requires : tie.Need-get-u32-requires
-get-u32-requires c κs = search needs
+get-u64-requires : tie.Need-get-u64-requires
+get-u64-requires c κs = search needs
 
 returns : tie.Need-returns
 returns c =
     let st = c .before .before .before in
     let a = st .args in
-    sym (free-is (a .store .now) (a .at) (st .pre .1) ∙ rw (← c .before .get-u32 .ensures, ne-eqb _ 0 (c .if1 .taken)))
-
-add-get-u32 : tie.Need-add-get-u32
-add-get-u32 c = search needs
-
-get-u32-requires-2 : tie.Need-get-u32-requires-2
-get-u32-requires-2 c κs = search needs
-
-returns-2 : tie.Need-returns-2
-returns-2 c =
-    let st = c .before .before .before .before .before in
-    let a = st .args in
-    sym (free-is (a .store .now) (a .at) (st .pre .1) ∙ rw (← c .before .before .before .get-u32 .ensures, eq-eqb _ 0 (c .before .before .if1 .left), ← c .before .get-u322 .ensures, ne-eqb _ 0 (c .if2 .taken)))
+    sym (free-is (a .store .now) (a .at) (st .pre .1) ∙ rw (← c .before .get-u64 .ensures, ne-eqb _ 0 (c .if1 .taken)))
 
 add-is-zero : tie.Need-add-is-zero
 add-is-zero c = search needs
@@ -32,21 +20,11 @@ add-is-zero c = search needs
 is-zero-requires : tie.Need-is-zero-requires
 is-zero-requires c κs = search needs
 
-returns-3 : tie.Need-returns-3
-returns-3 c =
-    let st = c .before .before .before .before .before .before in
+returns-2 : tie.Need-returns-2
+returns-2 c =
+    let st = c .before .before .before .before in
     let a = st .args in
-    sym (free-is (a .store .now) (a .at) (st .pre .1) ∙ rw (← c .before .before .before .before .get-u32 .ensures, eq-eqb _ 0 (c .before .before .before .if1 .left), ← c .before .before .get-u322 .ensures, eq-eqb _ 0 (c .before .if2 .left), ← c .is-zero .ensures))
+    sym (free-is (a .store .now) (a .at) (st .pre .1) ∙ rw (← c .before .before .get-u64 .ensures, eq-eqb _ 0 (c .before .if1 .left), ← c .is-zero .ensures))
 
 pub is-free-spec : {M : Type 1} → statement M
-is-free-spec =
-    tie.close
-    (tie.spec
-    get-u32-requires
-    returns
-    add-get-u32
-    get-u32-requires-2
-    returns-2
-    add-is-zero
-    is-zero-requires
-    returns-3)
+is-free-spec = tie.close (tie.spec get-u64-requires returns add-is-zero is-zero-requires returns-2)
