@@ -197,6 +197,14 @@ pub fn ctime_of(store: &[u8], o: ObjectNumber) -> Time
     load_time(store, at + 40)
 }
 
+pub fn blocks_of(store: &[u8], o: ObjectNumber) -> [u16; 16]
+    requires { ⌜ objectStart (o .0) + objectLength ≤ length (now store) ⌝ }
+    ensures { λ r. ⌜ r ≡ objectAt (now (store .entry)) (o .0) .blocks ⌝ }
+{
+    let at = object_start(store, o);
+    load_blocks(store, at + 48)
+}
+
 // The k-th of the 16 block numbers of a record.
 pub fn block_of(store: &[u8], o: ObjectNumber, k: usize) -> BlockNumber
     requires { ⌜ objectStart (o .0) + objectLength ≤ length (now store) ⌝ }
