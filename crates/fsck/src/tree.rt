@@ -86,11 +86,8 @@ fn leads_by_steps(
     if o == 0 {
         return true;
     }
-    if kind_of(store, o) == Kind::FREE {
-        return true;
-    }
     if parents[o] == 0 {
-        return false;
+        return kind_of(store, o) == Kind::FREE;
     }
     let count = steps(store, p, parents, depths, o);
     if count > p {

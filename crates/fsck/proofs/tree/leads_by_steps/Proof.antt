@@ -1,9 +1,11 @@
 use mathlib.Core.Path.{sym, ap, _∙_}
 use Prim.Native.Nat.{ℕ}
-use Rattle.spec.specs.Room.{above}
 use Rattle.fsck_objects.proofs.Passes.{told-true, told-false, fails-leads}
 use Rattle.fsck_objects.proofs.Whole.{live-yes, live-no}
-use Rattle.fsck_names.proofs.Parents.{root-named, named-live, named-free, unnamed-fails}
+use borrow.Author.Tests.{eqb-true, eq-eqb}
+use Rattle.laws.proofs.Count.{by-bool, true-false}
+use Rattle.spec.specs.Room.{isLive, above}
+use Rattle.fsck_names.proofs.Parents.{root-named, named-live, named-free, unnamed-fails, marked-free-fails}
 use Rattle.fsck.proofs.Steps.{below-p, parents-by, above-root, depth-most, leads-yes, leads-free, leads-no}
 use borrow.Author.Needs.{needs}
 use Rattle.fsck.proofs.tree.leads_by_steps.Statement.{statement}
@@ -22,43 +24,55 @@ returns c =
       leads = rw (c .if1 .taken) (leads-yes s 0 (rw (← st .pre .1 .0) (above-root s (a .p) (a .parents .now) m)));
     })
 
+element-copy-out-if2 : tie.Need-element-copy-out-if2
+element-copy-out-if2 c = search needs
+
 kind-of-requires : tie.Need-kind-of-requires
 kind-of-requires c κs = search needs
 
 returns-2 : tie.Need-returns-2
 returns-2 c =
-    let st = c .before .before .before .before in
+    let st = c .before .before .before .before .before in
     let a = st .args in
     let s = a .store .now in
-    let m = parents-by s (a .p) (a .parents .now) (st .pre .0) (st .pre .1 .0) (st .pre .1 .1 .0) in
     let h = below-p (a .o) (a .p) _ (st .pre .1 .0) (st .pre .1 .1 .1 .1) in
-    let f = live-no s (a .o) (sym (c .before .kind-of .ensures) ∙ c .if2 .taken) in
-    told-true (record {
-      known = st .pre .1 .1 .1 .0;
-      named = named-free s (st .pre .0) (a .parents .now) (st .pre .1 .1 .0) (a .o) (c .before .before .if1 .left) f;
-      leads = leads-free s (a .o) f;
-    })
-
-element-copy-out-if3 : tie.Need-element-copy-out-if3
-element-copy-out-if3 c = search needs
-
-returns-3 : tie.Need-returns-3
-returns-3 c =
-    let st = c .before .before .before .before .before .before in
-    let a = st .args in
-    let s = a .store .now in
-    let m = parents-by s (a .p) (a .parents .now) (st .pre .0) (st .pre .1 .0) (st .pre .1 .1 .0) in
-    let h = below-p (a .o) (a .p) _ (st .pre .1 .0) (st .pre .1 .1 .1 .1) in
-    told-false (unnamed-fails s (st .pre .0) (a .parents .now) (st .pre .1 .1 .0) (a .o) h (c .before .before .before .before .if1 .left) (live-yes s (a .o) (λ e. c .before .before .if2 .left (c .before .before .before .kind-of .ensures ∙ e))) (c .if3 .taken))
+    let z = c .before .before .before .if1 .left in
+    let k = c .kind-of .ensures in
+    record {
+      yes = λ e. let f = live-no s (a .o) (sym k ∙ eqb-true _ 0 e) in
+          record {
+            known = st .pre .1 .1 .1 .0;
+            named = named-free s (st .pre .0) (a .parents .now) (st .pre .1 .1 .0) (a .o) z f;
+            leads = leads-free s (a .o) f;
+          };
+      no = λ e. unnamed-fails s (st .pre .0) (a .parents .now) (st .pre .1 .1 .0) (a .o) h z (live-yes s (a .o) (λ q. true-false (sym (eq-eqb _ 0 (k ∙ q)) ∙ e))) (c .before .if2 .taken);
+    }
 
 steps-requires : tie.Need-steps-requires
 steps-requires c κs =
-    let st = c .before .before .before .before .before .before .before in
+    let st = c .before .before .before .before .before in
     let a = st .args in
     let s = a .store .now in
     let m = parents-by s (a .p) (a .parents .now) (st .pre .0) (st .pre .1 .0) (st .pre .1 .1 .0) in
-    let h = below-p (a .o) (a .p) _ (st .pre .1 .0) (st .pre .1 .1 .1 .1) in
     (m, (st .pre .1 .1 .1 .0, st .pre .1 .1 .1 .1))
+
+returns-3 : tie.Need-returns-3
+returns-3 c =
+    let st = c .before .before .before .before .before .before .before in
+    let a = st .args in
+    let s = a .store .now in
+    let h = below-p (a .o) (a .p) _ (st .pre .1 .0) (st .pre .1 .1 .1 .1) in
+    told-false (by-bool (isLive s (a .o))
+    (λ v. fails-leads s (a .o) h (leads-no s (a .o) v (λ e. c .before .steps .ensures .lost (c .if3 .taken) (ap (λ (n : ℕ). above s n (a .o)) (st .pre .1 .0) ∙ e))))
+    (marked-free-fails s (st .pre .0) (a .parents .now) (st .pre .1 .1 .0) (a .o) h (c .before .before .before .if2 .left)))
+
+note-steps-requires : tie.Need-note-steps-requires
+note-steps-requires c κs =
+    let st = c .before .before .before .before .before .before .before .before in
+    let a = st .args in
+    let s = a .store .now in
+    let m = parents-by s (a .p) (a .parents .now) (st .pre .0) (st .pre .1 .0) (st .pre .1 .1 .0) in
+    (m, (st .pre .1 .1 .1 .0, (st .pre .1 .1 .1 .1, (c .before .if3 .left, c .before .before .steps .ensures .found (c .before .if3 .left)))))
 
 returns-4 : tie.Need-returns-4
 returns-4 c =
@@ -67,30 +81,11 @@ returns-4 c =
     let s = a .store .now in
     let m = parents-by s (a .p) (a .parents .now) (st .pre .0) (st .pre .1 .0) (st .pre .1 .1 .0) in
     let h = below-p (a .o) (a .p) _ (st .pre .1 .0) (st .pre .1 .1 .1 .1) in
-    let v = live-yes s (a .o) (λ e. c .before .before .before .before .before .if2 .left (c .before .before .before .before .before .before .kind-of .ensures ∙ e)) in
-    told-false (fails-leads s (a .o) h (leads-no s (a .o) v (λ e. c .before .steps .ensures .lost (c .if4 .taken) (ap (λ (n : ℕ). above s n (a .o)) (st .pre .1 .0) ∙ e))))
-
-note-steps-requires : tie.Need-note-steps-requires
-note-steps-requires c κs =
-    let st = c .before .before .before .before .before .before .before .before .before .before in
-    let a = st .args in
-    let s = a .store .now in
-    let m = parents-by s (a .p) (a .parents .now) (st .pre .0) (st .pre .1 .0) (st .pre .1 .1 .0) in
-    let h = below-p (a .o) (a .p) _ (st .pre .1 .0) (st .pre .1 .1 .1 .1) in
-    (m, (st .pre .1 .1 .1 .0, (st .pre .1 .1 .1 .1, (c .before .if4 .left, c .before .before .steps .ensures .found (c .before .if4 .left)))))
-
-returns-5 : tie.Need-returns-5
-returns-5 c =
-    let st = c .before .before .before .before .before .before .before .before .before .before .before in
-    let a = st .args in
-    let s = a .store .now in
-    let m = parents-by s (a .p) (a .parents .now) (st .pre .0) (st .pre .1 .0) (st .pre .1 .1 .0) in
-    let h = below-p (a .o) (a .p) _ (st .pre .1 .0) (st .pre .1 .1 .1 .1) in
-    let d = c .before .before .before .steps .ensures .found (c .before .before .if4 .left) in
-    let e = depth-most s (a .p) (a .parents .now) m (a .o) (c .before .before .before .steps .result) d (c .before .before .if4 .left) in
+    let d = c .before .before .before .steps .ensures .found (c .before .before .if3 .left) in
+    let e = depth-most s (a .p) (a .parents .now) m (a .o) (c .before .before .before .steps .result) d (c .before .before .if3 .left) in
     told-true (record {
       known = c .note-steps .ensures;
-      named = named-live s (st .pre .0) (a .parents .now) (st .pre .1 .1 .0) (a .o) h (c .before .before .before .before .before .before .before .before .before .if1 .left) (c .before .before .before .before .before .if3 .left);
+      named = named-live s (st .pre .0) (a .parents .now) (st .pre .1 .1 .0) (a .o) h (c .before .before .before .before .before .before .before .if1 .left) (c .before .before .before .before .before .if2 .left);
       leads = leads-yes s (a .o) (ap (λ (n : ℕ). above s n (a .o)) (sym (st .pre .1 .0)) ∙ e);
     })
 
@@ -99,11 +94,10 @@ leads-by-steps-spec =
     tie.close
     (tie.spec
     returns
+    element-copy-out-if2
     kind-of-requires
     returns-2
-    element-copy-out-if3
-    returns-3
     steps-requires
-    returns-4
+    returns-3
     note-steps-requires
-    returns-5)
+    returns-4)
