@@ -1,7 +1,7 @@
 -- The object that a used name record names, as it is removed. Assumes nothing.
-use Prim.Native.Nat.{ℕ, _+_, _-_, _<_}
+use Prim.Native.Nat.{ℕ, _+_, _-_, _≤_, _<_}
 use mathlib.Core.Path.{_≡_, refl, ap, ap₂, _∙_}
-use mathlib.Core.List.{_++_}
+use mathlib.Core.List.{List, _++_}
 use native.Mathlib.Omega.{arith}
 use lib.ListN.{take}
 use Rattle.kinds.specs.Objects.{freeObject}
@@ -14,52 +14,52 @@ use Rattle.laws.proofs.BlockLists.{InRange, held-range}
 use Rattle.laws.proofs.BlockWrites.{clear-blocks}
 use Rattle.laws.proofs.GoodRecords.{GoodRecords, live-at, used-at}
 use Rattle.laws.proofs.Shape.{SameShape, same-trans}
-use Rattle.laws.proofs.Valid.{LiveObject, Used}
+use Rattle.laws.proofs.Valid.{LiveObject, Used, live-size}
 use Rattle.laws.proofs.Writes.{object-written}
 
--- object o, whose record is v, is the one that the used name record n names
-pub record Removing (s : Store) (n o : ℕ) (v : Object) : Type 0 where
+-- object o is the one that the used name record n names
+pub record Removing (s : Store) (n o : ℕ) : Type 0 where
   pub good : GoodRecords s
   pub below : n < names s
   pub used : Used s n
   pub child : o ≡ nameAt s n .child
-  pub object : v ≡ objectAt s o
 
-module _ {s : Store} {n o : ℕ} {v : Object} (r : Removing s n o v) where
+module _ {s : Store} {n o : ℕ} (r : Removing s n o) where
   pub child-below : o < objects s
   child-below = rw (r .child) (used-at s (r .good) n (r .below) (r .used) .0)
 
-  live-record : LiveObject (blocks s) (objectAt s o)
-  live-record = live-at s (r .good) o child-below (rw (r .child) (used-at s (r .good) n (r .below) (r .used) .1))
+  pub child-record : LiveObject (blocks s) (objectAt s o)
+  child-record = live-at s (r .good) o child-below (rw (r .child) (used-at s (r .good) n (r .below) (r .used) .1))
 
-  pub child-record : LiveObject (blocks s) v
-  child-record = rw (r .object) live-record
+  pub child-size : sizeOf s o ≤ 8192
+  unfolding sizeOf
+  child-size = live-size (blocks s) (objectAt s o) child-record
 
   -- its blocks: the first numbers of its record, as many as its size needs
-  module _ (count : ℕ) (c : count ≡ need (v .size)) where
-    child-held : part (v .blocks) 0 (count - 0) ≡ held s o
-    unfolding part held sizeOf
+  module _ (list : List ℕ) (size count : ℕ) (l : list ≡ objectAt s o .blocks) (z : size ≡ sizeOf s o) (c : count ≡ need size) where
+    child-held : part list 0 (count - 0) ≡ held s o
+    unfolding part held
     child-held =
-        let e : count - 0 ≡ need (v .size) = omega arith in
-        ap (λ (k : ℕ). take k (v .blocks)) e ∙ ap (λ (x : Object). take (need (x .size)) (x .blocks)) (r .object)
+        let e : count - 0 ≡ need (sizeOf s o) = omega arith in
+        ap₂ take e l
 
-    pub child-range : InRange (blocks s) (part (v .blocks) 0 (count - 0))
-    child-range = rw child-held (held-range s o live-record)
+    pub child-range : InRange (blocks s) (part list 0 (count - 0))
+    child-range = rw child-held (held-range s o child-record)
 
-    pub freed-shape : (t u : Store) (w : Object) → t ≡ clearBlocks s (part (v .blocks) 0 (count - 0)) → u ≡ putObject t o w → SameShape s u
+    pub freed-shape : (t u : Store) (w : Object) → t ≡ clearBlocks s (part list 0 (count - 0)) → u ≡ putObject t o w → SameShape s u
     freed-shape t u w a b =
-        let h : SameShape s t = rw a (clear-blocks s (part (v .blocks) 0 (count - 0)) (r .good .sound) child-range .shape) in
+        let h : SameShape s t = rw a (clear-blocks s (part list 0 (count - 0)) (r .good .sound) child-range .shape) in
         let d = r .good .sound .shaped in
         let i = child-below in
         same-trans s t u h (rw b (object-written t o w (omega arith) (omega arith) .shape))
 
-    pub removed : (t u z : Store) (w : Object) → t ≡ clearBlocks s (part (v .blocks) 0 (count - 0)) → w ≡ freeObject (v .generation + 1) → u ≡ putObject t o w
-        → z ≡ putName u n freeName → z ≡ removeObject s n
+    pub removed : (t u x : Store) (g : ℕ) → g ≡ objectAt s o .generation → t ≡ clearBlocks s (part list 0 (count - 0)) → u ≡ putObject t o (freeObject (g + 1))
+        → x ≡ putName u n freeName → x ≡ removeObject s n
     unfolding removeObject
-    removed t u z w a b d e =
+    removed t u x g f a d e =
         rw (← r .child)
-        (e ∙ ap (λ (x : Store). putName x n freeName)
-        (d ∙ ap₂ (λ (x : Store) (y : Object). putObject x o y) (a ∙ ap (clearBlocks s) child-held) (b ∙ ap (λ (x : Object). freeObject (x .generation + 1)) (r .object))))
+        (e ∙ ap (λ (y : Store). putName y n freeName)
+        (d ∙ ap₂ (λ (y : Store) (k : ℕ). putObject y o (freeObject (k + 1))) (a ∙ ap (clearBlocks s) child-held) f))
 
 -- the bytes of a free object
 pub free-bytes : (g : ℕ) → bytesOf 4 0 ++ bytesOf 4 g ++ zeros 72 ≡ objectBytes (freeObject g)

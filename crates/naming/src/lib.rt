@@ -14,9 +14,10 @@ use image::counts::object_start;
 use image::name::clear_name;
 use image::name::name_child;
 use image::name::save_name;
+use image::object::blocks_of;
 use image::object::generation_of;
-use image::object::load_object;
 use image::object::save_object;
+use image::object::size_of;
 use kinds::call::Part;
 use kinds::numbers::Kind;
 use kinds::numbers::NameNumber;
@@ -74,11 +75,12 @@ pub fn remove_object(store: &mut [u8], n: NameNumber)
     ensures { λ _. ⌜ now (store .exit) ≡ removeObject (now (store .entry)) (n .0) ⌝ }
 {
     let o = name_child(store, n);
-    let v = load_object(store, o);
-    let blocks = v.blocks;
-    let held = need(v.size as usize);
+    let size = size_of(store, o);
+    let generation = generation_of(store, o);
+    let blocks = blocks_of(store, o);
+    let held = need(size as usize);
     clear_blocks(store, blocks, 0, held);
-    clear_object(store, o, v.generation + 1);
+    clear_object(store, o, generation + 1);
     clear_name(store, n);
 }
 
