@@ -1,16 +1,17 @@
 -- The list of the lowest free blocks, block by block. Assumes nothing.
 use mathlib.Core.Path.{_≡_, refl, sym, ap, _∙_}
-use mathlib.Core.Logic.{_≢_}
+use mathlib.Core.Logic.{_≢_, by-cases}
 use mathlib.Core.Bool.{Bool, true, false, not}
 use mathlib.Core.List.{List, [], _∷_, _++_}
 use Prim.Native.Nat.{ℕ, suc, _+_, _-_, _≤_, _<_, zero-le}
+use native.Mathlib.Decide.{ℕ-discrete}
 use native.Mathlib.Omega.{arith}
 use lib.Dec.{eqb}
 use lib.ListN.{length, take, set, replicate, length-set, length-append}
 use lib.Seq.{set-at, append-snoc, take-all}
 use borrow.Author.Tests.{eq-eqb, ne-eqb}
 use Rattle.spec.specs.Count.{bit, count, passing}
-use Rattle.laws.proofs.Count.{count-more, passing-hit, passing-miss, passing-front}
+use Rattle.laws.proofs.Count.{count-more, passing-hit, passing-miss, passing-length, passing-front}
 use Rattle.find.specs.Blocks.{blockList}
 
 -- a byte of the map, tested
@@ -19,14 +20,26 @@ free-byte true m e = eq-eqb m 0 e
 free-byte false m e = ne-eqb m 0 (λ z. absurd (omega arith))
 
 -- one more byte of the map, added to those before it: the used and the free blocks are all
-pub used-more : (p : ℕ → Bool) (i k m : ℕ) → k + count i p ≡ i → m ≡ bit (not (p i)) → k + m + count (i + 1) p ≡ i + 1
-used-more p i k m e q =
+pub used-more : (p : ℕ → Bool) (i k m n : ℕ) → k + count i p ≡ n → m ≡ bit (not (p i)) → k + m + count (i + 1) p ≡ n + 1
+used-more p i k m n e q =
     let more = count-more p i (count i p) (bit (p i)) (p i) refl refl refl in
     omega (arith, q, more, both (p i))
   where
     both : (t : Bool) → bit (not t) + bit t ≡ 1
     both true = refl
     both false = refl
+
+-- of 64 blocks the used ones are 64 where as many are free below their end as below their start
+pub all-used : (u a b : ℕ) → u + a ≡ 64 + b → eqb u 64 ≡ eqb a b
+all-used u a b e =
+    by-cases (ℕ-discrete u 64)
+    (λ q. eq-eqb u 64 q ∙ sym (eq-eqb a b (omega arith)))
+    (λ d. ne-eqb u 64 d ∙ sym (ne-eqb a b (λ q. d (omega arith))))
+
+-- where as many pass below n as below i, they are the same
+pub passing-same : (p : ℕ → Bool) (i n : ℕ) → i ≤ n → count n p ≡ count i p → passing n p ≡ passing i p
+passing-same p i n l e =
+    sym (take-all (length (passing i p)) (passing n p) (omega (arith, passing-length p n, passing-length p i))) ∙ passing-front p i n l
 
 pub mark-small : (t : Bool) (m : ℕ) → m ≡ bit (not t) → m ≤ 1
 mark-small true m e = omega (arith, e)
@@ -67,6 +80,10 @@ module _ (p : ℕ → Bool) (wanted i k : ℕ) (list : List ℕ) (h : Listed p w
   pub listed-miss : (k′ : ℕ) (list′ : List ℕ) → p i ≡ false → list′ ≡ list → k′ ≡ k → Listed p wanted (i + 1) k′ list′
   listed-miss k′ list′ t e q =
       rw (e, q) (record { few = h .few; long = h .long; count = rw (passing-miss p i t) (h .count); all = rw (passing-miss p i t) (h .all) })
+
+  -- none from i up to n passes
+  pub listed-skip : (n : ℕ) → passing n p ≡ passing i p → Listed p wanted n k list
+  listed-skip n e = record { few = h .few; long = h .long; count = rw e (h .count); all = rw e (h .all) }
 
   listed-by : (n : ℕ) → take wanted (passing n p) ≡ passing i p → list ≡ blockList wanted (passing n p)
   unfolding blockList

@@ -4,7 +4,7 @@ ghost use mathlib.Core.Bool.{_&&_, not};
 ghost use Prim.Native.Nat.{_+_, _<_, _≤_};
 ghost use lib.ListN.{length};
 ghost use Rattle.spec.specs.Count.{lowest};
-ghost use Rattle.spec.specs.Image.{nameRecordLength, names, nameStart, nameAt, nameLength};
+ghost use Rattle.spec.specs.Image.{nameRecordLength, names, nameStart, nameAt};
 ghost use Rattle.spec.specs.Room.{isUsedName, isNaming, isIn, isNamed, isDirectory, availableName, freeNameCount, findName, subdirectories, parent};
 ghost use Rattle.image.specs.Shaped.{Shaped, SoundNames};
 ghost use Rattle.image.specs.Text.{textOf};
@@ -12,15 +12,16 @@ ghost use Rattle.find.specs.Found.{foundName};
 use crate::found::FoundName;
 use crate::found::one_if;
 use image::counts::name_count;
-use image::counts::name_start;
+use image::counts::object_count;
 use image::name::is_used_name;
 use image::name::name_child;
 use image::name::name_directory;
-use image::name::name_length;
 use image::object::is_directory;
 use kinds::call::Part;
+use kinds::numbers::Limit;
 use kinds::numbers::NameNumber;
 use kinds::numbers::ObjectNumber;
+use places::name_place;
 
 fn is_free_name(store: &[u8], n: NameNumber) -> bool
     requires { ⌜ nameStart (now store) (n .0) + nameRecordLength ≤ length (now store) ⌝ }
@@ -60,7 +61,7 @@ pub fn free_name_count(store: &[u8]) -> usize
 }
 
 // Whether a record is used, and names an object.
-pub fn is_naming(store: &[u8], n: NameNumber, o: ObjectNumber) -> bool
+fn is_naming(store: &[u8], n: NameNumber, o: ObjectNumber) -> bool
     requires { ⌜ nameStart (now store) (n .0) + nameRecordLength ≤ length (now store) ⌝ }
     ensures { λ r. ⌜ r ≡ isNaming (now (store .entry)) (o .0) (n .0) ⌝ }
 {
@@ -111,36 +112,45 @@ pub fn is_in(store: &[u8], n: NameNumber, directory: ObjectNumber) -> bool
     is_used_name(store, n)
 }
 
-// Whether a record is that of a name in a directory: the directory is compared, then the length, the last byte and all bytes.
-pub fn is_named(
+// Where the name records start.
+fn names_start(store: &[u8]) -> usize
+    requires { ⌜ Shaped (now store) ⌝ }
+    ensures { λ r. ⌜ r ≡ nameStart (now (store .entry)) 0 ⌝ }
+{
+    let p = object_count(store);
+    name_place(p, NameNumber(0))
+}
+
+// Whether the record n, which starts at `at`, is that of a name in a directory: the last byte is compared, then the length, the directory and
+// all bytes.
+fn is_named(
     store: &[u8],
     n: NameNumber,
+    at: usize,
     directory: ObjectNumber,
     call: &[u8],
     name: Part,
 ) -> bool
-    requires { ⌜ nameStart (now store) (n .0) + nameRecordLength ≤ length (now store) ⌝ }
-    requires { ⌜ nameLength (now store) (n .0) ≤ 32 ⌝ }
+    requires { ⌜ at ≡ nameStart (now store) (n .0) ⌝ }
+    requires { ⌜ at + nameRecordLength ≤ length (now store) ⌝ }
+    requires { ⌜ (0 < name .length) × (name .length ≤ 32) ⌝ }
     requires { ⌜ name .start + name .length ≤ length (now call) ⌝ }
     ensures { λ r. ⌜ r ≡ isNamed (now (store .entry)) (directory .0) (textOf (now (call .entry)) name) (n .0) ⌝ }
 {
-    let d = name_directory(store, n);
-    if d.0 != directory.0 {
-        return false;
-    }
-    let len = name_length(store, n);
-    if len != name.length {
-        return false;
-    }
-    if len == 0 {
-        return false;
-    }
-    let at = name_start(store, n) + 12;
     let from = name.start;
-    if store[at + (len - 1)] != call[from + (len - 1)] {
+    let len = name.length;
+    let last = len - 1;
+    if store[at + 12 + last] != call[from + last] {
         return false;
     }
-    wire::same_bytes(store, at, call, from, len)
+    let stated = wire::get_u32(store, at + 8) as usize;
+    if stated != len {
+        return false;
+    }
+    if wire::get_u32(store, at) as usize != directory.0 {
+        return false;
+    }
+    wire::same_bytes(store, at + 12, call, from, len)
 }
 
 // The record of a name in a directory.
@@ -150,29 +160,42 @@ pub fn find_name(store: &[u8], directory: ObjectNumber, call: &[u8], name: Part)
     requires { ⌜ name .start + name .length ≤ length (now call) ⌝ }
     ensures { λ r. ⌜ foundName r ≡ findName (now (store .entry)) (directory .0) (textOf (now (call .entry)) name) ⌝ }
 {
+    let len = name.length;
+    if len == 0 {
+        return FoundName::Nothing;
+    }
+    if len > Limit::NAME {
+        return FoundName::Nothing;
+    }
     let total = name_count(store);
+    let mut at = names_start(store);
     let mut i = 0;
     while i < total {
-        if is_named(store, NameNumber(i), directory, call, name) {
+        if is_named(store, NameNumber(i), at, directory, call, name) {
             return FoundName::At(NameNumber(i));
         }
+        at += Limit::NAME_BYTES;
         i += 1;
     }
     FoundName::Nothing
 }
 
-// Whether a record names a directory in a directory.
-fn is_subdirectory(store: &[u8], n: NameNumber, directory: ObjectNumber) -> bool
+// Whether the record n, which starts at `at`, names a directory in a directory.
+fn is_subdirectory(store: &[u8], n: NameNumber, at: usize, directory: ObjectNumber) -> bool
     requires { ⌜ Shaped (now store) ⌝ }
     requires { ⌜ SoundNames (now store) ⌝ }
     requires { ⌜ n .0 < names (now store) ⌝ }
+    requires { ⌜ at ≡ nameStart (now store) (n .0) ⌝ }
     ensures { λ r. ⌜ r ≡ isIn (now (store .entry)) (directory .0) (n .0) && isDirectory (now (store .entry)) (nameAt (now (store .entry)) (n .0) .child) ⌝ }
 {
-    if is_in(store, n, directory) {
-        let child = name_child(store, n);
-        return is_directory(store, child);
+    if wire::get_u32(store, at) as usize != directory.0 {
+        return false;
     }
-    false
+    if wire::get_u32(store, at + 8) == 0 {
+        return false;
+    }
+    let child = ObjectNumber(wire::get_u32(store, at + 4) as usize);
+    is_directory(store, child)
 }
 
 // The directories in a directory.
@@ -182,10 +205,12 @@ pub fn subdirectory_count(store: &[u8], directory: ObjectNumber) -> usize
     ensures { λ r. ⌜ r ≡ subdirectories (now (store .entry)) (directory .0) ⌝ }
 {
     let total = name_count(store);
+    let mut at = names_start(store);
     let mut found = 0;
     let mut i = 0;
     while i < total {
-        found += one_if(is_subdirectory(store, NameNumber(i), directory));
+        found += one_if(is_subdirectory(store, NameNumber(i), at, directory));
+        at += Limit::NAME_BYTES;
         i += 1;
     }
     found

@@ -72,6 +72,58 @@ pub fn put_u64(s: &mut [u8], at: usize, v: u64)
     s[at + 7] = (v % 256) as u8;
 }
 
+// Copies 16 bytes of src from `from` into dst from `at`: all are read before the first is written.
+fn copy_sixteen(dst: &mut [u8], at: usize, src: &[u8], from: usize)
+    requires { ⌜ at + 16 ≤ length (now dst) ⌝ }
+    requires { ⌜ from + 16 ≤ length (now src) ⌝ }
+    ensures { λ _. ⌜ now (dst .exit) ≡ overlay (now (dst .entry)) at (part (now (src .entry)) from 16) ⌝ }
+{
+    let a = src[from];
+    let b = src[from + 1];
+    let c = src[from + 2];
+    let d = src[from + 3];
+    let e = src[from + 4];
+    let f = src[from + 5];
+    let g = src[from + 6];
+    let h = src[from + 7];
+    let i = src[from + 8];
+    let j = src[from + 9];
+    let k = src[from + 10];
+    let l = src[from + 11];
+    let m = src[from + 12];
+    let n = src[from + 13];
+    let o = src[from + 14];
+    let p = src[from + 15];
+    dst[at] = a;
+    dst[at + 1] = b;
+    dst[at + 2] = c;
+    dst[at + 3] = d;
+    dst[at + 4] = e;
+    dst[at + 5] = f;
+    dst[at + 6] = g;
+    dst[at + 7] = h;
+    dst[at + 8] = i;
+    dst[at + 9] = j;
+    dst[at + 10] = k;
+    dst[at + 11] = l;
+    dst[at + 12] = m;
+    dst[at + 13] = n;
+    dst[at + 14] = o;
+    dst[at + 15] = p;
+}
+
+// Copies 64 bytes of src from `from` into dst from `at`.
+fn copy_sixty_four(dst: &mut [u8], at: usize, src: &[u8], from: usize)
+    requires { ⌜ at + 64 ≤ length (now dst) ⌝ }
+    requires { ⌜ from + 64 ≤ length (now src) ⌝ }
+    ensures { λ _. ⌜ now (dst .exit) ≡ overlay (now (dst .entry)) at (part (now (src .entry)) from 64) ⌝ }
+{
+    copy_sixteen(dst, at, src, from);
+    copy_sixteen(dst, at + 16, src, from + 16);
+    copy_sixteen(dst, at + 32, src, from + 32);
+    copy_sixteen(dst, at + 48, src, from + 48);
+}
+
 // Copies the len bytes of src from `from` into dst from `at`.
 pub fn copy_bytes(dst: &mut [u8], at: usize, src: &[u8], from: usize, len: usize)
     requires { ⌜ at + len ≤ length (now dst) ⌝ }
@@ -79,6 +131,10 @@ pub fn copy_bytes(dst: &mut [u8], at: usize, src: &[u8], from: usize, len: usize
     ensures { λ _. ⌜ now (dst .exit) ≡ overlay (now (dst .entry)) at (part (now (src .entry)) from len) ⌝ }
 {
     let mut i = 0;
+    while len - i >= 64 {
+        copy_sixty_four(dst, at + i, src, from + i);
+        i += 64;
+    }
     while i < len {
         dst[at + i] = src[from + i];
         i += 1;

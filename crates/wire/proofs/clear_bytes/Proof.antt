@@ -18,27 +18,21 @@ Inv-loop dst₀ at len i₀ dst i = (i ≤ len) × (length dst ≡ length dst₀
 abbrev μ-loop : tie.MeasureT-loop
 μ-loop dst₀ at len i₀ dst i = len - i
 
--- src/lib.rt:94:5
 loop-holds : tie.Need-loop-holds Inv-loop μ-loop
 loop-holds c = (zero-le, refl, sym (overlay-none _ _))
 
--- src/lib.rt:95:13
 add-dst : tie.Need-add-dst Inv-loop μ-loop
 add-dst c = search needs
 
--- src/lib.rt:95:9
 slice-write-dst : tie.Need-slice-write-dst Inv-loop μ-loop
 slice-write-dst c = search needs
 
--- src/lib.rt:96:9
 add-i : tie.Need-add-i Inv-loop μ-loop
 add-i c = search needs
 
--- src/lib.rt:94:5
 loop-less : tie.Need-loop-less Inv-loop μ-loop
 loop-less c = search needs
 
--- src/lib.rt:94:5
 loop-again : tie.Need-loop-again Inv-loop μ-loop
 loop-again c =
     let at-loop = c .before in
@@ -50,11 +44,9 @@ loop-again c =
           (overlay-step (a .dst .now) (a .at) _ _ i _ (omega arith) (length-replicate i 0) (at-loop .loop .inv .2)),
     )
 
--- src/lib.rt:89:1
 same-length : tie.Need-same-length Inv-loop μ-loop
 same-length c = c .before .loop .inv .1
 
--- src/lib.rt:89:1
 returns : tie.Need-returns Inv-loop μ-loop
 returns c =
     let e : c .before .loop .i ≡ c .before .before .args .len = omega arith in

@@ -7,39 +7,30 @@ use Rattle.wire.proofs.get_u16.Reads as reads
 use Rattle.wire.proofs.get_u16.Lts as lts
 use Rattle.wire.proofs.wide.Reads as wide-reads
 
--- src/lib.rt:19:11
 shared-slice-read-wide : tie.Need-shared-slice-read-wide
 shared-slice-read-wide c = search needs
 
--- src/lib.rt:19:6
 wide-requires : tie.Need-wide-requires
 wide-requires c κs = search needs
 
--- src/lib.rt:19:6
 mul-result : tie.Need-mul-result
 mul-result c = search needs
 
--- src/lib.rt:19:33
 add-wide : tie.Need-add-wide
 add-wide c = search needs
 
--- src/lib.rt:19:31
 shared-slice-read-wide-2 : tie.Need-shared-slice-read-wide-2
 shared-slice-read-wide-2 c = search needs
 
--- src/lib.rt:19:26
 wide-requires-2 : tie.Need-wide-requires-2
 wide-requires-2 c κs = search needs
 
--- src/lib.rt:19:6
 add-result : tie.Need-add-result
 add-result c = search needs
 
--- src/lib.rt:19:5
 cast-result : tie.Need-cast-result
 cast-result c = search needs
 
--- src/lib.rt:15:1
 returns : tie.Need-returns
 returns c =
     let start = c .before .before .before .before .before in

@@ -7,35 +7,27 @@ use Rattle.wire.proofs.get_u64.Reads as reads
 use Rattle.wire.proofs.get_u64.Lts as lts
 use Rattle.wire.proofs.get_u32.Reads as get-u32-reads
 
--- src/lib.rt:55:16
 get-u32-requires : tie.Need-get-u32-requires
 get-u32-requires c κs = search needs
 
--- src/lib.rt:55:16
 cast-high : tie.Need-cast-high
 cast-high c = search needs
 
--- src/lib.rt:56:26
 add-get-u32 : tie.Need-add-get-u32
 add-get-u32 c = search needs
 
--- src/lib.rt:56:15
 get-u32-requires-2 : tie.Need-get-u32-requires-2
 get-u32-requires-2 c κs = search needs
 
--- src/lib.rt:56:15
 cast-low : tie.Need-cast-low
 cast-low c = search needs
 
--- src/lib.rt:57:5
 mul-result : tie.Need-mul-result
 mul-result c = search needs
 
--- src/lib.rt:57:5
 add-result : tie.Need-add-result
 add-result c = search needs
 
--- src/lib.rt:51:1
 returns : tie.Need-returns
 returns c =
     let start = c .before .before .before in

@@ -7,103 +7,78 @@ use Rattle.wire.proofs.put_u64.Tie as tie
 use Rattle.wire.proofs.put_u64.Reads as reads
 use Rattle.wire.proofs.put_u64.Lts as lts
 
--- src/lib.rt:65:13
 cast-s : tie.Need-cast-s
 cast-s c = search needs
 
--- src/lib.rt:65:5
 slice-write-s : tie.Need-slice-write-s
 slice-write-s c = search needs
 
--- src/lib.rt:66:17
 cast-s-2 : tie.Need-cast-s-2
 cast-s-2 c = search needs
 
--- src/lib.rt:66:7
 add-s : tie.Need-add-s
 add-s c = search needs
 
--- src/lib.rt:66:5
 slice-write-s-2 : tie.Need-slice-write-s-2
 slice-write-s-2 c = simp length-set (omega arith)
 
--- src/lib.rt:67:17
 cast-s-3 : tie.Need-cast-s-3
 cast-s-3 c = search needs
 
--- src/lib.rt:67:7
 add-s-2 : tie.Need-add-s-2
 add-s-2 c = search needs
 
--- src/lib.rt:67:5
 slice-write-s-3 : tie.Need-slice-write-s-3
 slice-write-s-3 c = simp length-set (omega arith)
 
--- src/lib.rt:68:17
 cast-s-4 : tie.Need-cast-s-4
 cast-s-4 c = search needs
 
--- src/lib.rt:68:7
 add-s-3 : tie.Need-add-s-3
 add-s-3 c = search needs
 
--- src/lib.rt:68:5
 slice-write-s-4 : tie.Need-slice-write-s-4
 slice-write-s-4 c = simp length-set (omega arith)
 
--- src/lib.rt:69:17
 cast-s-5 : tie.Need-cast-s-5
 cast-s-5 c = search needs
 
--- src/lib.rt:69:7
 add-s-4 : tie.Need-add-s-4
 add-s-4 c = search needs
 
--- src/lib.rt:69:5
 slice-write-s-5 : tie.Need-slice-write-s-5
 slice-write-s-5 c = simp length-set (omega arith)
 
--- src/lib.rt:70:17
 cast-s-6 : tie.Need-cast-s-6
 cast-s-6 c = search needs
 
--- src/lib.rt:70:7
 add-s-5 : tie.Need-add-s-5
 add-s-5 c = search needs
 
--- src/lib.rt:70:5
 slice-write-s-6 : tie.Need-slice-write-s-6
 slice-write-s-6 c = simp length-set (omega arith)
 
--- src/lib.rt:71:17
 cast-s-7 : tie.Need-cast-s-7
 cast-s-7 c = search needs
 
--- src/lib.rt:71:7
 add-s-6 : tie.Need-add-s-6
 add-s-6 c = search needs
 
--- src/lib.rt:71:5
 slice-write-s-7 : tie.Need-slice-write-s-7
 slice-write-s-7 c = simp length-set (omega arith)
 
--- src/lib.rt:72:17
 cast-s-8 : tie.Need-cast-s-8
 cast-s-8 c = search needs
 
--- src/lib.rt:72:7
 add-s-7 : tie.Need-add-s-7
 add-s-7 c = search needs
 
--- src/lib.rt:72:5
 slice-write-s-8 : tie.Need-slice-write-s-8
 slice-write-s-8 c = simp length-set (omega arith)
 
--- src/lib.rt:61:1
 same-length : tie.Need-same-length
 same-length c = simp length-set
 
--- src/lib.rt:61:1
 returns : tie.Need-returns
 returns c = stores-8 (c .args .s .now) (c .args .at) (c .args .v) (c .pre)
 

@@ -18,28 +18,22 @@ Inv-loop a at b from len i₀ i = (i ≤ len) × (part a at i ≡ part b from i)
 abbrev μ-loop : tie.MeasureT-loop
 μ-loop a at b from len i₀ i = len - i
 
--- src/lib.rt:107:5
 loop-holds : tie.Need-loop-holds Inv-loop μ-loop
 unfolding part
 loop-holds c = (zero-le, refl)
 
--- src/lib.rt:108:14
 add-if1 : tie.Need-add-if1 Inv-loop μ-loop
 add-if1 c = search needs
 
--- src/lib.rt:108:12
 shared-slice-read-if1 : tie.Need-shared-slice-read-if1 Inv-loop μ-loop
 shared-slice-read-if1 c = search needs
 
--- src/lib.rt:108:27
 add-if1-2 : tie.Need-add-if1-2 Inv-loop μ-loop
 add-if1-2 c = search needs
 
--- src/lib.rt:108:25
 shared-slice-read-if1-2 : tie.Need-shared-slice-read-if1-2 Inv-loop μ-loop
 shared-slice-read-if1-2 c = search needs
 
--- src/lib.rt:109:13
 returns : tie.Need-returns Inv-loop μ-loop
 returns c =
     let at-loop = c .before .before .before .before in
@@ -48,15 +42,12 @@ returns c =
     sym (same-no _ _ (λ e. c .if1 .taken
     (sym (getD-part (a .a .now) (a .at) (a .len) i (omega arith)) ∙ ap (λ (l : List ℕ). getD l i 0) e ∙ getD-part (a .b .now) (a .from) (a .len) i (omega arith))))
 
--- src/lib.rt:111:9
 add-i : tie.Need-add-i Inv-loop μ-loop
 add-i c = search needs
 
--- src/lib.rt:107:5
 loop-less : tie.Need-loop-less Inv-loop μ-loop
 loop-less c = search needs
 
--- src/lib.rt:107:5
 loop-again : tie.Need-loop-again Inv-loop μ-loop
 loop-again c =
     let at-loop = c .before .before .before .before in
@@ -64,7 +55,6 @@ loop-again c =
     let a = at-loop .before .args in
     (omega arith, rw (part-snoc (a .a .now) (a .at) i (omega arith), part-snoc (a .b .now) (a .from) i (omega arith)) (cc))
 
--- src/lib.rt:101:1
 returns-2 : tie.Need-returns-2 Inv-loop μ-loop
 returns-2 c =
     let e : c .before .loop .i ≡ c .before .before .args .len = omega arith in

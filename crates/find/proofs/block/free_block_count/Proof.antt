@@ -47,7 +47,7 @@ loop-again : tie.Need-loop-again Inv-loop μ-loop
 loop-again c =
     let st = c .before .before .before .before .before in
     let l = c .before .before .loop in
-    (omega arith, used-more (isFreeBlock (st .args .store .now)) (l .i) (l .used) _ (l .inv .1) (st .pre .1 .used (l .i) (omega arith)))
+    (omega arith, used-more (isFreeBlock (st .args .store .now)) (l .i) (l .used) _ (l .i) (l .inv .1) (st .pre .1 .used (l .i) (omega arith)))
 
 cast-result : tie.Need-cast-result Inv-loop μ-loop
 cast-result c = search needs

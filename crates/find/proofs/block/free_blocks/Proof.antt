@@ -1,8 +1,9 @@
 use mathlib.Core.Logic.{⊎-elim}
 use Rattle.spec.specs.Image.{blocks}
 use Rattle.spec.specs.Room.{isFreeBlock, freeBlocks}
-use Rattle.find.proofs.Blocks.{Listed, listed-none, listed-hit, listed-miss, listed-wanted, listed-all}
+use Rattle.find.proofs.Blocks.{Listed, listed-none, listed-hit, listed-miss, listed-skip, passing-same, listed-wanted, listed-all}
 use borrow.Author.Needs.{needs}
+use borrow.Author.Tests.{eqb-true}
 use native.Mathlib.Omega.{arith}
 use mathlib.Core.Path.{sym, _∙_}
 use Prim.Native.Nat.{_-_, _≤_, zero-le}
@@ -28,6 +29,28 @@ returns c =
     let a = c .before .before .before .before .before .args in
     listed-wanted (isFreeBlock (a .store .now)) (a .wanted) (l .i) (l .k) (l .list) (l .inv .1) (blocks (a .store .now)) (omega arith) (c .if1 .taken)
 
+sub-if3 : tie.Need-sub-if3 Inv-loop μ-loop
+sub-if3 c = search needs
+
+all-used-requires : tie.Need-all-used-requires Inv-loop μ-loop
+all-used-requires c κs = search needs
+
+add-i : tie.Need-add-i Inv-loop μ-loop
+add-i c = search needs
+
+loop-less : tie.Need-loop-less Inv-loop μ-loop
+loop-less c = search needs
+
+loop-again : tie.Need-loop-again Inv-loop μ-loop
+loop-again c =
+    let l = c .before .before .before .before .before .before .loop in
+    let a = c .before .before .before .before .before .before .before .before .before .args in
+    let p = isFreeBlock (a .store .now) in (
+      omega arith,
+      listed-skip p (a .wanted) (l .i) (l .k) (l .list) (l .inv .1) _
+          (passing-same p (l .i) _ (omega arith) (eqb-true _ _ (sym (c .before .all-used .ensures) ∙ c .if4 .taken))),
+    )
+
 is-free-block-requires : tie.Need-is-free-block-requires Inv-loop μ-loop
 is-free-block-requires c κs = search needs
 
@@ -43,23 +66,23 @@ array-write-list c = search needs
 add-k : tie.Need-add-k Inv-loop μ-loop
 add-k c = search needs
 
-add-i : tie.Need-add-i Inv-loop μ-loop
-add-i c = search needs
+add-i-2 : tie.Need-add-i-2 Inv-loop μ-loop
+add-i-2 c = search needs
 
-loop-less : tie.Need-loop-less Inv-loop μ-loop
-loop-less c = search needs
+loop-less-2 : tie.Need-loop-less-2 Inv-loop μ-loop
+loop-less-2 c = search needs
 
-loop-again : tie.Need-loop-again Inv-loop μ-loop
-loop-again c =
-    let l = c .before .before .before .before .loop in
-    let st = c .before .before .before .before .before .before .before in
+loop-again-2 : tie.Need-loop-again-2 Inv-loop μ-loop
+loop-again-2 c =
+    let l = c .before .before .before .before .before .loop in
+    let st = c .before .before .before .before .before .before .before .before in
     let free = c .before .is-free-block .ensures in
     let p = isFreeBlock (st .args .store .now) in (
       omega arith,
       ⊎-elim
-          (λ w. listed-hit p (st .args .wanted) (l .i) (l .k) (l .list) (l .inv .1) _ _ (st .pre .1 .1) (c .before .before .if1 .left) (sym free ∙ w .0 .taken) (w .1) (w .2))
+          (λ w. listed-hit p (st .args .wanted) (l .i) (l .k) (l .list) (l .inv .1) _ _ (st .pre .1 .1) (c .before .before .before .if1 .left) (sym free ∙ w .0 .taken) (w .1) (w .2))
           (λ w. listed-miss p (st .args .wanted) (l .i) (l .k) (l .list) (l .inv .1) _ _ (sym free ∙ w .0 .left) (w .1) (w .2))
-          (c .if2 .came),
+          (c .if5 .came),
     )
 
 returns-2 : tie.Need-returns-2 Inv-loop μ-loop
@@ -78,12 +101,17 @@ free-blocks-spec =
     block-count-requires
     loop-holds
     returns
+    sub-if3
+    all-used-requires
+    add-i
+    loop-less
+    loop-again
     is-free-block-requires
     cast-list
     mul-list
     array-write-list
     add-k
-    add-i
-    loop-less
-    loop-again
+    add-i-2
+    loop-less-2
+    loop-again-2
     returns-2)

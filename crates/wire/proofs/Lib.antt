@@ -1,0 +1,2 @@
+-- The laws of the proofs of this crate.
+pub mod Copies
