@@ -6,4 +6,3 @@ pub record Within (t : Task) : Type 0 where
   pub used : t .used ≤ 535061
   pub length : t .length ≤ 10000
   pub space : t .space ≤ 8192
-  pub reply : t .reply ≤ 4224

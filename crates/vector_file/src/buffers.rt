@@ -1,6 +1,5 @@
 // Work on whole buffers: filling, comparing, and the digest of a store.
 ghost use Prim.Native.Nat.{_<_, _≤_};
-ghost use lib.ListN.{length};
 
 // Gives every byte of buf this value.
 pub fn fill(buf: &mut [u8], value: u8) {
@@ -11,30 +10,18 @@ pub fn fill(buf: &mut [u8], value: u8) {
     }
 }
 
-// The first of n bytes in which a and b differ, or n.
-pub fn first_difference(a: &[u8], b: &[u8], n: usize) -> usize
-    requires { ⌜ n ≤ length (now a) ⌝ }
-    requires { ⌜ n ≤ length (now b) ⌝ }
-    ensures { λ r. ⌜ r ≤ n ⌝ }
-{
-    let mut i = 0;
-    while i < n {
-        if a[i] != b[i] {
-            return i;
-        }
-        i += 1;
-    }
-    n
+// Gives every byte of a reply space the value that it has before a call.
+pub fn clear_reply(reply: &mut [u8; 8192]) {
+    fill(reply, 0x5A);
 }
 
-// The first place from `from` at which buf has another byte than this value, or buf's length.
-pub fn first_other(buf: &[u8], from: usize, value: u8) -> usize
-    requires { ⌜ from ≤ length (now buf) ⌝ }
-    ensures { λ r. ⌜ r ≤ length (now (buf .entry)) ⌝ }
+// The first place at which two reply spaces differ, or their length.
+pub fn first_difference(a: &[u8; 8192], b: &[u8; 8192]) -> usize
+    ensures { λ r. ⌜ r ≤ 8192 ⌝ }
 {
-    let mut i = from;
-    while i < buf.len() {
-        if buf[i] != value {
+    let mut i = 0;
+    while i < 8192 {
+        if a[i] != b[i] {
             return i;
         }
         i += 1;

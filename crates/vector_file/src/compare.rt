@@ -3,9 +3,7 @@ ghost use Prim.Native.Nat.{_≤_};
 ghost use lib.ListN.{length};
 ghost use Rattle.vector_file.specs.Within.{Within};
 use crate::buffers::digest;
-use crate::buffers::fill;
 use crate::buffers::first_difference;
-use crate::buffers::first_other;
 use crate::file::Kind;
 use crate::report::Place;
 use crate::report::print_byte;
@@ -14,27 +12,11 @@ use crate::report::same_digest;
 use crate::task::Task;
 use kinds::numbers::Answer;
 
-// The byte of a new reply space.
-const REPLY_BYTE: u8 = 0x5A;
-
-// Makes the reply space a new one.
-pub fn clear_reply(reply: &mut [u8; 8192]) {
-    fill(reply, REPLY_BYTE);
-}
-
-// Whether the reply space has the n bytes that are wanted, and past them what it had before the call.
-fn same_reply(place: Place, want: &[u8], n: usize, reply: &[u8]) -> bool
-    requires { ⌜ n ≤ length (now want) ⌝ }
-    requires { ⌜ n ≤ length (now reply) ⌝ }
-{
-    let at = first_difference(reply, want, n);
-    if at < n {
+// Whether the reply space has the bytes that are wanted: those of the reply, and past them what it had before the call.
+fn same_reply(place: Place, want: &[u8; 8192], reply: &[u8; 8192]) -> bool {
+    let at = first_difference(reply, want);
+    if at < 8192 {
         print_byte(place, at, reply[at], want[at]);
-        return false;
-    }
-    let past = first_other(reply, n, REPLY_BYTE);
-    if past < reply.len() {
-        print_byte(place, past, reply[past], REPLY_BYTE);
         return false;
     }
     true
@@ -53,7 +35,7 @@ pub fn agrees(
     place: Place,
     answer: Answer,
     store: &[u8; 535061],
-    want: &[u8; 4224],
+    want: &[u8; 8192],
     reply: &[u8; 8192],
 ) -> bool
     requires { ⌜ Within task ⌝ }
@@ -64,7 +46,7 @@ pub fn agrees(
         Kind::CHECK => answered,
         Kind::FORMAT => same_store(place, store, task.used, task.digest) && answered,
         _ => {
-            let replied = same_reply(place, want, task.reply as usize, reply);
+            let replied = same_reply(place, want, reply);
             same_store(place, store, task.used, task.digest) && replied && answered
         }
     }

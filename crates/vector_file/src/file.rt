@@ -1,5 +1,6 @@
 // Reading the vector file: a record is its kind, a head of a length that the kind gives, and for some kinds further bytes.
 ghost use Prim.Native.Nat.{_+_, _≤_};
+use crate::buffers::clear_reply;
 
 // The kinds of records.
 pub struct Kind(pub u32);
@@ -69,17 +70,18 @@ fn read_call(fd: i32, head: &[u8; 40], call: &mut [u8], want: &mut [u8]) -> bool
     read_part(fd, want, size(head, 28))
 }
 
-// Reads the next record, but for the bytes of a patch: its kind.
+// Reads the next record, but for the bytes of a patch: its kind. In `want` a reply is followed by what a reply space has before a call.
 pub fn read_record(
     fd: i32,
     head: &mut [u8; 40],
     call: &mut [u8; 10000],
-    want: &mut [u8; 4224],
+    want: &mut [u8; 8192],
 ) -> u32 {
     let kind = read_head(fd, head);
     if kind != Kind::CALL {
         return kind;
     }
+    clear_reply(want);
     if read_call(fd, head, call, want) {
         Kind::CALL
     } else {

@@ -1,9 +1,9 @@
 // The replay: from one call of an entry to the next.
 ghost use Prim.Native.Nat.{_<_, _≤_};
 ghost use Rattle.vector_file.specs.Within.{Within};
+use crate::buffers::clear_reply;
 use crate::buffers::fill;
 use crate::compare::agrees;
-use crate::compare::clear_reply;
 use crate::file::Kind;
 use crate::file::read_part;
 use crate::file::read_record;
@@ -121,7 +121,7 @@ fn read_next(
     progress: Progress,
     store: &mut [u8; 535061],
     call: &mut [u8; 10000],
-    want: &mut [u8; 4224],
+    want: &mut [u8; 8192],
 ) -> Replay
     ensures { λ r. ⌜ (r .left ≤ left) × Within (r .task) ⌝ }
 {
@@ -149,7 +149,7 @@ fn judged(
     replay: Replay,
     answer: Answer,
     store: &[u8; 535061],
-    want: &[u8; 4224],
+    want: &[u8; 8192],
     reply: &[u8; 8192],
 ) -> Progress
     requires { ⌜ Within (replay .task) ⌝ }
@@ -171,7 +171,7 @@ pub fn next(
     answer: Answer,
     store: &mut [u8; 535061],
     call: &mut [u8; 10000],
-    want: &mut [u8; 4224],
+    want: &mut [u8; 8192],
     reply: &mut [u8; 8192],
 ) -> Replay
     requires { ⌜ 0 < replay .left ⌝ }

@@ -63,10 +63,24 @@ fn print_place(place: Place) {
     let kind = place.kind;
     numbered(b"run ", place.run as u64);
     match kind {
-        Kind::FORMAT => numbered(b", format ", place.number),
-        Kind::CHECK => numbered(b", check ", place.number),
-        _ => numbered(b", call ", place.number),
+        Kind::FORMAT => text(b", format "),
+        Kind::CHECK => text(b", check "),
+        _ => text(b", call "),
     }
+    io::print_decimal(STDOUT_FILENO, place.number);
+}
+
+// The end of a line on two numbers that differ.
+fn print_unequal(got: u64, wanted: u64) {
+    io::print_decimal(STDOUT_FILENO, got);
+    numbered(b", not ", wanted);
+    text(b"\n");
+}
+
+// Prints a text and an answer after it.
+fn print_answer(bytes: &[u8], number: u32, length: u32) {
+    numbered(bytes, number as u64);
+    numbered(b" of length ", length as u64);
 }
 
 // Whether the answer is the wanted one.
@@ -75,10 +89,8 @@ pub fn same_answer(place: Place, got: Answer, number: u32, length: u32) -> bool 
         return true;
     }
     print_place(place);
-    numbered(b": answer ", got.number as u64);
-    numbered(b" of length ", got.length as u64);
-    numbered(b", not ", number as u64);
-    numbered(b" of length ", length as u64);
+    print_answer(b": answer ", got.number, got.length);
+    print_answer(b", not ", number, length);
     text(b"\n");
     false
 }
@@ -89,9 +101,8 @@ pub fn same_digest(place: Place, got: u64, wanted: u64) -> bool {
         return true;
     }
     print_place(place);
-    numbered(b": store of digest ", got);
-    numbered(b", not ", wanted);
-    text(b"\n");
+    text(b": store of digest ");
+    print_unequal(got, wanted);
     false
 }
 
@@ -99,7 +110,6 @@ pub fn same_digest(place: Place, got: u64, wanted: u64) -> bool {
 pub fn print_byte(place: Place, at: usize, got: u8, wanted: u8) {
     print_place(place);
     numbered(b": byte ", at as u64);
-    numbered(b" of the reply space is ", got as u64);
-    numbered(b", not ", wanted as u64);
-    text(b"\n");
+    text(b" of the reply space is ");
+    print_unequal(got as u64, wanted as u64);
 }

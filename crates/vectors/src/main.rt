@@ -21,7 +21,7 @@ fn main() {
 fn run(fd: i32) {
     let mut store = [0u8; 535061];
     let mut call = [0u8; 10000];
-    let mut want = [0u8; 4224];
+    let mut want = [0u8; 8192];
     let mut reply = [0u8; 8192];
     let mut replay = begin();
     while replay.left > 0 {
