@@ -14,7 +14,7 @@ use Rattle.spec.specs.Check.{goodShape, goodRoot, isNamedOnce, leadsToRoot, pas
 use Rattle.laws.proofs.Count.{by-bool, true-false}
 use Rattle.fsck_objects.specs.Told.{Shaped}
 use Rattle.fsck_objects.specs.Objects.{UsedBy, ObjectsPass}
-use Rattle.fsck_objects.proofs.Marks.{used-once}
+use Rattle.fsck_blocks.proofs.Places.{used-once}
 use Rattle.fsck_objects.proofs.Passes.{passes-by, fails-shape, fails-root}
 use Rattle.fsck_names.specs.Names.{NamesPass}
 use Rattle.fsck_names.proofs.Parents.{parent-is}

@@ -7,9 +7,9 @@ ghost use Rattle.fsck.specs.Checked.{RestPasses, Checked};
 use crate::shape::Found;
 use crate::shape::shape;
 use crate::tree::tree_passes;
+use fsck_blocks::objects::objects_pass;
 use fsck_names::names::names_pass;
 use fsck_objects::object::kind_of;
-use fsck_objects::objects::objects_pass;
 use kinds::numbers::Kind;
 
 // The map of 32 ones and then zeros.

@@ -5,20 +5,19 @@ use Prim.Native.Nat.{ℕ, _≤_, _<_}
 use native.Mathlib.Omega.{arith}
 use lib.Dec.{eqb, leb, ltb}
 use mathlib.Core.List.{List}
-use lib.ListN.{getD}
-use borrow.Author.Tests.{eq-eqb, ne-eqb, leb-true, eqb-true, eqb-false}
+use borrow.Author.Tests.{eq-eqb, ne-eqb, leb-true, eqb-true}
 use Rattle.kinds.specs.Numbers.{REGULAR, DIRECTORY}
 use Rattle.kinds.specs.declared.object.Object.{Object}
-use Rattle.spec.specs.Count.{sum, every}
+use Rattle.spec.specs.Count.{every}
 use Rattle.spec.specs.Image.{Store, objects, blocks, objectAt}
 use Rattle.spec.specs.Room.{need, isLive}
 use Rattle.spec.specs.Check.{goodTime, goodSize, goodBlock, goodFree, goodLive, goodObject, passes}
 use Rattle.laws.proofs.Count.{by-bool, and-both}
 use Rattle.fsck_objects.specs.Told.{Told}
-use Rattle.fsck_objects.specs.Objects.{goodFields, LiveAt, MarkedBy, MarkedTo, ObjectPasses, ObjectsPass, Counted}
+use Rattle.fsck_objects.specs.Objects.{goodFields, LiveAt, MarkedBy, MarkedTo, ObjectPasses, Counted}
 use Rattle.fsck_objects.specs.declared.object.Uses.the-variants.{Bad, Blocks}
 use Rattle.fsck_objects.proofs.Passes.{fails-object, told-true, told-false}
-use Rattle.fsck_objects.proofs.Marks.{mark-free, mark-end, places-free, places-end, placesBelow, marks-all, marks-few}
+use Rattle.fsck_objects.proofs.Marks.{mark-free, mark-end, places-free, places-end}
 
 pub live-yes : (s : Store) (o : ℕ) → (objectAt s o .kind ≡ 0 → ⊥) → isLive s o ≡ true
 unfolding isLive
@@ -79,15 +78,3 @@ counted-bad f = record { yes = λ n e. let z : _≡_ {A = ℕ} 0 1 = cc in absur
 pub counted-blocks : {s : Store} {facts : ℕ → Type 0} (n : ℕ) → facts n → Counted (Blocks n) s facts
 counted-blocks {s} {facts} n f =
     record { yes = λ k e. let w : n ≡ k = cc in rw w at f; no = λ e. let z : _≡_ {A = ℕ} 0 1 = cc in absurd (omega arith) }
-
--- all objects pass: no block is used twice where as many are marked as there are places
-pub told-all : (s : Store) (used : List ℕ) (total marked count limit : ℕ) → count ≡ objects s → limit ≡ blocks s → total ≡ placesBelow s count
-    → MarkedBy s count used → every count (goodObject s) ≡ true → marked ≡ sum limit (λ i. getD used i 0)
-    → Told (eqb total marked) s (ObjectsPass s count used)
-told-all s used total marked count limit e f p m g q =
-    by-bool (eqb total marked)
-    (λ t. rw t (told-true (record {
-      map = rw (← e) at (marks-all s used (rw e at m) (rw (e, f) at (sym p ∙ eqb-true total marked t ∙ q)));
-      good = g;
-    })))
-    (λ t. rw t (told-false (marks-few s used (rw e at m) (λ w. eqb-false total marked t (p ∙ rw (e, f) (w) ∙ sym q)))))

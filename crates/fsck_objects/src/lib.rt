@@ -1,4 +1,3 @@
-// The store check's pass over the object records.
+// The store check of an object record.
 pub mod zero; // bytes that must be zero
 pub mod object; // one object record
-pub mod objects; // all of them

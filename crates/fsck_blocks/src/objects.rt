@@ -4,10 +4,10 @@ ghost use Prim.Native.Nat.{_+_, _≤_};
 ghost use lib.ListN.{getD};
 ghost use Rattle.spec.specs.Count.{sum};
 ghost use Rattle.spec.specs.Image.{blocks, objects};
 ghost use Rattle.fsck_objects.specs.Told.{Shaped, Told};
 ghost use Rattle.fsck_objects.specs.Objects.{Blank, Inside, AreMarks, ObjectsPass};
-use crate::object::Uses;
-use crate::object::object_uses;
+use fsck_objects::object::Uses;
+use fsck_objects::object::object_uses;
 
 // The sum of n bytes of a map from `from` on, which are 0 or 1.
 fn sum_part(used: &[u8; 1024], from: usize, n: usize) -> u8

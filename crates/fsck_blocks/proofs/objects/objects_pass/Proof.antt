@@ -5,13 +5,12 @@ use mathlib.Core.Bool.{true}
 use Rattle.spec.specs.Count.{every}
 use Rattle.laws.proofs.Count.{every-more}
 use Rattle.spec.specs.Check.{goodObject}
 use Rattle.fsck_objects.specs.Objects.{MarkedBy}
 use Rattle.fsck_objects.proofs.Passes.{told-false}
-use Rattle.fsck_objects.proofs.Whole.{told-all}
-use Rattle.fsck_objects.proofs.Marks.{mark-none, marks-are, placesBelow, places-none, places-next}
+use Rattle.fsck_blocks.proofs.Places.{mark-none, marks-are, placesBelow, places-none, places-next, told-all}
 use borrow.Author.Needs.{needs}
-use Rattle.fsck_objects.proofs.objects.objects_pass.Statement.{statement}
-use Rattle.fsck_objects.proofs.objects.objects_pass.Tie as tie
+use Rattle.fsck_blocks.proofs.objects.objects_pass.Statement.{statement}
+use Rattle.fsck_blocks.proofs.objects.objects_pass.Tie as tie
 
 abbrev Inv-loop : tie.InvT-loop
 Inv-loop store inside count limit used₀ total₀ o₀ used total o = (o ≤ count) × (total ≡ placesBelow store o) × (total ≤ 16 * o) × MarkedBy store o used × (every o (goodObject store) ≡ true)

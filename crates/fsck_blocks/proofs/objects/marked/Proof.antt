@@ -3,10 +3,10 @@ use mathlib.Core.Path.{_≡_, refl}
 use Prim.Native.Nat.{_+_, _-_, _*_, _≤_, zero-le}
 use lib.ListN.{getD}
 use Rattle.spec.specs.Count.{sum}
-use Rattle.fsck_objects.proofs.Marks.{sum-split, marks-from}
+use Rattle.fsck_blocks.proofs.Places.{sum-split, marks-from}
 use borrow.Author.Needs.{needs}
-use Rattle.fsck_objects.proofs.objects.marked.Statement.{statement}
-use Rattle.fsck_objects.proofs.objects.marked.Tie as tie
+use Rattle.fsck_blocks.proofs.objects.marked.Statement.{statement}
+use Rattle.fsck_blocks.proofs.objects.marked.Tie as tie
 
 abbrev Inv-loop : tie.InvT-loop
 Inv-loop used limit total₀ at₀ total at = (at ≤ limit) × (total ≤ 2 * at) × (total ≡ sum at (λ i. getD used i 0))

@@ -5,8 +5,8 @@ use lib.ListN.{getD}
 use Rattle.spec.specs.Count.{sum}
 use Rattle.laws.proofs.Count.{sum-more}
 use borrow.Author.Needs.{needs}
-use Rattle.fsck_objects.proofs.objects.sum_part.Statement.{statement}
-use Rattle.fsck_objects.proofs.objects.sum_part.Tie as tie
+use Rattle.fsck_blocks.proofs.objects.sum_part.Statement.{statement}
+use Rattle.fsck_blocks.proofs.objects.sum_part.Tie as tie
 
 abbrev Inv-loop : tie.InvT-loop
 Inv-loop used from n total₀ i₀ total i = (i ≤ n) × (total ≤ i) × (total ≡ sum i (λ j. getD used (from + j) 0))
