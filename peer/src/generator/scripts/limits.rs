@@ -103,6 +103,44 @@ pub(super) fn full_stores(runs: &mut Runs<'_>) {
     lane.done(&fsstat(&file));
 }
 
+/// Files whose blocks do not follow each other in the store, read and
+/// written across the gaps.
+pub(super) fn scattered_blocks(runs: &mut Runs<'_>) {
+    let mut lane = runs.open("blocks in pieces", (6, 6, 24));
+    let root = lane.root();
+    lane.create(&root, b"a", 3 * 512);
+    lane.create(&root, b"b", 2 * 512);
+    lane.create(&root, b"c", 512);
+    lane.done(&remove(&root, b"b"));
+    // Blocks 3 and 4, and then from 6 on.
+    let upward = lane.create(&root, b"upward", 6 * 512);
+    lane.done(&remove(&root, b"a"));
+    // Block 12, and then from 0 on.
+    lane.create(&root, b"d", 3 * 512);
+    let downward = lane.create(&root, b"e", 512);
+    lane.done(&remove(&root, b"d"));
+    lane.done(&setattr(&downward, Attributes::size(4 * 512 - 7), None));
+    lane.driver.note(FULL, "blocks in pieces");
+    let data: Vec<u8> = (0..3072u32).map(|at| (at % 251) as u8 + 1).collect();
+    for file in [&upward, &downward] {
+        lane.done(&write(file, 100, &data[..1900]));
+        for (offset, count) in [
+            (0, 4096),
+            (511, 2),
+            (512, 512),
+            (1000, 100),
+            (1023, 2),
+            (1024, 1),
+            (500, 1500),
+            (1, 2047),
+        ] {
+            lane.done(&read(file, offset, count));
+        }
+    }
+    lane.done(&write(&upward, 0, &data));
+    lane.done(&read(&upward, 3, 3070));
+}
+
 pub(super) fn spent_generations(runs: &mut Runs<'_>) {
     let mut lane = runs.open("spent generations", (5, 8, 4));
     let root = lane.root();

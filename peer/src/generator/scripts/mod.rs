@@ -68,6 +68,7 @@ pub fn all(runs: &mut Runs<'_>) {
     damage::damaged(runs);
     messages::changed_bytes(runs);
     limits::largest_store(runs);
+    limits::scattered_blocks(runs);
 }
 
 /// A request of every served procedure with all optional parts.

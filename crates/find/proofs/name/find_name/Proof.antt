@@ -9,7 +9,7 @@ use Rattle.image.specs.Text.{textOf}
 use borrow.Author.Needs.{needs}
 use native.Mathlib.Omega.{arith}
 use mathlib.Core.Path.{_≡_, refl, sym, _∙_}
-use Prim.Native.Nat.{_-_, _≤_, _<_, zero-le}
+use Prim.Native.Nat.{_-_, _≤_, zero-le}
 use Rattle.find.proofs.name.find_name.Statement.{statement}
 use Rattle.find.proofs.name.find_name.Tie as tie
 
