@@ -9,7 +9,7 @@ use Rattle.spec.specs.Replies.{hyper, fattr3, postOp, preOp, wccData, wccOption
 use Rattle.results.specs.Meaning.{handleChangeIn}
 use Rattle.results.specs.declared.HandleChange.{HandleChange}
 use Rattle.results.specs.declared.HandleChange.the-variants as HandleChange
-use Rattle.contents.proofs.Hyper.{hyper-small}
+use Rattle.directory_contents.proofs.Hyper.{hyper-small}
 
 pub change-small : (s : Store) (c : HandleChange) → length (wccOption (handleChangeIn s c)) ≤ 29
 unfolding wccData preOp postOp fattr3

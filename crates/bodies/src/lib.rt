@@ -13,13 +13,13 @@ ghost use Rattle.spec.specs.Replies.{hyper, fattr3, postOp, wccData, wccOption,
 ghost use Rattle.results.specs.Meaning.{changeIn, handleChangeIn};
 ghost use Rattle.results.specs.Writable.{Showable, ShowableChange, Readable, Listable};
 ghost use Rattle.xdr.specs.Wrote.{Wrote};
-use contents::entries::put_entries;
-use contents::file::put_file_bytes;
+use directory_contents::put_entries;
 use fields::attributes::put_attributes;
 use fields::attributes::put_change;
 use fields::attributes::put_handle;
 use fields::attributes::put_handle_change;
 use fields::attributes::put_post_op;
+use file_contents::put_file_bytes;
 use kinds::numbers::ObjectNumber;
 use kinds::numbers::Status;
 use results::HandleChange;

@@ -21,7 +21,7 @@ use Rattle.laws.proofs.Kept.{BothSet}
 use Rattle.laws.proofs.Range.{Below}
 use Rattle.laws.proofs.SameReads.{isFreeBlock-reads, freeBlockCount-reads}
 use Rattle.laws.proofs.SetAttributes.{mtime-and-ctime-fits, mtime-and-ctime-allowed, new-fits, new-live}
-use Rattle.find.specs.Blocks.{UsedMap}
+use Rattle.free_space.specs.Blocks.{UsedMap}
 use Rattle.changes.specs.Ready.{Sizable, Makable}
 use Rattle.changes.proofs.Edited.{sized-still, sized-kind}
 

@@ -16,7 +16,7 @@ use Rattle.laws.proofs.Range.{Below}
 use Rattle.laws.proofs.Passed.{NewRoom}
 use Rattle.laws.proofs.SetAttributes.{FitsSettable, Allowed}
 use Rattle.laws.proofs.Valid.{GoodName, Valid}
-use Rattle.find.specs.Blocks.{UsedMap}
+use Rattle.free_space.specs.Blocks.{UsedMap}
 
 -- a valid store of bytes, the map of its used blocks, the number of its free blocks, and a good clock
 pub record Ready (s : Store) (used : List ℕ) (free : ℕ) (c : Context) : Type 0 where

@@ -7,7 +7,7 @@ ghost use Rattle.spec.specs.Procedures.{cut};
 ghost use Rattle.spec.specs.Procedures.Attributes.{isGiven, orServer, sizeTouches, resizeTo, setattrEdit, setattr};
 ghost use Rattle.laws.proofs.GoodRecords.{GoodRecords};
 ghost use Rattle.laws.proofs.SetAttributes.{FitsSettable};
-ghost use Rattle.find.specs.Blocks.{UsedMap};
+ghost use Rattle.free_space.specs.Blocks.{UsedMap};
 ghost use Rattle.results.specs.Does.{Does};
 ghost use Rattle.changes.specs.Ready.{Ready, Sizable};
 use crate::setting::check_setattr;

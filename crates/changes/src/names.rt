@@ -8,7 +8,7 @@ ghost use Rattle.spec.specs.Procedures.Names.{newObject, newEdit, createdIn, ex
 ghost use Rattle.laws.proofs.ArgumentRange.{FitsHow};
 ghost use Rattle.laws.proofs.GoodRecords.{GoodRecords, GoodClock};
 ghost use Rattle.laws.proofs.SetAttributes.{FitsSettable};
-ghost use Rattle.find.specs.Blocks.{UsedMap};
+ghost use Rattle.free_space.specs.Blocks.{UsedMap};
 ghost use Rattle.results.specs.Does.{Does};
 ghost use Rattle.changes.specs.Ready.{Ready, Sizable, Makable};
 use crate::attributes::resize_to;

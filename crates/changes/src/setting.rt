@@ -9,7 +9,7 @@ ghost use Rattle.spec.specs.Procedures.{cut};
 ghost use Rattle.spec.specs.Procedures.Attributes.{isGiven, checkSetattr};
 ghost use Rattle.spec.specs.Procedures.Data.{checkWrite};
 ghost use Rattle.laws.proofs.GoodRecords.{GoodRecords};
-ghost use Rattle.find.specs.Blocks.{UsedMap};
+ghost use Rattle.free_space.specs.Blocks.{UsedMap};
 ghost use Rattle.files.specs.Meaning.{reachedOf};
 use files::handle::Reached;
 use files::handle::reach;

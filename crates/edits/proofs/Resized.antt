@@ -19,7 +19,7 @@ use Rattle.laws.proofs.Kept.{RecordsKept}
 use Rattle.laws.proofs.RecordRange.{objectAt-fits}
 use Rattle.laws.proofs.Resize.{keptBlocks, freedBlocks, addedBlocks}
 use Rattle.laws.proofs.Valid.{LiveObject, live-size}
-use Rattle.find.specs.Blocks.{blockList}
+use Rattle.free_space.specs.Blocks.{blockList}
 use Rattle.edits.specs.Sized.{sized}
 
 -- the last numbers of the first `before`

@@ -7,7 +7,7 @@ use native.Mathlib.Numerals.{add-one}
 use lib.ListN.{length, take, getD, set, replicate, length-append, length-take, length-replicate, replicate-append-replicate, List·getD-append}
 use lib.Seq.{take-suc, take-at, take-length, take-append-add, getD-take, getD-append-add}
 use Rattle.spec.specs.Edits.{blockNumbers}
-use Rattle.find.proofs.Blocks.{listed-more}
+use Rattle.free_space.proofs.Blocks.{listed-more}
 
 -- the first n + m of n numbers with a number repeated behind them
 filled : (rs : List ℕ) (m n x : ℕ) → length rs ≡ n → take (n + m) (rs ++ replicate (m + n) x) ≡ rs ++ replicate m x

@@ -2,4 +2,3 @@
 pub mod found; // what a search finds, and what a count adds
 pub mod object; // available objects
 pub mod name; // free names, a name in a directory, the parent of an object
-pub mod block; // free blocks, by a map of those that are used

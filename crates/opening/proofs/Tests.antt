@@ -24,7 +24,7 @@ use Rattle.fsck.specs.Checked as checked
 use Rattle.fsck.specs.Found.{countsOf, foundIf}
 use Rattle.fsck.specs.declared.shape.Counts.{Counts}
 use Rattle.fsck.specs.declared.shape.Found.the-variants.{Bad, Good}
-use Rattle.find.specs.Blocks.{UsedMap}
+use Rattle.free_space.specs.Blocks.{UsedMap}
 use Rattle.opening.specs.Opens.{Hears}
 
 -- ---- the check

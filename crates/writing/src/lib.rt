@@ -7,7 +7,7 @@ ghost use Rattle.spec.specs.Image.{objects};
 ghost use Rattle.spec.specs.Procedures.{cut};
 ghost use Rattle.spec.specs.Procedures.Data.{mostBytes, writeEdit, writeStore, writeDone};
 ghost use Rattle.laws.proofs.GoodRecords.{GoodRecords, StillGood};
-ghost use Rattle.find.specs.Blocks.{UsedMap};
+ghost use Rattle.free_space.specs.Blocks.{UsedMap};
 ghost use Rattle.results.specs.Does.{Does};
 ghost use Rattle.writing.specs.Writable.{Writable, WritableSome};
 use blocks::write_file;

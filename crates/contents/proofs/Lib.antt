@@ -1,5 +1,0 @@
-pub mod Copies
-pub mod Files
-pub mod Hyper
-pub mod Runs
-pub mod Together
