@@ -112,13 +112,24 @@ pub fn is_in(store: &[u8], n: NameNumber, directory: ObjectNumber) -> bool
     is_used_name(store, n)
 }
 
+// A number of objects as it is: with its bound in the code, the compiler does not take the number apart into the bytes that it was read from.
+fn bounded(p: usize) -> usize
+    requires { ⌜ p ≤ 64 ⌝ }
+    ensures { λ r. ⌜ r ≡ p ⌝ }
+{
+    if p > Limit::OBJECTS {
+        return Limit::OBJECTS;
+    }
+    p
+}
+
 // Where the name records start.
 fn names_start(store: &[u8]) -> usize
     requires { ⌜ Shaped (now store) ⌝ }
     ensures { λ r. ⌜ r ≡ nameStart (now (store .entry)) 0 ⌝ }
 {
     let p = object_count(store);
-    name_place(p, NameNumber(0))
+    name_place(bounded(p), NameNumber(0))
 }
 
 // Whether the record n, which starts at `at`, is that of a name in a directory: the last byte is compared, then the length, the directory and
