@@ -9,12 +9,13 @@ use lib.ListN.{length}
 use Rattle.spec.specs.Bytes.{part, overlay, padding, zeros, beOf, digits, bytesOf, beAt, words, opaqueBytes}
 use Rattle.spec.specs.Image.{Store, names, nameStart, nameLength}
 use Rattle.spec.specs.Replies.{entryBytes}
-use Rattle.laws.proofs.Bytes.{part-add, part-length, overlay-more}
+use Rattle.laws.proofs.Bytes.{part-add, part-length}
 use Rattle.laws.proofs.GoodRecords.{GoodRecords}
 use Rattle.laws.proofs.Range.{Below}
 use Rattle.laws.proofs.RecordRange.{below-part, below-zeros}
 use Rattle.laws.proofs.Valid.{Padded, GoodNameRecord}
 use Rattle.laws.proofs.Zeros.{zero-within}
+use Rattle.wire.proofs.Copies as copies
 use Rattle.xdr.specs.Wrote.{Wrote}
 use Rattle.xdr.proofs.Wrote.{andThen, andWords}
 use Rattle.directory_contents.specs.Entries.{PaddedName, entry}
@@ -49,8 +50,8 @@ pub copy-more : (src : List ℕ) (from i : ℕ) (r : List ℕ) (at : ℕ) (r₁ 
     → r₂ ≡ overlay r₁ (at + 4 * i) (bytesOf 4 w) → r₂ ≡ overlay r at (part src from (4 * (i + 1)))
 copy-more src from i r at r₁ r₂ w f h k p q o =
     let e : 4 * (i + 1) ≡ 4 * i + 4 = omega arith in
-    rw (e, part-add src from (4 * i) 4)
-    (overlay-more r at (part src from (4 * i)) (part src (from + 4 * i) 4) r₁ r₂ (4 * i) (omega arith) (part-length src from (4 * i) (omega arith)) p
+    rw e
+    (copies.copy-more r at src from (4 * i) 4 r₁ r₂ (omega arith) (omega arith) p
     (o ∙ ap (λ (x : List ℕ). overlay r₁ (at + 4 * i) x) (ap (bytesOf 4) q ∙ part-word src (from + 4 * i) (omega arith) f)))
 
 -- the words of a padded name
