@@ -189,27 +189,10 @@ pub be-2 : (b : List ℕ) (at : ℕ) → at + 2 ≤ length b → getD b at 0 * 2
 unfolding beAt beOf digits part
 be-2 b at h = sym (spelt b at 1 0 (omega arith) ∙ spelt b (suc at) 0 (0 * 256 + getD b at 0) (omega arith) ∙ simp towards-suc (omega arith))
 
-pub be-4 : (b : List ℕ) (at : ℕ) → at + 4 ≤ length b → ((getD b at 0 * 256 + getD b (at + 1) 0) * 256 + getD b (at + 2) 0) * 256 + getD b (at + 3) 0 ≡ beAt b at 4
-unfolding beAt beOf digits part
-be-4 b at h =
-    sym (spelt b at 3 0 (omega arith) ∙ spelt b (suc at) 2 _ (omega arith) ∙ spelt b (suc (suc at)) 1 _ (omega arith) ∙ spelt b (suc (suc (suc at))) 0 _ (omega arith)
-    ∙ simp towards-suc (omega arith))
-
 -- what the stores of a function leave
 pub stores-2 : (b : List ℕ) (at v : ℕ) → at + 2 ≤ length b → set (set b at (v / 256 % 256)) (at + 1) (v % 256) ≡ overlay b at (bytesOf 2 v)
 unfolding overlay bytesOf
 stores-2 b at v h = simp (towards-suc, div-one) (simp (towards-suc, div-one) at (sets-eq (bytesOf 2 v) b at h))
-
-pub stores-4 : (b : List ℕ) (at v : ℕ) → at + 4 ≤ length b → set (set (set (set b at (v / 16777216 % 256)) (at + 1) (v / 65536 % 256)) (at + 2) (v / 256 % 256)) (at + 3) (v % 256) ≡ overlay b at (bytesOf 4 v)
-unfolding overlay bytesOf
-stores-4 b at v h = simp (towards-suc, div-one) (simp (towards-suc, div-one) at (sets-eq (bytesOf 4 v) b at h))
-
-pub stores-8 : (b : List ℕ) (at v : ℕ) → at + 8 ≤ length b
-    → set (set (set (set (set (set (set (set b at (v / 72057594037927936 % 256)) (at + 1) (v / 281474976710656 % 256)) (at + 2) (v / 1099511627776 % 256)) (at + 3) (v / 4294967296 % 256))
-    (at + 4) (v / 16777216 % 256)) (at + 5) (v / 65536 % 256)) (at + 6) (v / 256 % 256)) (at + 7) (v % 256)
-    ≡ overlay b at (bytesOf 8 v)
-unfolding overlay bytesOf
-stores-8 b at v h = simp (towards-suc, div-one) (simp (towards-suc, div-one) at (sets-eq (bytesOf 8 v) b at h))
 
 -- a number in two parts, at any widths
 digits-append : (acc : ℕ) (xs ys : List ℕ) → digits acc (xs ++ ys) ≡ digits (digits acc xs) ys

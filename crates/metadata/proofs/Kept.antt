@@ -1,51 +1,19 @@
 -- Numbers that were read from a store, written again in their place, leave it as it was; and attributes written alone are a record written
 -- whole. Assumes nothing.
 use mathlib.Core.Path.{_≡_, refl, sym, ap, ap₂, _∙_}
-use mathlib.Core.List.{List, [], _∷_, _++_, append-assoc}
-use Prim.Native.Nat.{ℕ, zero, suc, _+_, _*_, _/_, _%_, _^_, _≤_, _<_}
-use native.Mathlib.Nat.{mul-add-div-right, div-eq-of-lt, one-le-pow}
+use mathlib.Core.List.{List, _++_, append-assoc}
+use Prim.Native.Nat.{ℕ, zero, suc, _+_, _*_, _≤_}
 use native.Mathlib.Omega.{arith}
-use lib.Dec.{lit<}
-use lib.ListN.{length, getD, take, drop, length-append, take-append-drop, length-take, length-drop}
+use lib.ListN.{length, take, drop, length-append, take-append-drop}
 use lib.Seq.{drop-drop}
 use Rattle.kinds.specs.declared.object.Object.{Object}
 use Rattle.kinds.specs.declared.object.Time.{Time}
-use Rattle.spec.specs.Bytes.{part, overlay, digits, beOf, beAt, bytesOf}
+use Rattle.spec.specs.Bytes.{part, overlay, bytesOf}
 use Rattle.spec.specs.Edits.{withAttributes, setAttributes, mtimeAndCtime}
 use Rattle.spec.specs.Image.{Store, objectStart, halvesAt, halvesBytes, timeAt, timeBytes, headBytes, timesBytes, objectBytes, objectFrom, objectAt, putObject}
-use Rattle.laws.proofs.Bytes.{part-cons, part-length, part-add, part-after, overlay-join, overlay-length, bytes-length, be-add}
-use Rattle.laws.proofs.Range.{Below, be-below}
-use Rattle.laws.proofs.Records.{half-read, halves-length}
-
--- one byte, as a number
-byte-at : (b : List ℕ) (p : ℕ) → p < length b → beAt b p 1 ≡ getD b p 0
-unfolding beAt beOf digits part
-byte-at b p h = ap (digits 0) (part-cons b p 0 h) ∙ omega arith
-
--- the lowest w bytes of a number of k + w bytes
-bytes-low : (b : List ℕ) → Below 256 b → (w at k : ℕ) → at + (k + w) ≤ length b → bytesOf w (beAt b at (k + w)) ≡ part b (at + k) w
-unfolding bytesOf part
-bytes-low b f zero at k h = refl
-bytes-low b f (suc w) at k h =
-    let e : k + suc w ≡ k + 1 + w = omega arith in
-    let number : beAt b at (k + suc w) ≡ beAt b at (k + 1) * 256 ^ w + beAt b (at + (k + 1)) w = ap (beAt b at) e ∙ be-add b at (k + 1) w (omega arith) in
-    let front : beAt b at (k + 1) ≡ beAt b at k * 256 + beAt b (at + k) 1 = be-add b at k 1 (omega arith) in
-    let high : beAt b at (k + suc w) / 256 ^ w ≡ beAt b at (k + 1) =
-    ap (λ (x : ℕ). x / 256 ^ w) number ∙ mul-add-div-right (one-le-pow w 256 (lit< tt)) (beAt b at (k + 1)) (beAt b (at + (k + 1)) w)
-    ∙ rw (div-eq-of-lt (be-below b (at + (k + 1)) w f)) (omega arith) in
-    let head : beAt b at (k + suc w) / 256 ^ w % 256 ≡ getD b (at + k) 0 =
-    ap (λ (x : ℕ). x % 256) high ∙ omega (arith, front, byte-at b (at + k) (omega arith), f (at + k)) in
-    let behind : at + (k + 1) ≡ suc (at + k) = omega arith in
-    let tail : bytesOf w (beAt b at (k + suc w)) ≡ part b (suc (at + k)) w =
-    ap (λ (x : ℕ). bytesOf w (beAt b at x)) e ∙ bytes-low b f w at (k + 1) (omega arith) ∙ ap (λ (p : ℕ). part b p w) behind in
-    ap₂ (λ (x : ℕ) (xs : List ℕ). x ∷ xs) head tail ∙ sym (part-cons b (at + k) w (omega arith))
-
--- a number of w bytes
-pub bytes-kept : (b : List ℕ) → Below 256 b → (w at : ℕ) → at + w ≤ length b → bytesOf w (beAt b at w) ≡ part b at w
-bytes-kept b f w at h =
-    let e : at + 0 ≡ at = omega arith in
-    let z : w ≡ 0 + w = omega arith in
-    ap (λ (x : ℕ). bytesOf w (beAt b at x)) z ∙ bytes-low b f w at 0 (omega arith) ∙ ap (λ (p : ℕ). part b p w) e
+use Rattle.laws.proofs.Bytes.{part-length, part-add, part-after, overlay-join, overlay-length, bytes-length}
+use Rattle.laws.proofs.Range.{Below, bytes-kept}
+use Rattle.laws.proofs.Records.{half-read}
 
 -- the first k of n block numbers
 halves-low : (b : List ℕ) → Below 256 b → (at n k : ℕ) → k ≤ n → at + 2 * n ≤ length b → halvesBytes k (halvesAt b at n) ≡ part b at (2 * k)

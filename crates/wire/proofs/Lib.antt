@@ -1,2 +1,3 @@
 -- The laws of the proofs of this crate.
 pub mod Copies
+pub mod LowFirst

@@ -1,8 +1,10 @@
 // Big-endian numbers in byte slices.
 ghost use mathlib.Core.Path.{_≡_};
 ghost use Prim.Native.Nat.{_+_, _≤_, _<_};
+ghost use mathlib.Core.List.{reverse};
 ghost use lib.ListN.{length, replicate};
 ghost use Rattle.spec.specs.Bytes.{beAt, overlay, bytesOf, part, sameBytes};
+ghost use Rattle.wire.specs.LowFirst.{lowFirst};
 
 // A byte as a number of 32 bits.
 fn wide(x: u8) -> u32
@@ -19,12 +21,38 @@ pub fn get_u16(s: &[u8], at: usize) -> u16
     (wide(s[at]) * 256 + wide(s[at + 1])) as u16
 }
 
+// The number in the four bytes from `at`, least significant first: one load for the compiler.
+fn load_word(s: &[u8], at: usize) -> u32
+    requires { ⌜ at + 4 ≤ length (now s) ⌝ }
+    ensures { λ r. ⌜ r ≡ lowFirst (part (now (s .entry)) at 4) ⌝ }
+{
+    wide(s[at]) + wide(s[at + 1]) * 256 + wide(s[at + 2]) * 65536 + wide(s[at + 3]) * 16777216
+}
+
+// The number with the four bytes of w in the opposite order: one instruction for the compiler.
+fn swap_word(w: u32) -> u32
+    ensures { λ r. ⌜ r ≡ lowFirst (bytesOf 4 w) ⌝ }
+{
+    w % 256 * 16777216 + w / 256 % 256 * 65536 + w / 65536 % 256 * 256 + w / 16777216 % 256
+}
+
+// Writes w into the four bytes from `at`, least significant first: one store for the compiler.
+fn store_word(s: &mut [u8], at: usize, w: u32)
+    requires { ⌜ at + 4 ≤ length (now s) ⌝ }
+    ensures { λ _. ⌜ now (s .exit) ≡ overlay (now (s .entry)) at (reverse (bytesOf 4 w)) ⌝ }
+{
+    s[at] = (w % 256) as u8;
+    s[at + 1] = (w / 256 % 256) as u8;
+    s[at + 2] = (w / 65536 % 256) as u8;
+    s[at + 3] = (w / 16777216 % 256) as u8;
+}
+
 // The number in the four bytes from `at`.
 pub fn get_u32(s: &[u8], at: usize) -> u32
     requires { ⌜ at + 4 ≤ length (now s) ⌝ }
     ensures { λ r. ⌜ r ≡ beAt (now (s .entry)) at 4 ⌝ }
 {
-    ((wide(s[at]) * 256 + wide(s[at + 1])) * 256 + wide(s[at + 2])) * 256 + wide(s[at + 3])
+    swap_word(load_word(s, at))
 }
 
 // Writes v into the two bytes from `at`.
@@ -41,10 +69,7 @@ pub fn put_u32(s: &mut [u8], at: usize, v: u32)
     requires { ⌜ at + 4 ≤ length (now s) ⌝ }
     ensures { λ _. ⌜ now (s .exit) ≡ overlay (now (s .entry)) at (bytesOf 4 v) ⌝ }
 {
-    s[at] = (v / 16777216 % 256) as u8;
-    s[at + 1] = (v / 65536 % 256) as u8;
-    s[at + 2] = (v / 256 % 256) as u8;
-    s[at + 3] = (v % 256) as u8;
+    store_word(s, at, swap_word(v));
 }
 
 // The number in the eight bytes from `at`.
@@ -55,21 +80,6 @@ pub fn get_u64(s: &[u8], at: usize) -> u64
     let high = get_u32(s, at) as u64;
     let low = get_u32(s, at + 4) as u64;
     high * 4294967296 + low
-}
-
-// Writes v into the eight bytes from `at`.
-pub fn put_u64(s: &mut [u8], at: usize, v: u64)
-    requires { ⌜ at + 8 ≤ length (now s) ⌝ }
-    ensures { λ _. ⌜ now (s .exit) ≡ overlay (now (s .entry)) at (bytesOf 8 v) ⌝ }
-{
-    s[at] = (v / 72057594037927936 % 256) as u8;
-    s[at + 1] = (v / 281474976710656 % 256) as u8;
-    s[at + 2] = (v / 1099511627776 % 256) as u8;
-    s[at + 3] = (v / 4294967296 % 256) as u8;
-    s[at + 4] = (v / 16777216 % 256) as u8;
-    s[at + 5] = (v / 65536 % 256) as u8;
-    s[at + 6] = (v / 256 % 256) as u8;
-    s[at + 7] = (v % 256) as u8;
 }
 
 // Copies 16 bytes of src from `from` into dst from `at`: all are read before the first is written.

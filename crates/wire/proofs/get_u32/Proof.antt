@@ -1,87 +1,30 @@
 use borrow.Author.Needs.{needs}
-use native.Mathlib.Omega.{arith}
-use Rattle.laws.proofs.Bytes.{be-4}
+use mathlib.Core.Path.{_∙_, ap}
+use Rattle.spec.specs.Bytes.{bytesOf}
+use Rattle.wire.specs.LowFirst.{lowFirst}
+use Prim.Native.Nat.{ℕ}
+use Rattle.wire.proofs.LowFirst.{read-turned}
 use Rattle.wire.proofs.get_u32.Statement.{statement}
 use Rattle.wire.proofs.get_u32.Tie as tie
 use Rattle.wire.proofs.get_u32.Reads as reads
 use Rattle.wire.proofs.get_u32.Lts as lts
-use Rattle.wire.proofs.wide.Reads as wide-reads
+use Rattle.wire.proofs.load_word.Reads as load-word-reads
+use Rattle.wire.proofs.swap_word.Reads as swap-word-reads
 
-shared-slice-read-wide : tie.Need-shared-slice-read-wide
-shared-slice-read-wide c = search needs
+-- src/lib.rt:58:15
+load-word-requires : tie.Need-load-word-requires
+load-word-requires c κs = search needs
 
-wide-requires : tie.Need-wide-requires
-wide-requires c κs = search needs
+-- src/lib.rt:58:5
+swap-word-requires : tie.Need-swap-word-requires
+swap-word-requires c κs = search needs
 
-mul-result : tie.Need-mul-result
-mul-result c = search needs
-
-add-wide : tie.Need-add-wide
-add-wide c = search needs
-
-shared-slice-read-wide-2 : tie.Need-shared-slice-read-wide-2
-shared-slice-read-wide-2 c = search needs
-
-wide-requires-2 : tie.Need-wide-requires-2
-wide-requires-2 c κs = search needs
-
-add-result : tie.Need-add-result
-add-result c = search needs
-
-mul-result-2 : tie.Need-mul-result-2
-mul-result-2 c = search needs
-
-add-wide-2 : tie.Need-add-wide-2
-add-wide-2 c = search needs
-
-shared-slice-read-wide-3 : tie.Need-shared-slice-read-wide-3
-shared-slice-read-wide-3 c = search needs
-
-wide-requires-3 : tie.Need-wide-requires-3
-wide-requires-3 c κs = search needs
-
-add-result-2 : tie.Need-add-result-2
-add-result-2 c = search needs
-
-mul-result-3 : tie.Need-mul-result-3
-mul-result-3 c = search needs
-
-add-wide-3 : tie.Need-add-wide-3
-add-wide-3 c = search needs
-
-shared-slice-read-wide-4 : tie.Need-shared-slice-read-wide-4
-shared-slice-read-wide-4 c = search needs
-
-wide-requires-4 : tie.Need-wide-requires-4
-wide-requires-4 c κs = search needs
-
-add-result-3 : tie.Need-add-result-3
-add-result-3 c = search needs
-
+-- src/lib.rt:54:1
 returns : tie.Need-returns
 returns c =
-    let start = c .before .before .before .before .before .before .before .before .before in
-    omega (arith, be-4 (start .args .s .now) (start .args .at) (start .pre))
+    let start = c .before .before .before in
+    c .swap-word .ensures ∙ ap (λ (n : ℕ). lowFirst (bytesOf 4 n)) (c .before .load-word .ensures)
+    ∙ read-turned (start .args .s .now) (start .args .at) 4 (λ k. c .before .before .shared-slice-known .given k .fits) (start .pre)
 
 pub get-u32-spec : {M : Type 1} → statement M
-get-u32-spec =
-    tie.close
-    (tie.spec
-    shared-slice-read-wide
-    wide-requires
-    mul-result
-    add-wide
-    shared-slice-read-wide-2
-    wide-requires-2
-    add-result
-    mul-result-2
-    add-wide-2
-    shared-slice-read-wide-3
-    wide-requires-3
-    add-result-2
-    mul-result-3
-    add-wide-3
-    shared-slice-read-wide-4
-    wide-requires-4
-    add-result-3
-    returns)
+get-u32-spec = tie.close (tie.spec load-word-requires swap-word-requires returns)

@@ -1,65 +1,35 @@
 use borrow.Author.Needs.{needs}
-use native.Mathlib.Omega.{arith}
-use lib.ListN.{length-set}
-use Rattle.laws.proofs.Bytes.{stores-4}
+use mathlib.Core.Path.{_∙_, ap}
+use mathlib.Core.List.{List, reverse}
+use Prim.Native.Nat.{ℕ}
+use Rattle.spec.specs.Bytes.{overlay, bytesOf}
+use Rattle.wire.proofs.LowFirst.{written-turned}
 use Rattle.wire.proofs.put_u32.Statement.{statement}
 use Rattle.wire.proofs.put_u32.Tie as tie
 use Rattle.wire.proofs.put_u32.Reads as reads
 use Rattle.wire.proofs.put_u32.Lts as lts
+use Rattle.wire.proofs.store_word.Reads as store-word-reads
+use Rattle.wire.proofs.swap_word.Reads as swap-word-reads
 
-cast-s : tie.Need-cast-s
-cast-s c = search needs
+-- src/lib.rt:75:23
+swap-word-requires : tie.Need-swap-word-requires
+swap-word-requires c κs = search needs
 
-slice-write-s : tie.Need-slice-write-s
-slice-write-s c = search needs
+-- src/lib.rt:75:5
+store-word-requires : tie.Need-store-word-requires
+store-word-requires c κs = search needs
 
-cast-s-2 : tie.Need-cast-s-2
-cast-s-2 c = search needs
-
-add-s : tie.Need-add-s
-add-s c = search needs
-
-slice-write-s-2 : tie.Need-slice-write-s-2
-slice-write-s-2 c = simp length-set (omega arith)
-
-cast-s-3 : tie.Need-cast-s-3
-cast-s-3 c = search needs
-
-add-s-2 : tie.Need-add-s-2
-add-s-2 c = search needs
-
-slice-write-s-3 : tie.Need-slice-write-s-3
-slice-write-s-3 c = simp length-set (omega arith)
-
-cast-s-4 : tie.Need-cast-s-4
-cast-s-4 c = search needs
-
-add-s-3 : tie.Need-add-s-3
-add-s-3 c = search needs
-
-slice-write-s-4 : tie.Need-slice-write-s-4
-slice-write-s-4 c = simp length-set (omega arith)
-
+-- src/lib.rt:71:1
 same-length : tie.Need-same-length
 same-length c = search needs
 
+-- src/lib.rt:71:1
 returns : tie.Need-returns
-returns c = stores-4 (c .args .s .now) (c .args .at) (c .args .v) (c .pre)
+returns c =
+    let start = c .before .before .before .before .before .before in
+    let laid : List ℕ → List ℕ = overlay (start .args .s .now) (start .args .at) in
+    c .before .before .store-word .ensures ∙ ap (λ (n : ℕ). laid (reverse (bytesOf 4 n))) (c .before .before .before .swap-word .ensures)
+    ∙ ap laid (written-turned 4 (start .args .v))
 
 pub put-u32-spec : {M : Type 1} → statement M
-put-u32-spec =
-    tie.close
-    (tie.spec
-    cast-s
-    slice-write-s
-    cast-s-2
-    add-s
-    slice-write-s-2
-    cast-s-3
-    add-s-2
-    slice-write-s-3
-    cast-s-4
-    add-s-3
-    slice-write-s-4
-    same-length
-    returns)
+put-u32-spec = tie.close (tie.spec swap-word-requires store-word-requires same-length returns)

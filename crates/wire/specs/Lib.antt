@@ -1,0 +1,2 @@
+-- Numbers that the compiler reads and writes at once.
+pub mod LowFirst
