@@ -15,7 +15,6 @@ use kinds::object::Before;
 use results::HandleChange;
 use results::ObjectChange;
 use shown::attributes;
-use xdr::write::put_seven;
 use xdr::write::put_word;
 use xdr::write::put_words;
 
@@ -24,11 +23,21 @@ fn put_fattr3(reply: &mut [u8], at: usize, a: Attributes) -> usize
     requires { ⌜ at + 84 ≤ length (now reply) ⌝ }
     ensures { λ r. ⌜ Wrote 84 (now (reply .entry)) (now (reply .exit)) at r (words (fattr3 a)) ⌝ }
 {
-    let second = put_seven(reply, at, a.kind, a.mode, a.nlink, a.uid, a.gid, 0, a.size);
-    let third = put_seven(reply, second, 0, a.used, 0, 0, 0, a.fsid, 0);
-    put_seven(
-        reply,
-        third,
+    let ws = [
+        a.kind,
+        a.mode,
+        a.nlink,
+        a.uid,
+        a.gid,
+        0,
+        a.size,
+        0,
+        a.used,
+        0,
+        0,
+        0,
+        a.fsid,
+        0,
         a.fileid,
         a.atime.seconds,
         a.atime.nanoseconds,
@@ -36,7 +45,8 @@ fn put_fattr3(reply: &mut [u8], at: usize, a: Attributes) -> usize
         a.mtime.nanoseconds,
         a.ctime.seconds,
         a.ctime.nanoseconds,
-    )
+    ];
+    put_words(reply, at, &ws)
 }
 
 // The attributes of an object.
@@ -63,9 +73,7 @@ fn put_before(reply: &mut [u8], at: usize, b: Before) -> usize
     requires { ⌜ at + 28 ≤ length (now reply) ⌝ }
     ensures { λ r. ⌜ Wrote 28 (now (reply .entry)) (now (reply .exit)) at r (words (preOp b)) ⌝ }
 {
-    put_seven(
-        reply,
-        at,
+    let ws = [
         1,
         0,
         b.size,
@@ -73,7 +81,8 @@ fn put_before(reply: &mut [u8], at: usize, b: Before) -> usize
         b.mtime.nanoseconds,
         b.ctime.seconds,
         b.ctime.nanoseconds,
-    )
+    ];
+    put_words(reply, at, &ws)
 }
 
 // wcc_data, both parts present.

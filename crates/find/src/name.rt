@@ -12,7 +12,7 @@ ghost use Rattle.find.specs.Found.{foundName};
 use crate::found::FoundName;
 use crate::found::one_if;
 use image::counts::name_count;
-use image::counts::object_count;
+use image::counts::names_start;
 use image::name::is_used_name;
 use image::name::name_child;
 use image::name::name_directory;
@@ -21,7 +21,6 @@ use kinds::call::Part;
 use kinds::numbers::Limit;
 use kinds::numbers::NameNumber;
 use kinds::numbers::ObjectNumber;
-use places::name_place;
 
 fn is_free_name(store: &[u8], n: NameNumber) -> bool
     requires { ⌜ nameStart (now store) (n .0) + nameRecordLength ≤ length (now store) ⌝ }
@@ -112,26 +111,6 @@ pub fn is_in(store: &[u8], n: NameNumber, directory: ObjectNumber) -> bool
     is_used_name(store, n)
 }
 
-// A number of objects as it is: with its bound in the code, the compiler does not take the number apart into the bytes that it was read from.
-fn bounded(p: usize) -> usize
-    requires { ⌜ p ≤ 64 ⌝ }
-    ensures { λ r. ⌜ r ≡ p ⌝ }
-{
-    if p > Limit::OBJECTS {
-        return Limit::OBJECTS;
-    }
-    p
-}
-
-// Where the name records start.
-fn names_start(store: &[u8]) -> usize
-    requires { ⌜ Shaped (now store) ⌝ }
-    ensures { λ r. ⌜ r ≡ nameStart (now (store .entry)) 0 ⌝ }
-{
-    let p = object_count(store);
-    name_place(bounded(p), NameNumber(0))
-}
-
 // Whether the record n, which starts at `at`, is that of a name in a directory: the last byte is compared, then the length, the directory and
 // all bytes.
 fn is_named(
@@ -191,7 +170,7 @@ pub fn find_name(store: &[u8], directory: ObjectNumber, call: &[u8], name: Part)
     FoundName::Nothing
 }
 
-// Whether the record n, which starts at `at`, names a directory in a directory.
+// Whether the record n, which starts at `at`, names a directory in a directory. Most records name none, so that is tested first.
 fn is_subdirectory(store: &[u8], n: NameNumber, at: usize, directory: ObjectNumber) -> bool
     requires { ⌜ Shaped (now store) ⌝ }
     requires { ⌜ SoundNames (now store) ⌝ }
@@ -199,14 +178,14 @@ fn is_subdirectory(store: &[u8], n: NameNumber, at: usize, directory: ObjectNumb
     requires { ⌜ at ≡ nameStart (now store) (n .0) ⌝ }
     ensures { λ r. ⌜ r ≡ isIn (now (store .entry)) (directory .0) (n .0) && isDirectory (now (store .entry)) (nameAt (now (store .entry)) (n .0) .child) ⌝ }
 {
-    if wire::get_u32(store, at) as usize != directory.0 {
-        return false;
-    }
     if wire::get_u32(store, at + 8) == 0 {
         return false;
     }
     let child = ObjectNumber(wire::get_u32(store, at + 4) as usize);
-    is_directory(store, child)
+    if !is_directory(store, child) {
+        return false;
+    }
+    wire::get_u32(store, at) as usize == directory.0
 }
 
 // The directories in a directory.

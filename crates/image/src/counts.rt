@@ -66,6 +66,15 @@ pub fn name_start(store: &[u8], n: NameNumber) -> usize
     name_place(p, n)
 }
 
+// Where the name records start.
+pub fn names_start(store: &[u8]) -> usize
+    requires { ⌜ objectStart (objects (now store)) + 4 ≤ length (now store) ⌝ }
+    ensures { λ r. ⌜ r ≡ nameStart (now (store .entry)) 0 ⌝ }
+{
+    let p = object_count(store);
+    name_place(p, NameNumber(0))
+}
+
 // Where a block starts; it starts in the store, or at its end.
 pub fn block_start(store: &[u8], r: BlockNumber) -> usize
     requires { ⌜ blockStart (now store) (r .0) ≤ length (now store) ⌝ }

@@ -17,7 +17,6 @@ use image::object::mode_of;
 use image::object::mtime_of;
 use image::object::size_of;
 use image::object::uid_of;
-use kinds::numbers::Kind;
 use kinds::numbers::ObjectNumber;
 use kinds::object::Attributes;
 use kinds::object::Before;
@@ -58,25 +57,12 @@ pub fn link_count(store: &[u8], o: ObjectNumber) -> u32
     ensures { λ r. ⌜ r ≡ linkCount (now (store .entry)) (o .0) ⌝ }
 {
     if is_directory(store, o) {
-        let links = 2 + subdirectory_count(store, o);
-        return (links as u8) as u32;
+        return (2 + subdirectory_count(store, o)) as u32;
     }
     1
 }
 
-// The kind of an object.
-fn shown_kind(store: &[u8], o: ObjectNumber) -> u32
-    requires { ⌜ GoodRecords (now store) ⌝ }
-    requires { ⌜ o .0 < objects (now store) ⌝ }
-    ensures { λ r. ⌜ r ≡ objectAt (now (store .entry)) (o .0) .kind ⌝ }
-{
-    if is_directory(store, o) {
-        return Kind::DIRECTORY;
-    }
-    kind_of(store, o)
-}
-
-// The attributes of an object. Sizes fit 16 bits, and a fileid 8; told so, the compiler writes the bytes above them as zeros.
+// The attributes of an object.
 pub fn attributes(store: &[u8], o: ObjectNumber) -> Attributes
     requires { ⌜ GoodRecords (now store) ⌝ }
     requires { ⌜ o .0 < objects (now store) ⌝ }
@@ -84,22 +70,21 @@ pub fn attributes(store: &[u8], o: ObjectNumber) -> Attributes
 {
     let number = o.0;
     let nlink = link_count(store, o);
-    let size = shown_size(store, o) as u16;
-    let used = used_bytes(store, o) as u16;
-    let fileid = (number + 1) as u8;
+    let size = shown_size(store, o);
+    let used = used_bytes(store, o);
     let atime = atime_of(store, o);
     let mtime = mtime_of(store, o);
     let ctime = ctime_of(store, o);
     Attributes {
-        kind: shown_kind(store, o),
+        kind: kind_of(store, o),
         mode: mode_of(store, o),
         nlink,
         uid: uid_of(store, o),
         gid: gid_of(store, o),
-        size: size as u32,
-        used: used as u32,
+        size,
+        used,
         fsid: stamp_of(store),
-        fileid: fileid as u32,
+        fileid: (number + 1) as u32,
         atime,
         mtime,
         ctime,

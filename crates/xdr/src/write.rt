@@ -28,30 +28,6 @@ pub fn put_words(reply: &mut [u8], at: usize, ws: &[u32]) -> usize
     next
 }
 
-// Seven words: attributes are three times as many, those before a call as many.
-pub fn put_seven(
-    reply: &mut [u8],
-    at: usize,
-    a: u32,
-    b: u32,
-    c: u32,
-    d: u32,
-    e: u32,
-    f: u32,
-    g: u32,
-) -> usize
-    requires { ⌜ at + 28 ≤ length (now reply) ⌝ }
-    ensures { λ r. ⌜ Wrote 28 (now (reply .entry)) (now (reply .exit)) at r (words (a ∷ b ∷ c ∷ d ∷ e ∷ f ∷ g ∷ [])) ⌝ }
-{
-    let second = put_word(reply, at, a);
-    let third = put_word(reply, second, b);
-    let fourth = put_word(reply, third, c);
-    let fifth = put_word(reply, fourth, d);
-    let sixth = put_word(reply, fifth, e);
-    let last = put_word(reply, sixth, f);
-    put_word(reply, last, g)
-}
-
 // The len bytes of src from `from`.
 pub fn put_bytes(reply: &mut [u8], at: usize, src: &[u8], from: usize, len: usize) -> usize
     requires { ⌜ at + len ≤ length (now reply) ⌝ }

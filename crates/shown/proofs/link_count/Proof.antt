@@ -13,17 +13,14 @@ subdirectory-count-requires c κs =
     let st = c .before .before .before in
     (good-shaped (st .args .store .now) (st .pre .0), good-names-sound (st .args .store .now) (st .pre .0))
 
-add-links : tie.Need-add-links
-add-links c = let a = c .before .before .before .before .args in omega (arith, subdirectories-few (a .store .now) (a .o .0))
-
-cast-result : tie.Need-cast-result
-cast-result c =
+add-result : tie.Need-add-result
+add-result c =
     let st = c .before .before .before .before in
     let h = st .pre .0 .sound .shaped in
     omega (arith, subdirectories-few (st .args .store .now) (st .args .o .0))
 
-cast-result-2 : tie.Need-cast-result-2
-cast-result-2 c =
+cast-result : tie.Need-cast-result
+cast-result c =
     let st = c .before .before .before .before in
     let h = st .pre .0 .sound .shaped in
     omega (arith, subdirectories-few (st .args .store .now) (st .args .o .0))
@@ -37,4 +34,12 @@ unfolding linkCount
 returns-2 c = rw (← c .before .is-directory .ensures, c .if1 .left)
 
 pub link-count-spec : {M : Type 1} → statement M
-link-count-spec = tie.close (tie.spec is-directory-requires subdirectory-count-requires add-links cast-result cast-result-2 returns returns-2)
+link-count-spec =
+    tie.close
+    (tie.spec
+    is-directory-requires
+    subdirectory-count-requires
+    add-result
+    cast-result
+    returns
+    returns-2)

@@ -3,15 +3,19 @@ use borrow.Author.Needs.{needs}
 use Rattle.fields.proofs.attributes.put_before.Statement.{statement}
 use Rattle.fields.proofs.attributes.put_before.Tie as tie
 
-put-seven-requires : tie.Need-put-seven-requires
-put-seven-requires c κs = search needs
+slice-aggregate-put-words : tie.Need-slice-aggregate-put-words
+slice-aggregate-put-words c = search needs
+
+put-words-requires : tie.Need-put-words-requires
+put-words-requires c κs = search needs
 
 same-length : tie.Need-same-length
 same-length c = search needs
 
 returns : tie.Need-returns
 unfolding preOp
-returns c = c .before .before .put-seven .ensures
+returns c = c .before .before .put-words .ensures
 
 pub put-before-spec : {M : Type 1} → statement M
-put-before-spec = tie.close (tie.spec put-seven-requires same-length returns)
+put-before-spec =
+    tie.close (tie.spec slice-aggregate-put-words put-words-requires same-length returns)
