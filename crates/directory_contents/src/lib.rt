@@ -3,7 +3,7 @@ ghost use mathlib.Core.List.{[], _∷_, _++_};
 ghost use mathlib.Core.Path.{_≡_};
 ghost use Prim.Native.Nat.{_+_, _*_, _<_, _≤_};
 ghost use lib.ListN.{length, take};
-ghost use Rattle.spec.specs.Bytes.{part, overlay, padding, zeros, beAt};
+ghost use Rattle.spec.specs.Bytes.{part, overlay, padding, zeros};
 ghost use Rattle.spec.specs.Image.{names, nameStart};
 ghost use Rattle.spec.specs.Replies.{entryBytes, entriesBytes};
 ghost use Rattle.spec.specs.Procedures.Listing.{entries, entriesAbove};
@@ -14,26 +14,16 @@ ghost use Rattle.xdr.specs.Wrote.{Wrote};
 ghost use Rattle.directory_contents.specs.Entries.{PaddedName, entry, dots, entryIn, namedEntries, Sent};
 use find::name::parent_of;
 use image::counts::name_count;
-use image::counts::object_count;
+use image::counts::names_start;
 use kinds::numbers::Limit;
 use kinds::numbers::NameNumber;
 use kinds::numbers::ObjectNumber;
-use places::name_place;
 use xdr::write::put_word;
 
 // Where the next entry is written, and how many more are sent.
 pub struct Place {
     pub at: usize,
     pub left: usize,
-}
-
-// The number in four bytes, where it is below 256.
-fn low_byte(s: &[u8], at: usize) -> u8
-    requires { ⌜ at + 4 ≤ length (now s) ⌝ }
-    requires { ⌜ beAt (now s) at 4 < 256 ⌝ }
-    ensures { λ r. ⌜ r ≡ beAt (now (s .entry)) at 4 ⌝ }
-{
-    (wire::get_u32(s, at) % 256) as u8
 }
 
 // Copies `count` words of src from `from` into reply from `at`.
@@ -152,20 +142,20 @@ fn put_name(
     if wire::get_u32(store, at) as usize != directory.0 {
         return p;
     }
-    let len = low_byte(store, at + 8);
+    let len = wire::get_u32(store, at + 8);
     if len == 0 {
         return p;
     }
-    let fileid = low_byte(store, at + 4) + 1;
-    let number = n.0 as u8 + 3;
+    let fileid = wire::get_u32(store, at + 4) + 1;
+    let number = n.0 as u32 + 3;
     put_above(
         reply,
         p,
-        fileid as u32,
+        fileid,
         store,
         at + 12,
         len as usize,
-        number as u32,
+        number,
         cookie,
     )
 }
@@ -183,8 +173,7 @@ fn put_names(
     ensures { λ q. ⌜ Sent (entriesAbove cookie (namedEntries (now (store .entry)) (directory .0) (names (now (store .entry))))) (now (reply .entry)) (now (reply .exit)) p q ⌝ }
 {
     let total = name_count(store);
-    let objects = object_count(store);
-    let mut start = name_place(objects, NameNumber(0));
+    let mut start = names_start(store);
     let mut q = p;
     let mut n = 0;
     while n < total {

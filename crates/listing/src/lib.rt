@@ -4,7 +4,6 @@ ghost use mathlib.Core.Bool.{_&&_};
 ghost use Prim.Native.Nat.{_+_, _≤_, _<_};
 ghost use lib.Dec.{eqb};
 ghost use lib.ListN.{length};
-ghost use Rattle.spec.specs.Bytes.{beAt};
 ghost use Rattle.spec.specs.Image.{objects, names};
 ghost use Rattle.spec.specs.Procedures.{cut};
 ghost use Rattle.spec.specs.Procedures.Listing.{entries, entriesAbove, readdir};
@@ -16,13 +15,11 @@ use files::failure::fail_showing;
 use files::handle::Reached;
 use files::handle::reach_directory;
 use image::counts::name_count;
-use image::counts::object_count;
+use image::counts::names_start;
 use kinds::call::Part;
 use kinds::numbers::Limit;
-use kinds::numbers::NameNumber;
 use kinds::numbers::ObjectNumber;
 use kinds::numbers::Status;
-use places::name_place;
 use reads::data::least;
 use results::Reply;
 
@@ -79,13 +76,12 @@ fn extend(run: Run, given: u64, cookie: u64, long: usize) -> Run
 // The length of the name of the record that starts at `at`; 0 where the record is not in the directory.
 fn length_in(store: &[u8], at: usize, d: ObjectNumber) -> usize
     requires { ⌜ at + 12 ≤ length (now store) ⌝ }
-    requires { ⌜ beAt (now store) (at + 8) 4 < 256 ⌝ }
     ensures { λ r. ⌜ r ≡ lengthIn (now (store .entry)) at (d .0) ⌝ }
 {
     if wire::get_u32(store, at) as usize != d.0 {
         return 0;
     }
-    (wire::get_u32(store, at + 8) % 256) as usize
+    wire::get_u32(store, at + 8) as usize
 }
 
 // The run of a directory's names above a cookie, in a room, behind `count` entries; the first that does not fit ends it.
@@ -95,8 +91,7 @@ fn name_run(store: &[u8], d: ObjectNumber, given: u64, room: usize, count: usize
     ensures { λ r. ⌜ r ≡ runOf given (openRun room count) (namedEntries (now (store .entry)) (d .0) (names (now (store .entry)))) ⌝ }
 {
     let total = name_count(store);
-    let objects = object_count(store);
-    let mut at = name_place(objects, NameNumber(0));
+    let mut at = names_start(store);
     let mut left = room;
     let mut found = count;
     let mut i = 0;

@@ -1,5 +1,4 @@
 use mathlib.Core.Path.{sym, _∙_}
-use native.Mathlib.Omega.{arith}
 use borrow.Author.Tests.{eq-eqb, ne-eqb}
 use borrow.Author.Needs.{needs}
 use Rattle.listing.proofs.length_in.Statement.{statement}
@@ -24,7 +23,7 @@ cast-result : tie.Need-cast-result
 cast-result c = search needs
 
 returns-2 : tie.Need-returns-2
-returns-2 c = rw (eq-eqb _ _ (sym (c .before .before .before .get-u32 .ensures) ∙ c .before .if1 .left)) (omega (arith, c .get-u322 .ensures))
+returns-2 c = rw (eq-eqb _ _ (sym (c .before .before .before .get-u32 .ensures) ∙ c .before .if1 .left)) (c .get-u322 .ensures)
 
 pub length-in-spec : {M : Type 1} → statement M
 length-in-spec =
