@@ -1,11 +1,12 @@
 -- The writes of a record, one behind the other, are one write of all its bytes. Assumes nothing.
 use mathlib.Core.Path.{_≡_, refl}
-use mathlib.Core.List.{List}
+use mathlib.Core.List.{List, _++_}
 use Prim.Native.Nat.{ℕ, _+_, _-_, _≤_}
 use native.Mathlib.Omega.{arith}
 use native.Mathlib.Nat.{add-assoc}
 use lib.ListN.{length, replicate, length-append}
 use Rattle.kinds.specs.declared.object.Object.{Object}
+use Rattle.kinds.specs.declared.object.Time.{Time}
 use Rattle.spec.specs.Bytes.{overlay, bytesOf}
 use Rattle.spec.specs.Image.{objectStart, timeBytes, headBytes, timesBytes, halvesBytes, objectBytes, putObject, nameBytes}
 use Rattle.image.specs.Text.{nameOf}
@@ -22,10 +23,10 @@ head-run b at v h =
     (overlay-more b at _ _ _ _ 8 (omega arith) refl
     (overlay-more b at _ _ _ _ 4 (omega arith) refl refl refl) refl) refl) refl) refl
 
-pub times-run : (b : List ℕ) (at : ℕ) (v : Object) → at + 24 ≤ length b
-    → overlay (overlay (overlay b at (timeBytes (v .atime))) (at + 8) (timeBytes (v .mtime))) (at + 16) (timeBytes (v .ctime)) ≡ overlay b at (timesBytes v)
-unfolding timesBytes timeBytes bytesOf
-times-run b at v h =
+pub times-run : (b : List ℕ) (at : ℕ) (t u v : Time) → at + 24 ≤ length b
+    → overlay (overlay (overlay b at (timeBytes t)) (at + 8) (timeBytes u)) (at + 16) (timeBytes v) ≡ overlay b at (timeBytes t ++ timeBytes u ++ timeBytes v)
+unfolding timeBytes bytesOf
+times-run b at t u v h =
     overlay-more b at _ _ _ _ 16 (omega arith) refl (overlay-more b at _ _ _ _ 8 (omega arith) refl refl refl) refl
 
 pub object-run : (b : List ℕ) (o : ℕ) (v : Object) → objectStart o + 80 ≤ length b

@@ -1,9 +1,10 @@
 // Object records: read, written, and single fields of one.
 ghost use mathlib.Core.Path.{_≡_};
+ghost use mathlib.Core.List.{_++_};
 ghost use Prim.Native.Nat.{_+_, _<_, _≤_};
 ghost use lib.ListN.{length, getD};
 ghost use Rattle.spec.specs.Bytes.{overlay};
-ghost use Rattle.spec.specs.Image.{objectLength, objectStart, timeAt, timeBytes, halvesAt, halvesBytes, headBytes, timesBytes, objectAt, putObject};
+ghost use Rattle.spec.specs.Image.{objectLength, objectStart, timeAt, timeBytes, halvesAt, halvesBytes, headBytes, objectAt, putObject};
 ghost use Rattle.spec.specs.Room.{isLive, isRegular, isDirectory, sizeOf};
 use crate::counts::object_start;
 use kinds::numbers::BlockNumber;
@@ -67,7 +68,8 @@ pub fn load_object(store: &[u8], o: ObjectNumber) -> Object
     }
 }
 
-fn save_time(store: &mut [u8], at: usize, t: Time)
+// Writes a time.
+pub fn save_time(store: &mut [u8], at: usize, t: Time)
     requires { ⌜ at + 8 ≤ length (now store) ⌝ }
     ensures { λ _. ⌜ now (store .exit) ≡ overlay (now (store .entry)) at (timeBytes t) ⌝ }
 {
@@ -101,15 +103,12 @@ fn save_head(store: &mut [u8], at: usize, v: Object)
 }
 
 // Writes an object's times.
-fn save_times(store: &mut [u8], at: usize, v: Object)
+pub fn save_times(store: &mut [u8], at: usize, atime: Time, mtime: Time, ctime: Time)
     requires { ⌜ at + 24 ≤ length (now store) ⌝ }
-    ensures { λ _. ⌜ now (store .exit) ≡ overlay (now (store .entry)) at (timesBytes v) ⌝ }
+    ensures { λ _. ⌜ now (store .exit) ≡ overlay (now (store .entry)) at (timeBytes atime ++ timeBytes mtime ++ timeBytes ctime) ⌝ }
 {
-    let atime = v.atime;
     save_time(store, at, atime);
-    let mtime = v.mtime;
     save_time(store, at + 8, mtime);
-    let ctime = v.ctime;
     save_time(store, at + 16, ctime);
 }
 
@@ -119,7 +118,10 @@ pub fn save_object(store: &mut [u8], o: ObjectNumber, v: Object)
 {
     let at = object_start(store, o);
     save_head(store, at, v);
-    save_times(store, at + 24, v);
+    let atime = v.atime;
+    let mtime = v.mtime;
+    let ctime = v.ctime;
+    save_times(store, at + 24, atime, mtime, ctime);
     let blocks = v.blocks;
     save_blocks(store, at + 48, blocks);
 }

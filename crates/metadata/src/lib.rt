@@ -4,13 +4,15 @@ ghost use Prim.Native.Nat.{_+_, _≤_};
 ghost use mathlib.Core.List.{_++_};
 ghost use lib.ListN.{length};
 ghost use Rattle.spec.specs.Bytes.{overlay, bytesOf};
-ghost use Rattle.spec.specs.Image.{objectStart, timeBytes};
+ghost use Rattle.spec.specs.Image.{objectStart};
 ghost use Rattle.spec.specs.Edits.{numberSet, timeSet, withAttributes, setAttributes, onlyCtime, mtimeAndCtime};
 use image::counts::object_start;
 use image::object::atime_of;
 use image::object::gid_of;
 use image::object::mode_of;
 use image::object::mtime_of;
+use image::object::save_time;
+use image::object::save_times;
 use image::object::uid_of;
 use kinds::call::SetNumber;
 use kinds::call::SetSize;
@@ -75,24 +77,6 @@ fn save_owner(store: &mut [u8], at: usize, mode: u32, uid: u32, gid: u32)
     wire::put_u32(store, at, mode);
     wire::put_u32(store, at + 4, uid);
     wire::put_u32(store, at + 8, gid);
-}
-
-fn save_time(store: &mut [u8], at: usize, t: Time)
-    requires { ⌜ at + 8 ≤ length (now store) ⌝ }
-    ensures { λ _. ⌜ now (store .exit) ≡ overlay (now (store .entry)) at (timeBytes t) ⌝ }
-{
-    wire::put_u32(store, at, t.seconds);
-    wire::put_u32(store, at + 4, t.nanoseconds);
-}
-
-// Writes the times of an object.
-fn save_times(store: &mut [u8], at: usize, atime: Time, mtime: Time, ctime: Time)
-    requires { ⌜ at + 24 ≤ length (now store) ⌝ }
-    ensures { λ _. ⌜ now (store .exit) ≡ overlay (now (store .entry)) at (timeBytes atime ++ timeBytes mtime ++ timeBytes ctime) ⌝ }
-{
-    save_time(store, at, atime);
-    save_time(store, at + 8, mtime);
-    save_time(store, at + 16, ctime);
 }
 
 // Sets attributes, but for the size. The other bytes of the record stay.

@@ -1,4 +1,4 @@
-use native.Mathlib.Omega.{arith}
+use Rattle.spec.specs.Image.{timesBytes}
 use Rattle.image.proofs.Runs.{object-run}
 use borrow.Author.Needs.{needs}
 use Rattle.image.proofs.object.save_object.Statement.{statement}
@@ -26,13 +26,14 @@ same-length : tie.Need-same-length
 same-length c = search needs
 
 returns : tie.Need-returns
+unfolding timesBytes
 returns c =
-    let st = c .before .before .before .before .before .before .before .before .before .before .before .before .before .before .before .before in
+    let st = c .before .before .before .before .before .before .before .before .before .before .before .before .before .before .before .before .before .before .before in
     rw (
       c .before .before .save-blocks .ensures,
       c .before .before .before .before .before .before .before .save-times .ensures,
-      c .before .before .before .before .before .before .before .before .before .before .before .save-head .ensures,
-      c .before .before .before .before .before .before .before .before .before .before .before .before .before .object-start .ensures,
+      c .before .before .before .before .before .before .before .before .before .before .before .before .before .before .save-head .ensures,
+      c .before .before .before .before .before .before .before .before .before .before .before .before .before .before .before .before .object-start .ensures,
     )
     (object-run (st .args .store .now) (st .args .o .0) (st .args .v) (st .pre))
 

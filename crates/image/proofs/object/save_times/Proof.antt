@@ -1,4 +1,3 @@
-use native.Mathlib.Omega.{arith}
 use Rattle.image.proofs.Runs.{times-run}
 use borrow.Author.Needs.{needs}
 use Rattle.image.proofs.object.save_times.Statement.{statement}
@@ -24,9 +23,9 @@ same-length c = search needs
 
 returns : tie.Need-returns
 returns c =
-    let st = c .before .before .before .before .before .before .before .before .before .before .before .before .before .before .before .before in
-    rw (c .before .before .save-time3 .ensures, c .before .before .before .before .before .before .before .save-time2 .ensures, c .before .before .before .before .before .before .before .before .before .before .before .before .save-time .ensures)
-    (times-run (st .args .store .now) (st .args .at) (st .args .v) (st .pre))
+    let st = c .before .before .before .before .before .before .before .before .before .before .before .before .before in
+    rw (c .before .before .save-time3 .ensures, c .before .before .before .before .before .before .save-time2 .ensures, c .before .before .before .before .before .before .before .before .before .before .save-time .ensures)
+    (times-run (st .args .store .now) (st .args .at) (st .args .atime) (st .args .mtime) (st .args .ctime) (st .pre))
 
 pub save-times-spec : {M : Type 1} → statement M
 save-times-spec =
