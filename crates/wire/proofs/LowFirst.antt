@@ -1,12 +1,12 @@
 -- The laws of numbers with their least significant byte first. Assumes nothing.
-use mathlib.Core.Path.{_≡_, refl, sym, ap, _∙_}
-use mathlib.Core.List.{List, [], _∷_, _++_, reverse, reverse-cons, reverse-reverse}
+use mathlib.Core.Path.{_≡_, sym, ap, _∙_}
+use mathlib.Core.List.{List, [], _∷_, reverse, reverse-cons, reverse-reverse}
 use Prim.Native.Nat.{ℕ, zero, suc, _+_, _*_, _/_, _%_, _≤_, _<_}
 use native.Mathlib.Nat.{div-one}
 use native.Mathlib.Omega.{arith}
 use native.Mathlib.Numerals.{towards-suc}
 use lib.Dec.{lit<}
-use lib.ListN.{length, getD, set, take, drop, length-reverse}
+use lib.ListN.{length, getD, set, drop, length-reverse}
 use lib.Seq.{sets-eq}
 use Rattle.spec.specs.Bytes.{part, overlay, digits, beOf, bytesOf, beAt}
 use Rattle.laws.proofs.Bytes.{part-cons, part-length, part-whole, bytes-length}
@@ -22,6 +22,10 @@ below-reverse (x ∷ xs) f = rw (reverse-cons x xs) (below-append 256 (reverse x
     one zero = f 0
     one (suc k) = lit< tt
 
+below-part : (b : List ℕ) (at w : ℕ) → Below 256 b → Below 256 (part b at w)
+unfolding part
+below-part b at w f = below-take 256 (drop at b) w (lit< tt) (below-drop 256 b at f)
+
 -- the bytes of the number that xs spell with the least significant first are xs in the opposite order
 turned : (w : ℕ) (xs : List ℕ) → length xs ≡ w → Below 256 xs → bytesOf w (lowFirst xs) ≡ reverse xs
 unfolding lowFirst beAt
@@ -35,12 +39,21 @@ pub read-turned : (b : List ℕ) (at w : ℕ) → Below 256 b → at + w ≤ len
 unfolding lowFirst beAt part
 read-turned b at w f h =
     ap (λ (l : List ℕ). beOf (reverse l))
-    (turned w (part b at w) (part-length b at w h) (below-take 256 (drop at b) w (lit< tt) (below-drop 256 b at f)))
+    (turned w (part b at w) (part-length b at w h) (below-part b at w f))
     ∙ ap beOf (reverse-reverse (part b at w))
 
 -- and a number that is turned and then written so has its own bytes
 pub written-turned : (w n : ℕ) → reverse (bytesOf w (lowFirst (bytesOf w n))) ≡ bytesOf w n
 written-turned w n = ap (λ (l : List ℕ). reverse l) (turned w (bytesOf w n) (bytes-length w n) (below-bytes w n)) ∙ reverse-reverse (bytesOf w n)
+
+-- a number that is read so and written so is a copy
+pub word-copied : (src : List ℕ) (from w n : ℕ) (s s′ : List ℕ) (at : ℕ) → Below 256 src → from + w ≤ length src → n ≡ lowFirst (part src from w)
+    → s′ ≡ overlay s at (reverse (bytesOf w n)) → s′ ≡ overlay s at (part src from w)
+unfolding part
+word-copied src from w n s s′ at f h e q =
+    q ∙ ap (λ (k : ℕ). overlay s at (reverse (bytesOf w k))) e
+    ∙ ap (λ (l : List ℕ). overlay s at (reverse l)) (turned w (part src from w) (part-length src from w h) (below-part src from w f))
+    ∙ ap (overlay s at) (reverse-reverse (part src from w))
 
 -- ---- four bytes, as the functions spell them
 pub low-4 : (b : List ℕ) (at : ℕ) → at + 4 ≤ length b

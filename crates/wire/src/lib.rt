@@ -82,44 +82,20 @@ pub fn get_u64(s: &[u8], at: usize) -> u64
     high * 4294967296 + low
 }
 
-// Copies 16 bytes of src from `from` into dst from `at`: all are read before the first is written.
+// Copies 16 bytes of src from `from` into dst from `at`: all are read before the first is written, so that the compiler may move them at once.
 fn copy_sixteen(dst: &mut [u8], at: usize, src: &[u8], from: usize)
     requires { ⌜ at + 16 ≤ length (now dst) ⌝ }
     requires { ⌜ from + 16 ≤ length (now src) ⌝ }
     ensures { λ _. ⌜ now (dst .exit) ≡ overlay (now (dst .entry)) at (part (now (src .entry)) from 16) ⌝ }
 {
-    let a = src[from];
-    let b = src[from + 1];
-    let c = src[from + 2];
-    let d = src[from + 3];
-    let e = src[from + 4];
-    let f = src[from + 5];
-    let g = src[from + 6];
-    let h = src[from + 7];
-    let i = src[from + 8];
-    let j = src[from + 9];
-    let k = src[from + 10];
-    let l = src[from + 11];
-    let m = src[from + 12];
-    let n = src[from + 13];
-    let o = src[from + 14];
-    let p = src[from + 15];
-    dst[at] = a;
-    dst[at + 1] = b;
-    dst[at + 2] = c;
-    dst[at + 3] = d;
-    dst[at + 4] = e;
-    dst[at + 5] = f;
-    dst[at + 6] = g;
-    dst[at + 7] = h;
-    dst[at + 8] = i;
-    dst[at + 9] = j;
-    dst[at + 10] = k;
-    dst[at + 11] = l;
-    dst[at + 12] = m;
-    dst[at + 13] = n;
-    dst[at + 14] = o;
-    dst[at + 15] = p;
+    let a = load_word(src, from);
+    let b = load_word(src, from + 4);
+    let c = load_word(src, from + 8);
+    let d = load_word(src, from + 12);
+    store_word(dst, at, a);
+    store_word(dst, at + 4, b);
+    store_word(dst, at + 8, c);
+    store_word(dst, at + 12, d);
 }
 
 // Copies 64 bytes of src from `from` into dst from `at`.

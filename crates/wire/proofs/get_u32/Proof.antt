@@ -6,20 +6,13 @@ use Prim.Native.Nat.{ℕ}
 use Rattle.wire.proofs.LowFirst.{read-turned}
 use Rattle.wire.proofs.get_u32.Statement.{statement}
 use Rattle.wire.proofs.get_u32.Tie as tie
-use Rattle.wire.proofs.get_u32.Reads as reads
-use Rattle.wire.proofs.get_u32.Lts as lts
-use Rattle.wire.proofs.load_word.Reads as load-word-reads
-use Rattle.wire.proofs.swap_word.Reads as swap-word-reads
 
--- src/lib.rt:58:15
 load-word-requires : tie.Need-load-word-requires
 load-word-requires c κs = search needs
 
--- src/lib.rt:58:5
 swap-word-requires : tie.Need-swap-word-requires
 swap-word-requires c κs = search needs
 
--- src/lib.rt:54:1
 returns : tie.Need-returns
 returns c =
     let start = c .before .before .before in

@@ -6,24 +6,16 @@ use Rattle.spec.specs.Bytes.{overlay, bytesOf}
 use Rattle.wire.proofs.LowFirst.{written-turned}
 use Rattle.wire.proofs.put_u32.Statement.{statement}
 use Rattle.wire.proofs.put_u32.Tie as tie
-use Rattle.wire.proofs.put_u32.Reads as reads
-use Rattle.wire.proofs.put_u32.Lts as lts
-use Rattle.wire.proofs.store_word.Reads as store-word-reads
-use Rattle.wire.proofs.swap_word.Reads as swap-word-reads
 
--- src/lib.rt:75:23
 swap-word-requires : tie.Need-swap-word-requires
 swap-word-requires c κs = search needs
 
--- src/lib.rt:75:5
 store-word-requires : tie.Need-store-word-requires
 store-word-requires c κs = search needs
 
--- src/lib.rt:71:1
 same-length : tie.Need-same-length
 same-length c = search needs
 
--- src/lib.rt:71:1
 returns : tie.Need-returns
 returns c =
     let start = c .before .before .before .before .before .before in

@@ -4,58 +4,43 @@ use lib.ListN.{length-set}
 use Rattle.wire.proofs.LowFirst.{low-stores-4}
 use Rattle.wire.proofs.store_word.Statement.{statement}
 use Rattle.wire.proofs.store_word.Tie as tie
-use Rattle.wire.proofs.store_word.Reads as reads
-use Rattle.wire.proofs.store_word.Lts as lts
 
--- src/lib.rt:47:13
 cast-s : tie.Need-cast-s
 cast-s c = search needs
 
--- src/lib.rt:47:5
 slice-write-s : tie.Need-slice-write-s
 slice-write-s c = search needs
 
--- src/lib.rt:48:17
 cast-s-2 : tie.Need-cast-s-2
 cast-s-2 c = search needs
 
--- src/lib.rt:48:7
 add-s : tie.Need-add-s
 add-s c = search needs
 
--- src/lib.rt:48:5
 slice-write-s-2 : tie.Need-slice-write-s-2
 slice-write-s-2 c = simp length-set (omega arith)
 
--- src/lib.rt:49:17
 cast-s-3 : tie.Need-cast-s-3
 cast-s-3 c = search needs
 
--- src/lib.rt:49:7
 add-s-2 : tie.Need-add-s-2
 add-s-2 c = search needs
 
--- src/lib.rt:49:5
 slice-write-s-3 : tie.Need-slice-write-s-3
 slice-write-s-3 c = simp length-set (omega arith)
 
--- src/lib.rt:50:17
 cast-s-4 : tie.Need-cast-s-4
 cast-s-4 c = search needs
 
--- src/lib.rt:50:7
 add-s-3 : tie.Need-add-s-3
 add-s-3 c = search needs
 
--- src/lib.rt:50:5
 slice-write-s-4 : tie.Need-slice-write-s-4
 slice-write-s-4 c = simp length-set (omega arith)
 
--- src/lib.rt:43:1
 same-length : tie.Need-same-length
 same-length c = search needs
 
--- src/lib.rt:43:1
 returns : tie.Need-returns
 returns c = low-stores-4 (c .args .s .now) (c .args .at) (c .args .w) (c .pre)
 
