@@ -86,10 +86,6 @@ pub record Inside (inside : List ℕ) : Type 0 where
   pub ones : (i : ℕ) → i < 32 → getD inside i 0 ≡ 1
   pub zeros : (i : ℕ) → 32 ≤ i → getD inside i 0 ≡ 0
 
--- r is below every bound that both numbers are below
-pub record Greater (a b r : ℕ) : Type 0 where
-  pub below : (n : ℕ) → ltb r n ≡ ltb a n && ltb b n
-
 -- the n numbers of a map from `from` on are 0 or 1
 pub record AreMarks (map : List ℕ) (from n : ℕ) : Type 0 where
   pub most : (i : ℕ) → i < n → getD map (from + i) 0 ≤ 1

@@ -2,7 +2,8 @@
 ghost use mathlib.Core.Path.{_≡_};
 ghost use mathlib.Core.Bool.{true, _&&_};
 ghost use Prim.Native.Nat.{_+_, _*_, _/_, _≤_, _<_};
-ghost use Rattle.fsck_objects.specs.Objects.{goodFields, goodSizeOf, isUnused, LiveAt, MarkedBy, MarkedTo, ObjectPasses, Counted, Inside, Greater};
+ghost use Rattle.fsck_objects.specs.Objects.{goodFields, goodSizeOf, isUnused, LiveAt, MarkedBy, MarkedTo, ObjectPasses, Counted, Inside};
+ghost use lib.Dec.{ltb};
 ghost use lib.ListN.{length, getD};
 ghost use Rattle.spec.specs.Count.{every};
 ghost use Rattle.spec.specs.Image.{blocks, objects, objectStart, objectAt};
@@ -35,14 +36,20 @@ fn size_of(store: &[u8], o: usize) -> u32
     wire::get_u32(store, 12 + Limit::OBJECT_BYTES * o + 20)
 }
 
-// The greater of two numbers: it is below what both are below.
-fn greater(a: usize, b: usize) -> usize
-    ensures { λ r. ⌜ Greater a b r ⌝ }
+// Whether four numbers are below a limit.
+fn all_below(a: usize, b: usize, c: usize, d: usize, limit: usize) -> bool
+    ensures { λ r. ⌜ r ≡ (ltb a limit && ltb b limit) && (ltb c limit && ltb d limit) ⌝ }
 {
-    if a < b {
-        return b;
+    if a >= limit {
+        return false;
     }
-    a
+    if b >= limit {
+        return false;
+    }
+    if c >= limit {
+        return false;
+    }
+    d < limit
 }
 
 // Whether the size of an object is one that its type may have.
@@ -61,10 +68,13 @@ fn good_times(store: &[u8], o: usize) -> bool
     ensures { λ r. ⌜ r ≡ goodTime (objectAt (now (store .entry)) o .atime) && goodTime (objectAt (now (store .entry)) o .mtime) && goodTime (objectAt (now (store .entry)) o .ctime) ⌝ }
 {
     let at = 12 + Limit::OBJECT_BYTES * o;
-    let atime = wire::get_u32(store, at + 24 + 4) as usize;
-    let mtime = wire::get_u32(store, at + 32 + 4) as usize;
-    let ctime = wire::get_u32(store, at + 40 + 4) as usize;
-    greater(greater(atime, mtime), ctime) < Limit::NANOSECONDS as usize
+    if wire::get_u32(store, at + 24 + 4) >= Limit::NANOSECONDS {
+        return false;
+    }
+    if wire::get_u32(store, at + 32 + 4) >= Limit::NANOSECONDS {
+        return false;
+    }
+    wire::get_u32(store, at + 40 + 4) < Limit::NANOSECONDS
 }
 
 // Whether the numbers and times of a live object, of that type and size, are good.
@@ -116,7 +126,7 @@ fn mark_four(
     let b = block_of(store, o, k + 1);
     let c = block_of(store, o, k + 2);
     let d = block_of(store, o, k + 3);
-    if greater(greater(a, b), greater(c, d)) >= limit {
+    if !all_below(a, b, c, d, limit) {
         return false;
     }
     used[a] = 1;

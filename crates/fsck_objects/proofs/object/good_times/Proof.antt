@@ -1,6 +1,7 @@
+use borrow.Author.Needs.{needs}
+use borrow.Author.Tests.{lt-ltb, le-ltb}
 use Rattle.spec.specs.Check.{goodTime}
 use Rattle.spec.specs.Image.{objectAt, objectFrom, timeAt}
-use borrow.Author.Needs.{needs}
 use Rattle.fsck_objects.proofs.object.good_times.Statement.{statement}
 use Rattle.fsck_objects.proofs.object.good_times.Tie as tie
 
@@ -19,8 +20,9 @@ add-get-u32-2 c = search needs
 get-u32-requires : tie.Need-get-u32-requires
 get-u32-requires c κs = search needs
 
-cast-atime : tie.Need-cast-atime
-cast-atime c = search needs
+returns : tie.Need-returns
+unfolding goodTime objectAt objectFrom timeAt
+returns c = rw (← c .before .get-u32 .ensures, le-ltb _ _ (c .if1 .taken))
 
 add-get-u32-3 : tie.Need-add-get-u32-3
 add-get-u32-3 c = search needs
@@ -31,8 +33,9 @@ add-get-u32-4 c = search needs
 get-u32-requires-2 : tie.Need-get-u32-requires-2
 get-u32-requires-2 c κs = search needs
 
-cast-mtime : tie.Need-cast-mtime
-cast-mtime c = search needs
+returns-2 : tie.Need-returns-2
+unfolding goodTime objectAt objectFrom timeAt
+returns-2 c = rw (← c .before .before .before .get-u32 .ensures, lt-ltb _ _ (c .before .before .if1 .left), ← c .before .get-u322 .ensures, le-ltb _ _ (c .if2 .taken))
 
 add-get-u32-5 : tie.Need-add-get-u32-5
 add-get-u32-5 c = search needs
@@ -43,21 +46,9 @@ add-get-u32-6 c = search needs
 get-u32-requires-3 : tie.Need-get-u32-requires-3
 get-u32-requires-3 c κs = search needs
 
-cast-ctime : tie.Need-cast-ctime
-cast-ctime c = search needs
-
-greater-requires : tie.Need-greater-requires
-greater-requires c κs = search needs
-
-greater-requires-2 : tie.Need-greater-requires-2
-greater-requires-2 c κs = search needs
-
-cast-result : tie.Need-cast-result
-cast-result c = search needs
-
-returns : tie.Need-returns
+returns-3 : tie.Need-returns-3
 unfolding goodTime objectAt objectFrom timeAt
-returns c = rw (c .greater2 .ensures .below 1000000000, c .before .greater .ensures .below 1000000000, c .before .before .before .before .get-u32 .ensures, c .before .before .before .get-u322 .ensures, c .before .before .get-u323 .ensures)
+returns-3 c = rw (← c .before .before .before .before .get-u32 .ensures, lt-ltb _ _ (c .before .before .before .if1 .left), ← c .before .before .get-u322 .ensures, lt-ltb _ _ (c .before .if2 .left), ← c .get-u323 .ensures)
 
 pub good-times-spec : {M : Type 1} → statement M
 good-times-spec =
@@ -68,16 +59,12 @@ good-times-spec =
     add-get-u32
     add-get-u32-2
     get-u32-requires
-    cast-atime
+    returns
     add-get-u32-3
     add-get-u32-4
     get-u32-requires-2
-    cast-mtime
+    returns-2
     add-get-u32-5
     add-get-u32-6
     get-u32-requires-3
-    cast-ctime
-    greater-requires
-    greater-requires-2
-    cast-result
-    returns)
+    returns-3)
