@@ -5,7 +5,7 @@ ghost use lib.ListN.{length};
 ghost use Rattle.kinds.specs.Numbers.{REGULAR};
 ghost use Rattle.spec.specs.Bytes.{part};
 ghost use Rattle.spec.specs.Image.{objects, blocks, objectAt};
-ghost use Rattle.spec.specs.Room.{need, sizeOf};
+ghost use Rattle.spec.specs.Room.{sizeOf};
 ghost use Rattle.spec.specs.Edits.{clearBlocks, clearTail, writeFile};
 ghost use Rattle.laws.proofs.BlockLists.{InRange};
 ghost use Rattle.laws.proofs.GoodRecords.{GoodRecords};
@@ -16,14 +16,6 @@ use image::block::clear_block;
 use kinds::numbers::BlockNumber;
 use kinds::numbers::Limit;
 use kinds::numbers::ObjectNumber;
-
-// How many blocks a size needs.
-pub fn need(size: usize) -> usize
-    requires { ⌜ size ≤ 8192 ⌝ }
-    ensures { λ r. ⌜ r ≡ need size ⌝ }
-{
-    (size + 511) / 512
-}
 
 // Zeroes the blocks from place `start` to place `end` of a list.
 pub fn clear_blocks(store: &mut [u8], numbers: [u16; 16], start: usize, end: usize)

@@ -2,17 +2,17 @@
 use mathlib.Core.Path.{_≡_, refl, sym, ap, _∙_}
 use mathlib.Core.List.{List, [], _∷_, _++_, append-assoc}
 use mathlib.Core.Logic.{_⊎_}
-use Prim.Native.Nat.{ℕ, zero, suc, _+_, _*_, _-_, _/_, _%_, _≤_, _<_}
+use Prim.Native.Nat.{ℕ, zero, suc, _+_, _*_, _-_, _/_, _≤_, _<_}
 use native.Mathlib.Omega.{arith}
 use lib.Dec.{lit<}
 use lib.ListN.{length}
-use Rattle.spec.specs.Bytes.{part, overlay, padding, zeros, beOf, digits, bytesOf, beAt, words, opaqueBytes}
+use Rattle.spec.specs.Bytes.{part, overlay, padding, zeros, bytesOf, beAt, words, opaqueBytes}
 use Rattle.spec.specs.Image.{Store, names, nameStart, nameLength}
 use Rattle.spec.specs.Replies.{entryBytes}
-use Rattle.laws.proofs.Bytes.{part-add, part-length}
+use Rattle.laws.proofs.Bytes.{part-add}
 use Rattle.laws.proofs.GoodRecords.{GoodRecords}
-use Rattle.laws.proofs.Range.{Below}
-use Rattle.laws.proofs.RecordRange.{below-part, below-zeros}
+use Rattle.laws.proofs.Range.{Below, bytes-kept}
+use Rattle.laws.proofs.RecordRange.{below-zeros}
 use Rattle.laws.proofs.Valid.{Padded, GoodNameRecord}
 use Rattle.laws.proofs.Zeros.{zero-within}
 use Rattle.wire.proofs.Copies as copies
@@ -20,29 +20,6 @@ use Rattle.xdr.specs.Wrote.{Wrote}
 use Rattle.xdr.proofs.Wrote.{andThen, andWords}
 use Rattle.directory_contents.specs.Entries.{PaddedName, entry}
 use Rattle.directory_contents.proofs.Hyper.{hyper-small}
-
--- ---- a word that is read and written again is its four bytes
-four : (a b c d : ℕ) → a < 256 → b < 256 → c < 256 → d < 256 → bytesOf 4 (beOf (a ∷ b ∷ c ∷ d ∷ [])) ≡ a ∷ b ∷ c ∷ d ∷ []
-unfolding bytesOf beOf digits
-four a b c d p q r s =
-    let n = (((0 + a) * 256 + b) * 256 + c) * 256 + d in
-    let x : n / 16777216 % 256 ≡ a = omega arith in
-    let y : n / 65536 % 256 ≡ b = omega arith in
-    let z : n / 256 % 256 ≡ c = omega arith in
-    let w : n / 1 % 256 ≡ d = omega arith in
-    λ i. x i ∷ y i ∷ z i ∷ w i ∷ []
-
-bytes-of-four : (xs : List ℕ) → length xs ≡ 4 → Below 256 xs → bytesOf 4 (beOf xs) ≡ xs
-bytes-of-four [] e f = absurd (omega arith)
-bytes-of-four (a ∷ []) e f = absurd (omega arith)
-bytes-of-four (a ∷ b ∷ []) e f = absurd (omega arith)
-bytes-of-four (a ∷ b ∷ c ∷ []) e f = absurd (omega arith)
-bytes-of-four (a ∷ b ∷ c ∷ d ∷ []) e f = four a b c d (f 0) (f 1) (f 2) (f 3)
-bytes-of-four (a ∷ b ∷ c ∷ d ∷ x ∷ xs) e f = absurd (omega arith)
-
-part-word : (b : List ℕ) (at : ℕ) → at + 4 ≤ length b → Below 256 b → bytesOf 4 (beAt b at 4) ≡ part b at 4
-unfolding beAt
-part-word b at h f = bytes-of-four (part b at 4) (part-length b at 4 h) (below-part 256 b at 4 (lit< tt) f)
 
 -- one word more
 pub copy-more : (src : List ℕ) (from i : ℕ) (r : List ℕ) (at : ℕ) (r₁ r₂ : List ℕ) (w : ℕ) → Below 256 src → from + 4 * (i + 1) ≤ length src
@@ -52,7 +29,7 @@ copy-more src from i r at r₁ r₂ w f h k p q o =
     let e : 4 * (i + 1) ≡ 4 * i + 4 = omega arith in
     rw e
     (copies.copy-more r at src from (4 * i) 4 r₁ r₂ (omega arith) (omega arith) p
-    (o ∙ ap (λ (x : List ℕ). overlay r₁ (at + 4 * i) x) (ap (bytesOf 4) q ∙ part-word src (from + 4 * i) (omega arith) f)))
+    (o ∙ ap (λ (x : List ℕ). overlay r₁ (at + 4 * i) x) (ap (bytesOf 4) q ∙ bytes-kept src f 4 (from + 4 * i) (omega arith))))
 
 -- the words of a padded name
 pub padded-words : (n : ℕ) → 4 * ((n + 3) / 4) ≡ n + padding n

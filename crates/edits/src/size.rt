@@ -12,7 +12,6 @@ ghost use Rattle.free_space.specs.Blocks.{UsedMap};
 ghost use Rattle.edits.specs.Sized.{sized};
 use blocks::clear_blocks;
 use blocks::clear_tail;
-use blocks::need;
 use free_space::free_blocks;
 use image::object::load_object;
 use image::object::save_object;
@@ -20,6 +19,7 @@ use image::object::size_of;
 use kinds::numbers::Limit;
 use kinds::numbers::ObjectNumber;
 use kinds::object::Object;
+use places::need;
 
 // The block numbers of a file that had `before` blocks and is to have `after`: the first of its own, then of the added ones, then 65535.
 fn resized_blocks(own: [u16; 16], added: [u16; 16], before: usize, after: usize) -> [u16; 16]

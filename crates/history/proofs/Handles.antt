@@ -1,15 +1,13 @@
 -- Words in bytes, and handles: three words are read again, and twelve bytes are the handle of the three words they spell. Assumes nothing.
 use mathlib.Core.Path.{_≡_, sym, ap, _∙_}
 use mathlib.Core.List.{List, [], _∷_, _++_, append-assoc, append-nil}
-use Prim.Native.Nat.{ℕ, zero, suc, _+_, _*_, _/_, _%_, _≤_, _<_}
+use Prim.Native.Nat.{ℕ, zero, suc, _+_, _*_, _<_}
 use native.Mathlib.Omega.{arith}
-use lib.Dec.{lit<}
 use lib.ListN.{length, getD}
-use Rattle.spec.specs.Bytes.{part, beOf, digits, bytesOf, beAt, words}
-use Rattle.laws.proofs.Bytes.{part-left, part-right, part-whole, part-add, part-length, bytes-length, be-bytes}
+use Rattle.spec.specs.Bytes.{part, beOf, bytesOf, beAt, words}
+use Rattle.laws.proofs.Bytes.{part-left, part-right, part-whole, part-add, bytes-length, be-bytes}
 use Rattle.laws.proofs.Words.{words-length}
-use Rattle.laws.proofs.Range.{Below}
-use Rattle.laws.proofs.RecordRange.{below-part}
+use Rattle.laws.proofs.Range.{Below, bytes-kept}
 use Rattle.history.specs.Book.{handleBytes}
 
 -- word k of words that other bytes may follow
@@ -26,36 +24,13 @@ word-in (w ∷ ws) rest (suc k) l b =
     ∙ part-right (bytesOf 4 w) (words ws ++ rest) 4 (4 * k) 4 (bytes-length 4 w))
     ∙ word-in ws rest k (omega arith) b
 
--- a word's four bytes
-four : (a b c d : ℕ) → a < 256 → b < 256 → c < 256 → d < 256 → bytesOf 4 (beOf (a ∷ b ∷ c ∷ d ∷ [])) ≡ a ∷ b ∷ c ∷ d ∷ []
-unfolding bytesOf beOf digits
-four a b c d p q r s =
-    let n = (((0 + a) * 256 + b) * 256 + c) * 256 + d in
-    let x : n / 16777216 % 256 ≡ a = omega arith in
-    let y : n / 65536 % 256 ≡ b = omega arith in
-    let z : n / 256 % 256 ≡ c = omega arith in
-    let w : n / 1 % 256 ≡ d = omega arith in
-    λ i. x i ∷ y i ∷ z i ∷ w i ∷ []
-
-pub bytes-of-four : (xs : List ℕ) → length xs ≡ 4 → Below 256 xs → bytesOf 4 (beOf xs) ≡ xs
-bytes-of-four [] e f = absurd (omega arith)
-bytes-of-four (a ∷ []) e f = absurd (omega arith)
-bytes-of-four (a ∷ b ∷ []) e f = absurd (omega arith)
-bytes-of-four (a ∷ b ∷ c ∷ []) e f = absurd (omega arith)
-bytes-of-four (a ∷ b ∷ c ∷ d ∷ []) e f = four a b c d (f 0) (f 1) (f 2) (f 3)
-bytes-of-four (a ∷ b ∷ c ∷ d ∷ x ∷ xs) e f = absurd (omega arith)
-
-part-word : (b : List ℕ) (at : ℕ) → at + 4 ≤ length b → Below 256 b → bytesOf 4 (beAt b at 4) ≡ part b at 4
-unfolding beAt
-part-word b at h f = bytes-of-four (part b at 4) (part-length b at 4 h) (below-part 256 b at 4 (lit< tt) f)
-
 -- twelve bytes are the handle of the words that they spell
 pub handle-of : (h : List ℕ) → length h ≡ 12 → Below 256 h → h ≡ handleBytes (beAt h 0 4) (beAt h 4 4) (beAt h 8 4)
 unfolding words
 handle-of h e f =
-    let a = part-word h 0 (omega arith) f in
-    let b = part-word h 4 (omega arith) f in
-    let c = part-word h 8 (omega arith) f in
+    let a = bytes-kept h f 4 0 (omega arith) in
+    let b = bytes-kept h f 4 4 (omega arith) in
+    let c = bytes-kept h f 4 8 (omega arith) in
     sym (part-whole h 12 e) ∙ part-add h 0 4 8 ∙ ap (λ (x : List ℕ). part h 0 4 ++ x) (part-add h 4 4 4)
     ∙ (λ i. sym a i ++ (sym b i ++ sym c i)) ∙ ap (λ (x : List ℕ). bytesOf 4 (beAt h 0 4) ++ (bytesOf 4 (beAt h 4 4) ++ x)) (sym (append-nil (bytesOf 4 (beAt h 8 4))))
 

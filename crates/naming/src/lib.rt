@@ -9,7 +9,6 @@ ghost use Rattle.spec.specs.Procedures.{cut};
 ghost use Rattle.laws.proofs.GoodRecords.{GoodRecords};
 ghost use Rattle.laws.proofs.Valid.{Used};
 use blocks::clear_blocks;
-use blocks::need;
 use image::counts::object_start;
 use image::name::clear_name;
 use image::name::name_child;
@@ -23,6 +22,7 @@ use kinds::numbers::Kind;
 use kinds::numbers::NameNumber;
 use kinds::numbers::ObjectNumber;
 use kinds::object::Object;
+use places::need;
 
 // An object in a record that has been free: the record's generation stays.
 fn with_generation(generation: u32, v: Object) -> Object

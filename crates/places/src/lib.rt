@@ -1,7 +1,8 @@
-// Where records and blocks start, by the counts of a store.
+// Where records and blocks start, by the counts of a store, and how many blocks a size needs.
 ghost use mathlib.Core.Path.{_≡_};
-ghost use Prim.Native.Nat.{_+_, _*_, _<_};
+ghost use Prim.Native.Nat.{_+_, _*_, _≤_, _<_};
 ghost use Rattle.spec.specs.Image.{objectLength, nameRecordLength, blockLength, objectStart};
+ghost use Rattle.spec.specs.Room.{need};
 use kinds::numbers::BlockNumber;
 use kinds::numbers::Limit;
 use kinds::numbers::NameNumber;
@@ -32,4 +33,12 @@ pub fn block_place(p: usize, q: usize, r: BlockNumber) -> usize
 {
     let i = r.0;
     20 + Limit::OBJECT_BYTES * p + Limit::NAME_BYTES * q + Limit::BLOCK_BYTES * i
+}
+
+// How many blocks a size needs.
+pub fn need(size: usize) -> usize
+    requires { ⌜ size ≤ 8192 ⌝ }
+    ensures { λ r. ⌜ r ≡ need size ⌝ }
+{
+    (size + 511) / 512
 }

@@ -21,8 +21,8 @@ use kinds::numbers::Limit;
 use kinds::numbers::NameNumber;
 use kinds::numbers::ObjectNumber;
 use kinds::numbers::Status;
+use places::need;
 use settable::size_set;
-use shown::need;
 
 // A free object record and a free name record, or the status.
 pub enum RoomChecked {

@@ -3,7 +3,6 @@ ghost use mathlib.Core.Path.{_≡_};
 ghost use mathlib.Core.Bool.{true};
 ghost use Prim.Native.Nat.{_<_, _≤_};
 ghost use Rattle.spec.specs.Image.{objects, objectAt};
-ghost use Rattle.spec.specs.Room.{need, sizeOf};
 ghost use Rattle.spec.specs.Handles.{shownSize, usedBytes, linkCount, attributes, before};
 ghost use Rattle.laws.proofs.GoodRecords.{GoodRecords};
 use find::name::subdirectory_count;
@@ -20,14 +19,7 @@ use image::object::uid_of;
 use kinds::numbers::ObjectNumber;
 use kinds::object::Attributes;
 use kinds::object::Before;
-
-// How many blocks a size needs.
-pub fn need(size: usize) -> usize
-    requires { ⌜ size ≤ 8192 ⌝ }
-    ensures { λ r. ⌜ r ≡ need size ⌝ }
-{
-    (size + 511) / 512
-}
+use places::need;
 
 // The size that is shown: a directory's is 512.
 pub fn shown_size(store: &[u8], o: ObjectNumber) -> u32

@@ -6,11 +6,12 @@ use native.Mathlib.Nat.{div-one}
 use native.Mathlib.Omega.{arith}
 use native.Mathlib.Numerals.{towards-suc}
 use lib.Dec.{lit<}
-use lib.ListN.{length, getD, set, drop, length-reverse}
+use lib.ListN.{length, getD, set, length-reverse}
 use lib.Seq.{sets-eq}
 use Rattle.spec.specs.Bytes.{part, overlay, digits, beOf, bytesOf, beAt}
 use Rattle.laws.proofs.Bytes.{part-cons, part-length, part-whole, bytes-length}
-use Rattle.laws.proofs.Range.{Below, below-append, below-drop, below-take, below-bytes, bytes-kept}
+use Rattle.laws.proofs.RecordRange.{below-part}
+use Rattle.laws.proofs.Range.{Below, below-append, below-bytes, bytes-kept}
 use Rattle.wire.specs.LowFirst.{lowFirst}
 
 -- ---- over every width
@@ -21,10 +22,6 @@ below-reverse (x ∷ xs) f = rw (reverse-cons x xs) (below-append 256 (reverse x
     one : Below 256 (x ∷ [])
     one zero = f 0
     one (suc k) = lit< tt
-
-below-part : (b : List ℕ) (at w : ℕ) → Below 256 b → Below 256 (part b at w)
-unfolding part
-below-part b at w f = below-take 256 (drop at b) w (lit< tt) (below-drop 256 b at f)
 
 -- the bytes of the number that xs spell with the least significant first are xs in the opposite order
 turned : (w : ℕ) (xs : List ℕ) → length xs ≡ w → Below 256 xs → bytesOf w (lowFirst xs) ≡ reverse xs
@@ -39,7 +36,7 @@ pub read-turned : (b : List ℕ) (at w : ℕ) → Below 256 b → at + w ≤ len
 unfolding lowFirst beAt part
 read-turned b at w f h =
     ap (λ (l : List ℕ). beOf (reverse l))
-    (turned w (part b at w) (part-length b at w h) (below-part b at w f))
+    (turned w (part b at w) (part-length b at w h) (below-part 256 b at w (lit< tt) f))
     ∙ ap beOf (reverse-reverse (part b at w))
 
 -- and a number that is turned and then written so has its own bytes
@@ -52,7 +49,7 @@ pub word-copied : (src : List ℕ) (from w n : ℕ) (s s′ : List ℕ) (at : �
 unfolding part
 word-copied src from w n s s′ at f h e q =
     q ∙ ap (λ (k : ℕ). overlay s at (reverse (bytesOf w k))) e
-    ∙ ap (λ (l : List ℕ). overlay s at (reverse l)) (turned w (part src from w) (part-length src from w h) (below-part src from w f))
+    ∙ ap (λ (l : List ℕ). overlay s at (reverse l)) (turned w (part src from w) (part-length src from w h) (below-part 256 src from w (lit< tt) f))
     ∙ ap (overlay s at) (reverse-reverse (part src from w))
 
 -- ---- four bytes, as the functions spell them
