@@ -1,15 +1,19 @@
--- A number by the bytes of its field. Assumes nothing.
-use Prim.Native.Nat.{ℕ, _+_, _≤_}
+-- A number by the bytes of its field, and bytes with their padding. Assumes nothing.
+use Prim.Native.Nat.{ℕ, _+_, _≤_, _<_}
 use mathlib.Core.Bool.{Bool, true, false}
 use mathlib.Core.List.{List}
-use mathlib.Core.Path.{_≡_, refl}
-use borrow.Author.Tests.{leb-true}
+use mathlib.Core.Path.{_≡_, refl, sym, ap}
+use mathlib.Core.Logic.{⊎-elim}
+use native.Mathlib.Nat.{add-assoc}
+use native.Mathlib.Omega.{arith}
+use borrow.Author.Tests.{leb-true, le-leb, lt-leb}
 use lib.ListN.{length}
-use lib.Dec.{leb}
-use Rattle.kinds.specs.Reading.{got}
+use lib.Dec.{leb, eqb}
+use Rattle.kinds.specs.Reading.{Read, got, bad, placeOf}
 use Rattle.kinds.specs.declared.call.Part.{Part}
 use Rattle.spec.specs.Bytes.{beAt}
-use Rattle.spec.specs.Xdr.{bind, only-if, number, bytes}
+use Rattle.spec.specs.Xdr.{bind, only-if, placed, number, bytes, pad}
+use Rattle.laws.proofs.Bytes.{lt-or-le}
 use Rattle.laws.proofs.Xdr.{only-if-got}
 
 -- a field whose value is v, by the same field whose value is x
@@ -26,3 +30,36 @@ number-by-bytes n s at = revalued (leb (at + n) (length s)) at (at + n) (record 
 pub bytes-fit : (n : ℕ) (s : List ℕ) (at : ℕ) (p : Part) (q : ℕ) → bytes n s at ≡ got p q → at + n ≤ length s
 unfolding bytes
 bytes-fit n s at p q e = only-if-got (leb (at + n) (length s)) _ _ _ _ e (λ fits made. leb-true _ _ fits)
+
+-- and what follows is behind them
+pub bytes-next : (n : ℕ) (s : List ℕ) (at : ℕ) (p : Part) (q : ℕ) → bytes n s at ≡ got p q → q ≡ at + n
+unfolding bytes
+bytes-next n s at p q e = only-if-got (leb (at + n) (length s)) _ _ _ _ e (λ fits made. sym (ap placeOf made))
+
+-- bytes that were refused do not
+pub bytes-cut : (n : ℕ) (s : List ℕ) (at q : ℕ) → bytes n s at ≡ bad q → length s < at + n
+unfolding bytes
+bytes-cut n s at q e = ⊎-elim (λ (h : length s < at + n). h) (λ (h : at + n ≤ length s). absurd (apart (rw (le-leb _ _ h) at e))) (lt-or-le (length s) (at + n))
+  where
+    apart : {x : Part} {k : ℕ} → _≡_ {A = Read Part} (got x k) (bad q) → ⊥
+    apart e = let z : _≡_ {A = ℕ} 0 1 = cc in omega arith
+
+kept : {A : Type 0} (t : Bool) (q : ℕ) (x : A) → bind {A = Unit {0}} (only-if t q (got tt q)) (λ _ last. got x last) ≡ only-if t q (got x q)
+kept true q x = refl
+kept false q x = refl
+
+-- n bytes with p bytes of padding: where all stand in the call, the padding decides
+pub padded-fits : (n p : ℕ) (s : List ℕ) (at : ℕ) → at + (n + p) ≤ length s
+    → bind (bytes n s at) (λ part next. bind (pad p s next) (λ _ last. got part last))
+    ≡ only-if (eqb (beAt s (at + n) p) 0) (at + (n + p)) (got (record { start = at; length = n }) (at + (n + p)))
+unfolding bytes pad number
+padded-fits n p s at h =
+    rw (← add-assoc at n p, le-leb (at + n) (length s) (omega arith), le-leb (at + n + p) (length s) (omega arith))
+    (kept (eqb (beAt s (at + n) p) 0) (at + n + p) (record { start = at; length = n }))
+
+-- where they do not, they are refused
+pub padded-cut : (n p : ℕ) (s : List ℕ) (at place : ℕ) → length s < at + (n + p)
+    → placed place (bind (bytes n s at) (λ part next. bind (pad p s next) (λ _ last. got part last))) ≡ bad place
+unfolding bytes pad number
+padded-cut n p s at place h =
+    ⊎-elim (λ (k : length s < at + n). rw (lt-leb _ _ k)) (λ (k : at + n ≤ length s). rw (le-leb _ _ k, lt-leb (at + n + p) (length s) (omega arith))) (lt-or-le (length s) (at + n))

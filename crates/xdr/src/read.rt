@@ -5,8 +5,9 @@ ghost use lib.ListN.{length};
 ghost use lib.Dec.{eqb};
 ghost use Rattle.kinds.specs.Reading.{wordOf, longOf, flagOf, partOf, skipOf};
 ghost use Rattle.spec.specs.Bytes.{beAt, padding};
-ghost use Rattle.spec.specs.Xdr.{word, long, choice, flag, bytes, pad, opaque, end};
+ghost use Rattle.spec.specs.Xdr.{word, long, choice, flag, bytes, opaque, end};
 use kinds::call::Cursor;
+use kinds::call::Part;
 use kinds::reading::FlagRead;
 use kinds::reading::LongRead;
 use kinds::reading::PartRead;
@@ -93,22 +94,6 @@ pub fn bytes(s: &[u8], c: Cursor, n: usize) -> PartRead
     field_of(s, at, n)
 }
 
-// n bytes of padding, each of them zero.
-pub fn pad(s: &[u8], c: Cursor, n: usize) -> SkipRead
-    ensures { λ r. ⌜ skipOf r ≡ pad n (now (s .entry)) (c .at) ⌝ }
-{
-    let at = c.at;
-    let answer = field_of(s, at, n);
-    let PartRead::Got(_, next) = answer else {
-        return SkipRead::Bad(answer.place());
-    };
-    if all_zero(s, at, n) {
-        SkipRead::Got(next)
-    } else {
-        SkipRead::Bad(next.at)
-    }
-}
-
 // Variable-length opaque data of at most `most` bytes, with its padding.
 pub fn opaque(s: &[u8], c: Cursor, most: usize) -> PartRead
     ensures { λ r. ⌜ partOf r ≡ opaque most (now (s .entry)) (c .at) ⌝ }
@@ -120,13 +105,15 @@ pub fn opaque(s: &[u8], c: Cursor, most: usize) -> PartRead
     if most < length {
         return PartRead::Bad(c.at);
     }
-    let PartRead::Got(part, c2) = bytes(s, c1, length) else {
+    let rest = padding(length);
+    let PartRead::Got(_, next) = bytes(s, c1, length + rest) else {
         return PartRead::Bad(c.at);
     };
-    let SkipRead::Got(c3) = pad(s, c2, padding(length)) else {
+    let start = c1.at;
+    if !all_zero(s, start + length, rest) {
         return PartRead::Bad(c.at);
-    };
-    PartRead::Got(part, c3)
+    }
+    PartRead::Got(Part { start, length }, next)
 }
 
 // The end of the call: nothing is left over.

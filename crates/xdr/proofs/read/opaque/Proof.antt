@@ -1,6 +1,15 @@
-use borrow.Author.Needs.{needs}
-use borrow.Author.Tests.{le-leb, lt-leb}
+use mathlib.Core.Bool.{true, false}
+use mathlib.Core.Path.{_≡_, sym, ap, _∙_}
+use Prim.Native.Nat.{ℕ, _+_, _≤_, _<_}
+use native.Mathlib.Omega.{arith}
+use lib.Dec.{eqb}
+use lib.ListN.{length}
+use borrow.Author.Tests.{le-leb, lt-leb, not-true, not-false}
+use Rattle.kinds.specs.Reading.{partOf}
+use Rattle.spec.specs.Bytes.{beAt, padding}
 use Rattle.spec.specs.Xdr.{opaque}
+use Rattle.xdr.proofs.Fields.{bytes-fit, bytes-next, bytes-cut, padded-fits, padded-cut}
+use borrow.Author.Needs.{needs}
 use Rattle.xdr.proofs.read.opaque.Statement.{statement}
 use Rattle.xdr.proofs.read.opaque.Tie as tie
 
@@ -24,38 +33,72 @@ returns-2 : tie.Need-returns-2
 unfolding opaque
 returns-2 c = rw (← c .before .before .before .before .word .ensures, c .before .before .n .given .1, lt-leb _ _ (c .if1 .taken))
 
+padding-requires : tie.Need-padding-requires
+padding-requires c κs = search needs
+
+add-bytes : tie.Need-add-bytes
+add-bytes c = search needs
+
 bytes-requires : tie.Need-bytes-requires
 bytes-requires c κs = search needs
 
-enum-known-part : tie.Need-enum-known-part
-enum-known-part c = search needs
+enum-known-next : tie.Need-enum-known-next
+enum-known-next c = search needs
 
 enum-told-2 : tie.Need-enum-told-2
 enum-told-2 c = search needs
 
 returns-3 : tie.Need-returns-3
 unfolding opaque
-returns-3 c = rw (← c .before .before .before .before .before .before .before .word .ensures, c .before .before .before .before .before .n .given .1, le-leb _ _ (c .before .before .before .if1 .left), ← c .before .before .bytes .ensures, c .enum-told2 .given .1)
+returns-3 c =
+    let a = c .before .before .before .before .before .before .before .before .before .before .args in
+    let s = a .s .now in
+    let n = c .before .before .before .before .before .before .n .given .0 .0 in
+    let at = c .before .before .before .before .before .before .n .given .0 .1 .0 .at in
+    let cut : length s < at + (n + padding n) = omega (arith, bytes-cut _ s at _ (sym (c .before .before .bytes .ensures) ∙ ap partOf (c .enum-told2 .given .1)), c .before .before .before .padding .ensures) in
+    rw (← c .before .before .before .before .before .before .before .before .word .ensures, c .before .before .before .before .before .before .n .given .1, le-leb _ _ (c .before .before .before .before .if1 .left)) (sym (padded-cut n (padding n) s at (a .c .at) cut))
 
-padding-requires : tie.Need-padding-requires
-padding-requires c κs = search needs
+add-all-zero : tie.Need-add-all-zero
+add-all-zero c =
+    let a = c .before .before .before .before .before .before .before .before .before .before .before .args in
+    let s = a .s .now in
+    let n = c .before .before .before .before .before .before .before .n .given .0 .0 in
+    let at = c .before .before .before .before .before .before .before .n .given .0 .1 .0 .at in
+    omega (arith, bytes-fit _ s at _ _ (sym (c .before .before .before .bytes .ensures) ∙ ap partOf (c .before .next .given .1)))
 
-pad-requires : tie.Need-pad-requires
-pad-requires c κs = search needs
-
-enum-known-c3 : tie.Need-enum-known-c3
-enum-known-c3 c = search needs
-
-enum-told-3 : tie.Need-enum-told-3
-enum-told-3 c = search needs
+all-zero-requires : tie.Need-all-zero-requires
+all-zero-requires c κs =
+    let a = c .before .before .before .before .before .before .before .before .before .before .before .args in
+    let s = a .s .now in
+    let n = c .before .before .before .before .before .before .before .n .given .0 .0 in
+    let at = c .before .before .before .before .before .before .before .n .given .0 .1 .0 .at in
+    omega (arith, bytes-fit _ s at _ _ (sym (c .before .before .before .bytes .ensures) ∙ ap partOf (c .before .next .given .1)))
 
 returns-4 : tie.Need-returns-4
 unfolding opaque
-returns-4 c = rw (← c .before .before .before .before .before .before .before .before .before .before .before .before .word .ensures, c .before .before .before .before .before .before .before .before .before .before .n .given .1, le-leb _ _ (c .before .before .before .before .before .before .before .before .if1 .left), ← c .before .before .before .before .before .before .before .bytes .ensures, c .before .before .before .before .before .part .given .1, ← c .before .before .before .padding .ensures, ← c .before .before .pad .ensures, c .enum-told3 .given .1)
+returns-4 c =
+    let a = c .before .before .before .before .before .before .before .before .before .before .before .before .before .args in
+    let s = a .s .now in
+    let n = c .before .before .before .before .before .before .before .before .before .n .given .0 .0 in
+    let at = c .before .before .before .before .before .before .before .before .before .n .given .0 .1 .0 .at in
+    let fits : at + (n + padding n) ≤ length s = omega (arith, bytes-fit _ s at _ _ (sym (c .before .before .before .before .before .bytes .ensures) ∙ ap partOf (c .before .before .before .next .given .1)), c .before .before .before .before .before .before .padding .ensures) in
+    let zero : eqb (beAt s (at + n) (padding n)) 0 ≡ false =
+    ap (λ (p : ℕ). eqb (beAt s (at + n) p) 0) (sym (c .before .before .before .before .before .before .padding .ensures)) ∙ sym (c .before .all-zero .ensures) ∙ not-true _ (c .if2 .taken) in
+    rw (← c .before .before .before .before .before .before .before .before .before .before .before .word .ensures, c .before .before .before .before .before .before .before .before .before .n .given .1, le-leb _ _ (c .before .before .before .before .before .before .before .if1 .left), padded-fits n (padding n) s at fits, zero)
 
 returns-5 : tie.Need-returns-5
 unfolding opaque
-returns-5 c = rw (← c .before .before .before .before .before .before .before .before .before .before .before .before .before .word .ensures, c .before .before .before .before .before .before .before .before .before .before .before .n .given .1, le-leb _ _ (c .before .before .before .before .before .before .before .before .before .if1 .left), ← c .before .before .before .before .before .before .before .before .bytes .ensures, c .before .before .before .before .before .before .part .given .1, ← c .before .before .before .before .padding .ensures, ← c .before .before .before .pad .ensures, c .before .c3 .given .1)
+returns-5 c =
+    let a = c .before .before .before .before .before .before .before .before .before .before .before .before .before .args in
+    let s = a .s .now in
+    let n = c .before .before .before .before .before .before .before .before .before .n .given .0 .0 in
+    let at = c .before .before .before .before .before .before .before .before .before .n .given .0 .1 .0 .at in
+    let fits : at + (n + padding n) ≤ length s = omega (arith, bytes-fit _ s at _ _ (sym (c .before .before .before .before .before .bytes .ensures) ∙ ap partOf (c .before .before .before .next .given .1)), c .before .before .before .before .before .before .padding .ensures) in
+    let zero : eqb (beAt s (at + n) (padding n)) 0 ≡ true =
+    ap (λ (p : ℕ). eqb (beAt s (at + n) p) 0) (sym (c .before .before .before .before .before .before .padding .ensures)) ∙ sym (c .before .all-zero .ensures) ∙ not-false _ (c .if2 .left) in
+    let behind : c .before .before .before .next .given .0 .1 .0 .at ≡ at + (n + padding n) =
+    omega (arith, bytes-next _ s at _ _ (sym (c .before .before .before .before .before .bytes .ensures) ∙ ap partOf (c .before .before .before .next .given .1)), c .before .before .before .before .before .before .padding .ensures) in
+    rw (← c .before .before .before .before .before .before .before .before .before .before .before .word .ensures, c .before .before .before .before .before .before .before .before .before .n .given .1, le-leb _ _ (c .before .before .before .before .before .before .before .if1 .left), padded-fits n (padding n) s at fits, zero, behind)
 
 pub opaque-spec : {M : Type 1} → statement M
 opaque-spec =
@@ -67,13 +110,13 @@ opaque-spec =
     returns
     cast-length
     returns-2
+    padding-requires
+    add-bytes
     bytes-requires
-    enum-known-part
+    enum-known-next
     enum-told-2
     returns-3
-    padding-requires
-    pad-requires
-    enum-known-c3
-    enum-told-3
+    add-all-zero
+    all-zero-requires
     returns-4
     returns-5)
