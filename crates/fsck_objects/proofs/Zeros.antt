@@ -1,18 +1,17 @@
 -- The laws of bytes that are zero. Assumes nothing.
 use mathlib.Core.Path.{_≡_, refl, sym, ap, _∙_}
-use mathlib.Core.Bool.{Bool, true, false, _&&_, _||_, not, and-false}
+use mathlib.Core.Bool.{Bool, true, false, _&&_, _||_, not}
 use mathlib.Core.List.{List, [], _∷_, _++_}
 use Prim.Native.Nat.{ℕ, zero, _+_, _-_, _*_, _≤_, _<_}
 use native.Mathlib.Omega.{arith}
 use native.Mathlib.Numerals.{add-one}
-use mathlib.Core.Logic.{⊎-elim}
-use lib.Dec.{eqb, ltb}
+use lib.Dec.{eqb}
 use lib.ListN.{length, getD}
-use borrow.Author.Tests.{eqb-true, eq-eqb, lt-ltb, le-ltb}
+use borrow.Author.Tests.{eqb-true, eq-eqb}
 use Rattle.spec.specs.Bytes.{part, digits, beOf, beAt, allBytes}
 use Rattle.spec.specs.Check.{isZero}
 use Rattle.spec.specs.Count.{every}
-use Rattle.laws.proofs.Bytes.{lt-or-le, part-add, part-snoc}
+use Rattle.laws.proofs.Bytes.{part-add, part-snoc}
 use Rattle.laws.proofs.Count.{and-both}
 
 pub and-true : (t : Bool) → t && true ≡ t
@@ -35,15 +34,6 @@ remember seen wrong all good e f = rw (not-or seen wrong, e, f)
 pub every-next : (p : ℕ → Bool) (i : ℕ) → every (i + 1) p ≡ every i p && p i
 unfolding every
 every-next p i = rw add-one
-
--- the greater of two numbers, by a bound
-pub greater-right : (a b : ℕ) → a < b → (n : ℕ) → ltb b n ≡ ltb a n && ltb b n
-greater-right a b h n =
-    ⊎-elim (λ (l : b < n). rw (lt-ltb b n l, lt-ltb a n (omega arith))) (λ (l : n ≤ b). rw (le-ltb b n l) (sym (and-false (ltb a n)))) (lt-or-le b n)
-
-pub greater-left : (a b : ℕ) → b ≤ a → (n : ℕ) → ltb a n ≡ ltb a n && ltb b n
-greater-left a b h n =
-    ⊎-elim (λ (l : a < n). rw (lt-ltb a n l, lt-ltb b n (omega arith))) (λ (l : n ≤ a). rw (le-ltb a n l)) (lt-or-le a n)
 
 pub and-assoc : (t u v : Bool) → t && (u && v) ≡ t && u && v
 and-assoc true u v = refl

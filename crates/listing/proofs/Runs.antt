@@ -75,10 +75,6 @@ module _ (s : Store) (d n at : ℕ) (p : at ≡ nameStart s n) where
       (λ t. (in-same true t ∙ and-true (isUsedName s n) ∙ true-used s n (omega (arith, length-same t)), length-same t))
       (λ t. absurd (omega (arith, length-none t)))
 
-pub length-at : (s : Store) (n at : ℕ) → at ≡ nameStart s n → beAt s (at + 8) 4 ≡ nameLength s n
-unfolding nameLength
-length-at s n at p = rw p
-
 pub named-here : (s : Store) (d n at long : ℕ) → GoodRecords s → n < names s → at ≡ nameStart s n → long ≡ lengthIn s at d → 0 < long
     → (isIn s d n ≡ true) × (long ≡ length (nameAt s n .text)) × (long ≤ 32)
 named-here s d n at long g l p q z =
