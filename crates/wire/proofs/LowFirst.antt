@@ -31,13 +31,14 @@ turned w xs l f =
     let whole = part-whole (reverse xs) w long in
     ap (λ (l : List ℕ). bytesOf w (beOf l)) (sym whole) ∙ bytes-kept (reverse xs) (below-reverse xs f) w 0 (omega arith) ∙ whole
 
+turned-part : (b : List ℕ) (at w : ℕ) → Below 256 b → at + w ≤ length b → bytesOf w (lowFirst (part b at w)) ≡ reverse (part b at w)
+unfolding part
+turned-part b at w f h = turned w (part b at w) (part-length b at w h) (below-part 256 b at w (lit< tt) f)
+
 -- so a number that is read so and then turned is the one at that place
 pub read-turned : (b : List ℕ) (at w : ℕ) → Below 256 b → at + w ≤ length b → lowFirst (bytesOf w (lowFirst (part b at w))) ≡ beAt b at w
-unfolding lowFirst beAt part
-read-turned b at w f h =
-    ap (λ (l : List ℕ). beOf (reverse l))
-    (turned w (part b at w) (part-length b at w h) (below-part 256 b at w (lit< tt) f))
-    ∙ ap beOf (reverse-reverse (part b at w))
+unfolding lowFirst beAt
+read-turned b at w f h = ap (λ (l : List ℕ). beOf (reverse l)) (turned-part b at w f h) ∙ ap beOf (reverse-reverse (part b at w))
 
 -- and a number that is turned and then written so has its own bytes
 pub written-turned : (w n : ℕ) → reverse (bytesOf w (lowFirst (bytesOf w n))) ≡ bytesOf w n
@@ -46,10 +47,9 @@ written-turned w n = ap (λ (l : List ℕ). reverse l) (turned w (bytesOf w n) (
 -- a number that is read so and written so is a copy
 pub word-copied : (src : List ℕ) (from w n : ℕ) (s s′ : List ℕ) (at : ℕ) → Below 256 src → from + w ≤ length src → n ≡ lowFirst (part src from w)
     → s′ ≡ overlay s at (reverse (bytesOf w n)) → s′ ≡ overlay s at (part src from w)
-unfolding part
 word-copied src from w n s s′ at f h e q =
     q ∙ ap (λ (k : ℕ). overlay s at (reverse (bytesOf w k))) e
-    ∙ ap (λ (l : List ℕ). overlay s at (reverse l)) (turned w (part src from w) (part-length src from w h) (below-part 256 src from w (lit< tt) f))
+    ∙ ap (λ (l : List ℕ). overlay s at (reverse l)) (turned-part src from w f h)
     ∙ ap (overlay s at) (reverse-reverse (part src from w))
 
 -- ---- four bytes, as the functions spell them

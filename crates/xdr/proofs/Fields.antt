@@ -44,10 +44,6 @@ bytes-cut n s at q e = ⊎-elim (λ (h : length s < at + n). h) (λ (h : at + n 
     apart : {x : Part} {k : ℕ} → _≡_ {A = Read Part} (got x k) (bad q) → ⊥
     apart e = let z : _≡_ {A = ℕ} 0 1 = cc in omega arith
 
-kept : {A : Type 0} (t : Bool) (q : ℕ) (x : A) → bind {A = Unit {0}} (only-if t q (got tt q)) (λ _ last. got x last) ≡ only-if t q (got x q)
-kept true q x = refl
-kept false q x = refl
-
 -- n bytes with p bytes of padding: where all stand in the call, the padding decides
 pub padded-fits : (n p : ℕ) (s : List ℕ) (at : ℕ) → at + (n + p) ≤ length s
     → bind (bytes n s at) (λ part next. bind (pad p s next) (λ _ last. got part last))
@@ -55,7 +51,7 @@ pub padded-fits : (n p : ℕ) (s : List ℕ) (at : ℕ) → at + (n + p) ≤ len
 unfolding bytes pad number
 padded-fits n p s at h =
     rw (← add-assoc at n p, le-leb (at + n) (length s) (omega arith), le-leb (at + n + p) (length s) (omega arith))
-    (kept (eqb (beAt s (at + n) p) 0) (at + n + p) (record { start = at; length = n }))
+    (sym (revalued {A = Unit {0}} (eqb (beAt s (at + n) p) 0) (at + n + p) (at + n + p) tt (record { start = at; length = n })))
 
 -- where they do not, they are refused
 pub padded-cut : (n p : ℕ) (s : List ℕ) (at place : ℕ) → length s < at + (n + p)
