@@ -18,7 +18,7 @@ use Rattle.spec.specs.Procedures.{cut}
 use Rattle.spec.specs.Procedures.Attributes.{isGiven, sizeSet, badAttributes, differs}
 use Rattle.spec.specs.Procedures.Data.{mostBytes, reachRegular}
 use Rattle.spec.specs.Procedures.Names.{checkNew}
-use Rattle.spec.specs.Room.{isRegular, isDirectory, sizeOf, findName}
+use Rattle.spec.specs.Room.{isDirectory, sizeOf, findName}
 use Rattle.laws.proofs.Count.{true-false}
 use Rattle.laws.proofs.Passed.{Reached, reach-passed, directory-passed, regular-passed}
 use Rattle.laws.proofs.Range.{Below}
