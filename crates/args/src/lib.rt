@@ -84,18 +84,3 @@ pub fn next_arguments<'a>(r: Reader<'a>, procedure: u32) -> ArgumentsRead
 {
     arguments_at(r.call, r.at, procedure)
 }
-
-// The arguments at a place of a call, by a reader that is made there.
-pub fn arguments_of(call: &[u8], at: usize, procedure: u32) -> ArgumentsRead
-    ensures { λ t. ⌜ argumentsOf t ≡ arguments procedure (now (call .entry)) at ⌝ }
-{
-    next_arguments(reader::new(call, at), procedure)
-}
-
-// The arguments at a cursor.
-pub fn arguments(s: &[u8], c: Cursor, procedure: u32) -> ArgumentsRead
-    ensures { λ r. ⌜ argumentsOf r ≡ arguments procedure (now (s .entry)) (c .at) ⌝ }
-{
-    let at = c.at;
-    arguments_of(s, at, procedure)
-}

@@ -33,8 +33,8 @@ pub extern "C" fn nfs3_call(
     let opened = open(call, store, reply, context, &mut used);
     match opened {
         Opened::Refused(number) => Answer { number, length: 0 },
-        Opened::Heard(h, c) => {
-            let length = respond(store, reply, &used, context, call, h, c);
+        Opened::Heard(h, c, read) => {
+            let length = respond(store, reply, &used, context, call, h, c, read);
             Answer {
                 number: Answer::DONE,
                 length,

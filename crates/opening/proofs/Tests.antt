@@ -25,6 +25,10 @@ use Rattle.fsck.specs.Found.{countsOf, foundIf}
 use Rattle.fsck.specs.declared.shape.Counts.{Counts}
 use Rattle.fsck.specs.declared.shape.Found.the-variants.{Bad, Good}
 use Rattle.free_space.specs.Blocks.{UsedMap}
+use Rattle.rpc.specs.Meaning.{procedureOf}
+use Rattle.args_end.specs.declared.reading.ArgumentsRead.{ArgumentsRead}
+use Rattle.args.specs.Reading.{argumentsOf}
+use Rattle.calls.specs.After.{argumentsAfter}
 use Rattle.opening.specs.Opens.{Hears}
 
 -- ---- the check
@@ -79,11 +83,13 @@ module _ (call : List ℕ) (s : Store) (space : List ℕ) (c : Context) where
           unfolding serve goodTime
           heard h at q = rw (le-ltb (length space) 4224 a, lt-ltb (c .clock .nanoseconds) 1000000000 b, le-ltb 8192 (length call) d, e, q)
 
-          pub hears : (used : List ℕ) (h : Header) (at : ℕ) → header call 0 ≡ got h at → checked.UsedMap s used → Below 256 s
-              → GoodClock (c .clock) → Hears call s space c used h at
-          hears used h at q m w k =
+          pub hears : (used : List ℕ) (h : Header) (at : ℕ) (x : ArgumentsRead) → header call 0 ≡ got h at → argumentsOf x ≡ argumentsAfter call (header call 0)
+              → checked.UsedMap s used → Below 256 s → GoodClock (c .clock) → Hears call s space c used h at x
+          unfolding procedureOf
+          hears used h at x q y m w k =
               record {
                 serves = heard h at q;
                 room = a;
                 ready = record { valid = valid s e; bytes = w; map = used-map s used m; count = refl; clock = k };
+                read = rw q at y;
               }

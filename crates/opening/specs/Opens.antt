@@ -5,20 +5,26 @@ use mathlib.Core.Path.{_≡_}
 use lib.ListN.{length}
 use Rattle.kinds.specs.declared.call.Header.{Header}
 use Rattle.kinds.specs.declared.object.Context.{Context}
+use Rattle.spec.specs.Arguments.{arguments}
 use Rattle.spec.specs.Image.{Store}
 use Rattle.spec.specs.Room.{freeBlockCount}
 use Rattle.spec.specs.Serve.{refuse, send, respond, serve}
 use Rattle.changes.specs.Ready.{Ready}
+use Rattle.rpc.specs.Meaning.{namedProcedure}
+use Rattle.args_end.specs.declared.reading.ArgumentsRead.{ArgumentsRead}
+use Rattle.args.specs.Reading.{argumentsOf}
 use Rattle.opening.specs.declared.Opened.{Opened}
 use Rattle.opening.specs.declared.Opened.the-variants as Opened
 
--- every test passed, and the call is answered by its header: what its procedure asks of the store, the map and the clock holds
-pub record Hears (call : List ℕ) (s : Store) (space : List ℕ) (c : Context) (used : List ℕ) (h : Header) (at : ℕ) : Type 0 where
+-- every test passed, and the call is answered by its header, which ends at `at`, and by what was read of the arguments there: what its
+-- procedure asks of the store, the map and the clock holds
+pub record Hears (call : List ℕ) (s : Store) (space : List ℕ) (c : Context) (used : List ℕ) (h : Header) (at : ℕ) (a : ArgumentsRead) : Type 0 where
   pub serves : serve call s space c ≡ send space (respond s c call h at)
   pub room : 4224 ≤ length space
   pub ready : Ready s used (freeBlockCount s) c
+  pub read : argumentsOf a ≡ arguments (namedProcedure h) call at
 
 -- the call is refused with a number, or heard
 abbrev pub Opens : List ℕ → Store → List ℕ → Context → List ℕ → Opened → Type 0
 Opens call s space c used (Opened.Refused number) = serve call s space c ≡ refuse number space s
-Opens call s space c used (Opened.Heard h at) = Hears call s space c used h (at .at)
+Opens call s space c used (Opened.Heard h at a) = Hears call s space c used h (at .at) a

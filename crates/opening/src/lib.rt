@@ -1,6 +1,8 @@
 // The tests of a call before anything is written.
 ghost use Rattle.fsck_objects.specs.Objects.{Blank};
 ghost use Rattle.opening.specs.Opens.{Opens};
+use args::reading::ArgumentsRead;
+use calls::read_call;
 use fsck::check::check_store;
 use fsck::shape::Found;
 use kinds::call::Cursor;
@@ -9,12 +11,11 @@ use kinds::numbers::Answer;
 use kinds::numbers::Limit;
 use kinds::object::Context;
 use rpc::header::HeaderRead;
-use rpc::header::header;
 
-// What the tests find of a call: the number of the answer that refuses it, or its header and where its arguments start.
+// What the tests find of a call: the number of the answer that refuses it, or its header, where that ends, and its arguments.
 pub enum Opened {
     Refused(u32),
-    Heard(Header, Cursor),
+    Heard(Header, Cursor, ArgumentsRead),
 }
 
 // Tests the reply space, the clock, the call's length, the store and the header, in this order. `used` is a map of
@@ -44,9 +45,11 @@ pub fn open(
     let Found::Good(_) = found else {
         return Opened::Refused(Answer::STORE);
     };
-    let read = header(call, Cursor { at: 0 });
+    let whole = read_call(call, 0);
+    let read = whole.header;
+    let arguments = whole.arguments;
     let HeaderRead::Got(h, at) = read else {
         return Opened::Refused(Answer::HEADER);
     };
-    Opened::Heard(h, at)
+    Opened::Heard(h, at, arguments)
 }

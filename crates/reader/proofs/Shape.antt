@@ -41,16 +41,6 @@ taking f w τ = record {
 abbrev pub passedTy : Ty
 passedTy = tyStruct (38 ∷ 91 ∷ 93 ∷ []) (tcons (tyRef (named 0) imm (tyInt w8)) (tcons (tyInt w64) tnil))
 
--- `fn name(s: &[u8], at: usize, m) -> τ { f(new(s, at), m) }`
-abbrev pub making : Name → Width → Ty → Fn
-making f w τ = record {
-  lifetimes = 1;
-  outlives = [];
-  params = 3;
-  locals = local τ valueLocal ∷ local passedTy valueLocal ∷ local (tyInt w64) valueLocal ∷ local (tyInt w) valueLocal ∷ local (T′.mir erased) valueLocal ∷ [];
-  body = seq (call #new (copy (place 1 []) ∷ copy (place 2 []) ∷ []) (place 4 [])) (seq (call f (copy (place 4 []) ∷ copy (place 3 []) ∷ []) (place 0 [])) return);
-}
-
 -- `fn name(s: &[u8], at: usize, m) -> R`
 abbrev pub onSlice : Width → RattleType → Ended
 onSlice w R = record {
@@ -91,8 +81,8 @@ takingAlone f τ = record {
 }
 
 -- `fn name(s: &[u8], at: usize) -> τ { f(new(s, at)) }`
-abbrev pub makingAlone : Name → Ty → Fn
-makingAlone f τ = record {
+abbrev pub making : Name → Ty → Fn
+making f τ = record {
   lifetimes = 1;
   outlives = [];
   params = 2;

@@ -3,6 +3,7 @@ use Prim.Native.Nat.{ℕ}
 use Rattle.kinds.specs.Reading.{Read, got, bad}
 use Rattle.kinds.specs.declared.call.Credential.{Credential}
 use Rattle.kinds.specs.declared.call.Header.{Header}
+use Rattle.kinds.specs.declared.call.Header.the-variants as Header
 use Rattle.spec.specs.Checked.{Checked, refused, passed}
 use Rattle.spec.specs.Rpc as Rpc
 use Rattle.rpc.specs.declared.header.CredentialRead.{CredentialRead}
@@ -20,6 +21,15 @@ credentialOf (C.Bad p) = bad p
 abbrev pub headerOf : HeaderRead → Read Header
 headerOf (H.Got x c) = got x (c .at)
 headerOf (H.Bad p) = bad p
+
+-- the number of the procedure that a header names; 22, which no procedure has, where it names none
+abbrev pub namedProcedure : Header → ℕ
+namedProcedure (Header.Call h) = h .procedure
+namedProcedure (Header.OtherVersion xid) = 22
+
+unfoldable pub procedureOf : Read Header → ℕ
+procedureOf (got h p) = namedProcedure h
+procedureOf (bad p) = 22
 
 -- an accept_stat, or that the procedure runs
 abbrev pub judgedOf : Judged → Checked (Unit {0})

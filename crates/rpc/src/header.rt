@@ -2,19 +2,23 @@
 ghost use mathlib.Core.Path.{_≡_};
 ghost use Rattle.kinds.specs.Reading.{placeOf};
 ghost use Rattle.spec.specs.Header.{credential, callHeader, header};
-ghost use Rattle.rpc.specs.Meaning.{credentialOf, headerOf};
+ghost use Rattle.rpc.specs.Meaning.{credentialOf, headerOf, procedureOf};
 use kinds::call::CallHeader;
 use kinds::call::Credential;
 use kinds::call::Cursor;
 use kinds::call::Header;
 use kinds::numbers::Limit;
 use kinds::numbers::Message;
+use kinds::numbers::Procedure;
 use kinds::reading::PartRead;
 use kinds::reading::WordRead;
 use reader::Reader;
 use xdr::read::choice;
 use xdr::read::opaque;
 use xdr::read::word;
+
+// A number that no procedure has.
+const NO_PROCEDURE: u32 = Procedure::COMMIT + 1;
 
 pub enum CredentialRead {
     Got(Credential, Cursor),
@@ -36,6 +40,31 @@ impl CredentialRead {
 pub enum HeaderRead {
     Got(Header, Cursor),
     Bad(usize),
+}
+
+impl HeaderRead {
+    // The place of a refusal; where there is none, where reading goes on.
+    pub fn place(self) -> usize
+        ensures { λ r. ⌜ r ≡ placeOf (headerOf self) ⌝ }
+    {
+        match self {
+            HeaderRead::Got(_, c) => c.at,
+            HeaderRead::Bad(place) => place,
+        }
+    }
+
+    // The number of the procedure that the header names, or one that no procedure has.
+    pub fn procedure(self) -> u32
+        ensures { λ r. ⌜ r ≡ procedureOf (headerOf self) ⌝ }
+    {
+        let HeaderRead::Got(header, _) = self else {
+            return NO_PROCEDURE;
+        };
+        match header {
+            Header::Call(c) => c.procedure,
+            Header::OtherVersion(_) => NO_PROCEDURE,
+        }
+    }
 }
 
 // A credential or a verifier: its flavor, and a body of at most 400 bytes.
@@ -117,19 +146,4 @@ pub fn next_header<'a>(r: Reader<'a>) -> HeaderRead
     ensures { λ t. ⌜ headerOf t ≡ header (now (r .entry .call)) (r .entry .at) ⌝ }
 {
     header_at(r.call, r.at)
-}
-
-// The header at a place of a call, by a reader that is made there.
-pub fn header_of(call: &[u8], at: usize) -> HeaderRead
-    ensures { λ t. ⌜ headerOf t ≡ header (now (call .entry)) at ⌝ }
-{
-    next_header(reader::new(call, at))
-}
-
-// The header at a cursor.
-pub fn header(s: &[u8], c: Cursor) -> HeaderRead
-    ensures { λ r. ⌜ headerOf r ≡ header (now (s .entry)) (c .at) ⌝ }
-{
-    let at = c.at;
-    header_of(s, at)
 }

@@ -1,4 +1,5 @@
 // The reply to a call, written once every test has passed.
+ghost use mathlib.Core.Path.{_≡_};
 ghost use Prim.Native.Nat.{_≤_};
 ghost use lib.ListN.{length};
 ghost use Rattle.spec.specs.Arguments.{arguments};
@@ -9,9 +10,10 @@ ghost use Rattle.spec.specs.Serve.{finish, perform, answer, respond};
 ghost use Rattle.laws.proofs.ArgumentRange.{FitsArguments};
 ghost use Rattle.laws.proofs.Arguments.{Within};
 ghost use Rattle.xdr.specs.Wrote.{Wrote};
+ghost use Rattle.rpc.specs.Meaning.{namedProcedure};
+ghost use Rattle.args.specs.Reading.{argumentsOf};
 ghost use Rattle.changes.specs.Ready.{Ready};
 ghost use Rattle.serving.specs.Sends.{Sends};
-use args::arguments;
 use args::reading::ArgumentsRead;
 use kinds::call::Arguments;
 use kinds::call::CallHeader;
@@ -60,7 +62,7 @@ fn finish(
     next as u32
 }
 
-// Reads the arguments of a procedure, and runs it where they are of its type.
+// Runs a procedure where its arguments are of its type.
 fn perform(
     store: &mut [u8],
     reply: &mut [u8],
@@ -69,14 +71,15 @@ fn perform(
     call: &[u8],
     h: CallHeader,
     c: Cursor,
+    read: ArgumentsRead,
 ) -> u32
     requires { ⌜ 4224 ≤ length (now reply) ⌝ }
     requires { ⌜ Ready (now store) (now used) (freeBlockCount (now store)) context ⌝ }
     requires { ⌜ h .procedure ≤ 21 ⌝ }
+    requires { ⌜ argumentsOf read ≡ arguments (h .procedure) (now call) (c .at) ⌝ }
     ensures { λ n. ⌜ Sends (perform (now (store .entry)) context (now (call .entry)) h (arguments (h .procedure) (now (call .entry)) (c .at))) n (now (reply .entry)) (now (reply .exit)) (now (store .exit)) ⌝ }
 {
     let xid = h.xid;
-    let read = arguments(call, c, h.procedure);
     match read {
         ArgumentsRead::Got(a, _) => finish(store, reply, used, context, call, h, a),
         ArgumentsRead::Bad(_) => stop(reply, xid, Message::GARBAGE_ARGS),
@@ -92,20 +95,22 @@ fn answer(
     call: &[u8],
     h: CallHeader,
     c: Cursor,
+    read: ArgumentsRead,
 ) -> u32
     requires { ⌜ 4224 ≤ length (now reply) ⌝ }
     requires { ⌜ Ready (now store) (now used) (freeBlockCount (now store)) context ⌝ }
+    requires { ⌜ argumentsOf read ≡ arguments (h .procedure) (now call) (c .at) ⌝ }
     ensures { λ n. ⌜ Sends (answer (now (store .entry)) context (now (call .entry)) h (c .at) (judge nfs h)) n (now (reply .entry)) (now (reply .exit)) (now (store .exit)) ⌝ }
 {
     let xid = h.xid;
     let judged = judge(Program::nfs(), h);
     match judged {
-        Judged::Runs => perform(store, reply, used, context, call, h, c),
+        Judged::Runs => perform(store, reply, used, context, call, h, c, read),
         Judged::Stopped(stat) => stop(reply, xid, stat),
     }
 }
 
-// Answers a call by its header, which ends at c: the reply's length.
+// Answers a call by its header, which ends at c, and what was read of its arguments there: the reply's length.
 pub fn respond(
     store: &mut [u8],
     reply: &mut [u8],
@@ -114,13 +119,15 @@ pub fn respond(
     call: &[u8],
     h: Header,
     c: Cursor,
+    read: ArgumentsRead,
 ) -> u32
     requires { ⌜ 4224 ≤ length (now reply) ⌝ }
     requires { ⌜ Ready (now store) (now used) (freeBlockCount (now store)) context ⌝ }
+    requires { ⌜ argumentsOf read ≡ arguments (namedProcedure h) (now call) (c .at) ⌝ }
     ensures { λ n. ⌜ Sends (respond (now (store .entry)) context (now (call .entry)) h (c .at)) n (now (reply .entry)) (now (reply .exit)) (now (store .exit)) ⌝ }
 {
     match h {
-        Header::Call(header) => answer(store, reply, used, context, call, header, c),
+        Header::Call(header) => answer(store, reply, used, context, call, header, c, read),
         Header::OtherVersion(xid) => {
             let next = put_denied(reply, xid);
             next as u32

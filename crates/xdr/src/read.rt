@@ -1,4 +1,4 @@
-// Reads one XDR field of a call at a cursor, by the reader that borrows the call, and answers its value with the cursor after it, or the place of the refusal.
+// Reads one XDR field of a call at a cursor, and answers its value with the cursor after it, or the place of the refusal.
 ghost use mathlib.Core.Path.{_≡_};
 ghost use Prim.Native.Nat.{_+_, _≤_};
 ghost use lib.ListN.{length};
@@ -13,7 +13,6 @@ use kinds::reading::LongRead;
 use kinds::reading::PartRead;
 use kinds::reading::SkipRead;
 use kinds::reading::WordRead;
-use reader::field_of;
 
 // Whether the n bytes from `at` are zero.
 fn all_zero(s: &[u8], at: usize, n: usize) -> bool
@@ -37,12 +36,32 @@ pub fn padding(n: usize) -> usize
     (4 - n % 4) % 4
 }
 
+// The next n bytes, or the place where they do not all stand in the call.
+pub fn bytes(s: &[u8], c: Cursor, n: usize) -> PartRead
+    ensures { λ r. ⌜ partOf r ≡ bytes n (now (s .entry)) (c .at) ⌝ }
+{
+    let at = c.at;
+    if s.len() < at {
+        return PartRead::Bad(at);
+    }
+    if s.len() - at < n {
+        return PartRead::Bad(at);
+    }
+    PartRead::Got(
+        Part {
+            start: at,
+            length: n,
+        },
+        Cursor { at: at + n },
+    )
+}
+
 // An unsigned int.
 pub fn word(s: &[u8], c: Cursor) -> WordRead
     ensures { λ r. ⌜ wordOf r ≡ word (now (s .entry)) (c .at) ⌝ }
 {
     let at = c.at;
-    let answer = field_of(s, at, 4);
+    let answer = bytes(s, c, 4);
     let PartRead::Got(_, next) = answer else {
         return WordRead::Bad(answer.place());
     };
@@ -54,7 +73,7 @@ pub fn long(s: &[u8], c: Cursor) -> LongRead
     ensures { λ r. ⌜ longOf r ≡ long (now (s .entry)) (c .at) ⌝ }
 {
     let at = c.at;
-    let answer = field_of(s, at, 8);
+    let answer = bytes(s, c, 8);
     let PartRead::Got(_, next) = answer else {
         return LongRead::Bad(answer.place());
     };
@@ -84,14 +103,6 @@ pub fn flag(s: &[u8], c: Cursor) -> FlagRead
         return FlagRead::Bad(answer.place());
     };
     FlagRead::Got(n == 1, next)
-}
-
-// The next n bytes.
-pub fn bytes(s: &[u8], c: Cursor, n: usize) -> PartRead
-    ensures { λ r. ⌜ partOf r ≡ bytes n (now (s .entry)) (c .at) ⌝ }
-{
-    let at = c.at;
-    field_of(s, at, n)
 }
 
 // Variable-length opaque data of at most `most` bytes, with its padding.

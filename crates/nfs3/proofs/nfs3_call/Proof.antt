@@ -16,7 +16,7 @@ enum-known-opened-2 c = search needs
 respond-requires : tie.Need-respond-requires
 respond-requires c κs =
     let k = rw (c .before .before .before .before .opened2 .given .1) at (c .before .before .before .before .before .before .«open» .ensures) in
-    (k .room, k .ready)
+    (k .room, (k .ready, k .read))
 
 same-length : tie.Need-same-length
 same-length c = search needs

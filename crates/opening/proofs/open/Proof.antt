@@ -38,8 +38,8 @@ returns-4 c =
     bad-store (a .call .now) s (a .reply .now) (a .context) (c .before .before .before .before .before .before .before .before .if1 .left) (c .before .before .before .before .before .before .if2 .left) (c .before .before .before .before .before .if3 .left)
     (fails s (sym (c .enum-told2 .given .1) ∙ c .before .before .check-store .ensures .is))
 
-header-requires : tie.Need-header-requires
-header-requires c κs = search needs
+read-call-requires : tie.Need-read-call-requires
+read-call-requires c κs = search needs
 
 enum-known-read : tie.Need-enum-known-read
 enum-known-read c = search needs
@@ -53,7 +53,7 @@ returns-5 c =
     let s = a .store .now in
     let e = passed-check s _ (sym (c .before .before .before .enum-told .given .1) ∙ c .before .before .before .before .before .check-store .ensures .is) in
     bad-header (a .call .now) s (a .reply .now) (a .context) (c .before .before .before .before .before .before .before .before .before .before .before .if1 .left) (c .before .before .before .before .before .before .before .before .before .if2 .left) (c .before .before .before .before .before .before .before .before .if3 .left) e
-    _ (sym (c .before .before .header .ensures) ∙ ap headerOf (c .enum-told3 .given .1))
+    _ (sym (c .before .before .read-call .ensures .0) ∙ ap headerOf (c .enum-told3 .given .1))
 
 returns-6 : tie.Need-returns-6
 returns-6 c =
@@ -61,8 +61,9 @@ returns-6 c =
     let s = a .store .now in
     let f = c .before .before .before .before .before .before .check-store .ensures in
     let e = passed-check s _ (sym (c .before .before .before .before .enum-told .given .1) ∙ f .is) in
+    let f₁ = c .before .before .before .read-call .ensures in
     hears (a .call .now) s (a .reply .now) (a .context) (c .before .before .before .before .before .before .before .before .before .before .before .before .if1 .left) (c .before .before .before .before .before .before .before .before .before .before .if2 .left) (c .before .before .before .before .before .before .before .before .before .if3 .left) e
-    _ _ _ (sym (c .before .before .before .header .ensures) ∙ ap headerOf (c .before .read .given .1)) (f .map e) (λ i. c .before .before .before .before .before .before .before .before .before .before .before .before .before .before .before .shared-slice-known2 .given i .fits)
+    _ _ _ _ (sym (f₁ .0) ∙ ap headerOf (c .before .read .given .1)) (f₁ .1) (f .map e) (λ i. c .before .before .before .before .before .before .before .before .before .before .before .before .before .before .before .shared-slice-known2 .given i .fits)
     (record { seconds = let g = c .before .before .before .before .before .before .before .before .before .before .before .struct-known .given .0 in omega arith; nanoseconds = c .before .before .before .before .before .before .before .before .before .before .if2 .left })
 
 pub open-spec : {M : Type 1} → statement M
@@ -76,7 +77,7 @@ open-spec =
     enum-told
     enum-told-2
     returns-4
-    header-requires
+    read-call-requires
     enum-known-read
     enum-told-3
     returns-5

@@ -15,7 +15,7 @@ enum-told c = search needs
 perform-requires : tie.Need-perform-requires
 perform-requires c κs =
     let st = c .before .before .before .before .before .before .before .before .before in
-    (st .pre .0, (st .pre .1, runs-few (st .args .h) (judged-runs _ (st .args .h) _ (c .before .before .before .before .judge .ensures) (c .before .before .before .before .before .nfs .ensures) (c .before .before .enum-told .given .1))))
+    (st .pre .0, (st .pre .1 .0, (runs-few (st .args .h) (judged-runs _ (st .args .h) _ (c .before .before .before .before .judge .ensures) (c .before .before .before .before .before .nfs .ensures) (c .before .before .enum-told .given .1)), st .pre .1 .1)))
 
 enum-known-judged : tie.Need-enum-known-judged
 enum-known-judged c = search needs
