@@ -1,5 +1,5 @@
 -- What GETATTR and FSSTAT answer, by the book. Assumes nothing.
-use mathlib.Core.Path.{_≡_, sym, ap, _∙_}
+use mathlib.Core.Path.{_≡_, refl, sym, ap, _∙_}
 use mathlib.Core.Bool.{Bool, true, false, cond}
 use mathlib.Core.Option.{some}
 use mathlib.Core.List.{List, [], _∷_, _++_, append-nil}
@@ -25,10 +25,12 @@ use Rattle.laws.proofs.Count.{by-bool, count-bound}
 use Rattle.laws.proofs.Error.{statusOf}
 use Rattle.laws.proofs.Range.{be-below}
 use Rattle.laws.proofs.RecordRange.{objectAt-fits}
+use Rattle.laws.proofs.Valid.{true-live}
 use Rattle.history.specs.Book.{Ledger, handleBytes, isStatus, isOk}
 use Rattle.history.specs.Run.{Request, replyTo}
 use Rattle.history.specs.Statement as Shown
-use Rattle.history.specs.Statement.{HasLine, Asks, objectIn, shownKind, shownFree, shownFreeAgain, shownAvailable, shownAvailableAgain}
+use Rattle.history.specs.Statement.{HasLine, Names, Asks, objectIn, shownKind, shownTotal, shownFree, shownFreeAgain}
+use Rattle.history.specs.Statement.{shownObjects, shownAvailable, shownAvailableAgain}
 use Rattle.history.proofs.View.{Live}
 use Rattle.history.proofs.Handles.{handle-length, handle-stamp, handle-object, handle-generation}
 use Rattle.history.proofs.Replies.{Begins, begins, word-of, long-of, ok-is, answered-is}
@@ -78,14 +80,28 @@ module _ (σ p q r : ℕ) (s : Store) (L : Ledger) (I : Inv σ p q r s L) where
         (λ a. rw (long, within, marked, a, b))
         (λ a. rw (long, within, marked, a))
 
+  -- the handle of a live object names it
+  pub names-at : (g : List ℕ) (o generation kind : ℕ) → Live (view s) o → g ≡ handleBytes σ o generation
+      → view s .gen o ≡ generation → view s .kind o ≡ kind → Names s g o generation kind
+  names-at g o generation kind v e x y =
+      let k = live-in s o v in
+      let m = live-seen σ p q r s L I o v in
+      record {
+        below = k;
+        live = true-live s o m;
+        sameGeneration = sym (gen-at s o k) ∙ x;
+        sameType = sym (kind-at s o k) ∙ y;
+        reached =
+            ap (reach s) (e ∙ ap (handleBytes σ o) (sym x) ∙ sym (handle-seen σ p q r s L I o k)) ∙ reach-own s o (good σ p q r s L I .sound) k m;
+      }
+
   -- a handle with a line is reached
   pub reach-lined : (g : List ℕ) (kind : ℕ) → HasLine (L .book) g kind
       → (o : ℕ) × (reach s g ≡ passed o) × Live (view s) o × (view s .kind o ≡ kind) × (objectIn g ≡ o)
   reach-lined g kind x =
       let (o, v, e, f) = lined-current σ p q r s L I g kind x in
       let n = small-live σ p q r s L I o v in
-      let k = live-in s o v in
-      (o, ap (reach s) (e ∙ sym (handle-seen σ p q r s L I o k)) ∙ reach-own s o (good σ p q r s L I .sound) k (live-seen σ p q r s L I o v), v, f, ap objectIn e ∙ handle-object σ o (view s .gen o) (n .0))
+      (o, names-at g o (view s .gen o) kind v e refl f .reached, v, f, ap objectIn e ∙ handle-object σ o (view s .gen o) (n .0))
 
   -- ---- GETATTR
   got-attributes : (x : Request) (h : Part) → Asks x (Call.Getattr h) → (o : ℕ) → reach s (cut (x .call) h) ≡ passed o
@@ -160,7 +176,10 @@ module _ (σ p q r : ℕ) (s : Store) (L : Ledger) (I : Inv σ p q r s L) where
   two-words n l = omega arith
 
   pub fsstat-room : (x : Request) (h : Part) (kind : ℕ) → Asks x (Call.Fsstat h) → HasLine (L .book) (cut (x .call) h) kind
-      → (isOk (replyTo s x) ≡ true) × (shownFree (replyTo s x) ≡ 512 * freeBlockCount s) × (shownFreeAgain (replyTo s x) ≡ 512 * freeBlockCount s)
+      → (isOk (replyTo s x) ≡ true)
+      × (shownTotal (replyTo s x) ≡ 512 * r)
+      × (shownFree (replyTo s x) ≡ 512 * freeBlockCount s) × (shownFreeAgain (replyTo s x) ≡ 512 * freeBlockCount s)
+      × (shownObjects (replyTo s x) ≡ p)
       × (shownAvailable (replyTo s x) ≡ availableCount s) × (shownAvailableAgain (replyTo s x) ≡ availableCount s)
   unfolding roomWords postOp fattr3 freeBlockCount availableCount
   fsstat-room x h kind k l =
@@ -172,8 +191,10 @@ module _ (σ p q r : ℕ) (s : Store) (L : Ledger) (I : Inv σ p q r s L) where
       let x1 : 512 * freeBlockCount s < 4294967296 = omega arith in
       let x2 : availableCount s < 4294967296 = omega arith in (
         ok-is (replyTo s x) xid (roomWords o) [] b (omega arith) (lit< tt),
+        long-of (replyTo s x) xid (roomWords o) [] b 23 (omega arith) (omega arith) (omega arith) ∙ omega (arith, I .blks),
         long-of (replyTo s x) xid (roomWords o) [] b 25 (omega arith) (omega arith) (omega arith) ∙ two-words (512 * freeBlockCount s) x1,
         long-of (replyTo s x) xid (roomWords o) [] b 27 (omega arith) (omega arith) (omega arith) ∙ two-words (512 * freeBlockCount s) x1,
+        long-of (replyTo s x) xid (roomWords o) [] b 29 (omega arith) (omega arith) (omega arith) ∙ omega (arith, I .objs),
         long-of (replyTo s x) xid (roomWords o) [] b 31 (omega arith) (omega arith) (omega arith) ∙ two-words (availableCount s) x2,
         long-of (replyTo s x) xid (roomWords o) [] b 33 (omega arith) (omega arith) (omega arith) ∙ two-words (availableCount s) x2,
       )

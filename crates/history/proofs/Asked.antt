@@ -1,17 +1,18 @@
 -- What `serve` does with a request: where a procedure is asked, its act; otherwise the store and the book stay. Assumes nothing.
 use mathlib.Core.Path.{_≡_, refl, sym, ap, _∙_}
 use mathlib.Core.Logic.{_⊎_, inl, inr}
-use mathlib.Core.Bool.{true, false}
+use mathlib.Core.Bool.{true, false, _||_}
 use mathlib.Core.Option.{Option, some, none}
-use mathlib.Core.List.{List}
+use mathlib.Core.List.{List, [], _∷_}
 use Prim.Native.Nat.{ℕ, _≤_, _<_}
 use native.Mathlib.Omega.{arith}
-use lib.Dec.{ltb}
+use lib.Dec.{eqb, ltb, lit<}
 use lib.ListN.{length, take}
 use lib.Seq.{take-at}
 use borrow.Author.Tests.{le-ltb, lt-ltb, ltb-false, ltb-true}
 use Rattle.kinds.specs.Reading.{Read, got, bad}
 use Rattle.kinds.specs.declared.object.Context.{Context}
+use Rattle.kinds.specs.declared.call.CallHeader.{CallHeader}
 use Rattle.kinds.specs.declared.call.Header.{Header}
 use Rattle.kinds.specs.declared.call.Header.the-variants as Header
 use Rattle.kinds.specs.declared.call.Arguments.{Arguments}
@@ -23,12 +24,14 @@ use Rattle.spec.specs.Procedures.{act}
 use Rattle.spec.specs.Replies.{resultBytes}
 use Rattle.spec.specs.Checked.{Checked, refused, passed}
 use Rattle.spec.specs.Header.{header}
-use Rattle.spec.specs.Rpc.{accepted, nfs, judge}
+use Rattle.spec.specs.Rpc.{denied, accepted, nfs, judge, mismatch}
 use Rattle.spec.specs.Serve.{Outcome, refuse, Sent, send, perform, answer, complete, outcome as settled, serve}
-use Rattle.laws.proofs.Count.{by-bool, true-false}
-use Rattle.history.specs.Book.{Ledger, readArguments, judgedArguments, headedArguments, asked, isOk, noted, note}
+use Rattle.laws.proofs.Count.{by-bool}
+use Rattle.laws.proofs.Words.{words-length}
+use Rattle.history.specs.Book.{Ledger, readArguments, judgedArguments, headedArguments, asked, isStatus, isOk, noted, note}
 use Rattle.history.specs.Run.{Request, outcome, replyTo}
 use Rattle.history.specs.Statement.{Asks}
+use Rattle.history.proofs.Replies.{short-silent, other-silent}
 
 -- an act's reply, for a call with this number and procedure
 abbrev pub actReply : Store → Context → List ℕ → Arguments → ℕ → ℕ → List ℕ
@@ -44,9 +47,28 @@ pub record Acted (s : Store) (x : Request) (a : Arguments) : Type 0 where
 some-none : {A B : Type 0} {a : A} → none ≡ some a → B
 some-none e = let z : _≡_ {A = ℕ} 0 1 = cc in absurd (omega arith)
 
-sent-reply : (space : List ℕ) (t : Sent) → take (send space t .length) (send space t .space) ≡ t .reply
+-- the reply in an outcome
+abbrev replied : Outcome → List ℕ
+replied o = take (o .length) (o .space)
+
+sent-reply : (space : List ℕ) (t : Sent) → replied (send space t) ≡ t .reply
 unfolding overlay
 sent-reply space t = take-at (t .reply) _ (length (t .reply)) refl
+
+-- PROG_UNAVAIL, PROG_MISMATCH and PROC_UNAVAIL are not SUCCESS
+judge-stat : (h : CallHeader) (stat : ℕ) → judge nfs h ≡ refused stat → (0 < stat) × (stat < 4294967296)
+unfolding judge
+judge-stat h stat e =
+    by-bool (eqb (h .program) 100003)
+    (λ a. by-bool (ltb (h .version) 3 || ltb 3 (h .version))
+    (λ b. is 2 (rw (a, b) at e) (lit< tt) (lit< tt))
+    (λ b. by-bool (ltb 21 (h .procedure))
+    (λ c. is 3 (rw (a, b, c) at e) (lit< tt) (lit< tt))
+    (λ c. let z : passed tt ≡ refused stat = rw (a, b, c) at e in let y : _≡_ {A = ℕ} 0 1 = cc in absurd (omega arith))))
+    (λ a. is 1 (rw a at e) (lit< tt) (lit< tt))
+  where
+    is : (n : ℕ) → _≡_ {A = Checked (Unit {0})} (refused n) (refused stat) → 0 < n → n < 4294967296 → (0 < stat) × (stat < 4294967296)
+    is n w a b = let z : n ≡ stat = cc in (omega arith, omega arith)
 
 module _ (s : Store) (x : Request) where
   sent : Arguments → ℕ → ℕ → Sent
@@ -82,6 +104,30 @@ module _ (s : Store) (x : Request) where
       judged (refused stat) e = refl
       judged (passed _) e = read (arguments (h .procedure) (x .call) at) e
 
+  -- whatever is sent where nothing is asked shows no status
+  silent-sent : (k : ℕ) (reply : List ℕ) → isStatus k reply ≡ false → isStatus k (replied (send (x .space) (record { reply = reply; store = s }))) ≡ false
+  silent-sent k reply f = ap (isStatus k) (sent-reply (x .space) (record { reply = reply; store = s })) ∙ f
+
+  silence : (k : ℕ) (r : Read Header) → headedArguments (x .call) r ≡ none
+      → isStatus k (replied (settled (x .space) s (complete s (x .context) (x .call) r))) ≡ false
+  unfolding denied
+  silence k (bad p) e = short-silent [] (omega arith) k
+  silence k (got (Header.OtherVersion xid) at) e =
+      silent-sent k (denied xid) (short-silent (denied xid) (omega (arith, words-length (xid ∷ 1 ∷ 1 ∷ 0 ∷ 2 ∷ 2 ∷ []))) k)
+  silence k (got (Header.Call h) at) e = judged (judge nfs h) refl e
+    where
+      read : (r : Read Arguments) → readArguments r ≡ none → isStatus k (replied (send (x .space) (perform s (x .context) (x .call) h r))) ≡ false
+      read (bad p) e = silent-sent k (accepted (h .xid) 4 []) (other-silent (h .xid) 4 [] (lit< tt) (lit< tt) k)
+      read (got b next) e = some-none (sym e)
+
+      judged : (j : Checked (Unit {0})) → judge nfs h ≡ j → judgedArguments (x .call) h at j ≡ none
+          → isStatus k (replied (send (x .space) (answer s (x .context) (x .call) h at j))) ≡ false
+      judged (refused stat) w e =
+          let z = judge-stat h stat w in
+          let body = mismatch nfs stat in
+          silent-sent k (accepted (h .xid) stat body) (other-silent (h .xid) stat body (z .0) (z .1) k)
+      judged (passed _) w e = read (arguments (h .procedure) (x .call) at) e
+
   -- the tests in the table's order
   heard : 4224 ≤ length (x .space) → x .context .clock .nanoseconds < 1000000000 → length (x .call) ≤ 8192 → passes s ≡ true
       → outcome s x ≡ settled (x .space) s (complete s (x .context) (x .call) (header (x .call) 0))
@@ -97,32 +143,32 @@ module _ (s : Store) (x : Request) where
       record {
         xid = xid;
         procedure = p;
-        reply = ap (λ (o : Outcome). take (o .length) (o .space)) (h ∙ e) ∙ sent-reply (x .space) (sent a xid p);
+        reply = ap replied (h ∙ e) ∙ sent-reply (x .space) (sent a xid p);
         store = ap (λ (o : Outcome). o .store) (h ∙ e);
       }
 
-  -- nothing is asked, or the request is refused: the store stays, and so does every book
+  -- nothing is asked, or the request is refused: the store stays, and so does every book, and the reply shows no status
   pub record Idle : Type 0 where
     pub store : outcome s x .store ≡ s
     pub ledger : (L : Ledger) → note (x .call) (replyTo s x) L ≡ L
-    pub unasked : isOk (replyTo s x) ≡ true → asked (x .call) ≡ none
+    pub silent : (k : ℕ) → isStatus k (replyTo s x) ≡ false
 
   refused-idle : (n : ℕ) → outcome s x ≡ refuse n (x .space) s → Idle
-  unfolding replyTo note isOk
+  unfolding replyTo note isOk isStatus
   refused-idle n e =
       record {
         store = ap (λ (o : Outcome). o .store) e;
-        ledger = λ L. ap (λ (o : Outcome). note (x .call) (take (o .length) (o .space)) L) e;
-        unasked = λ t. true-false (sym t ∙ ap (λ (o : Outcome). isOk (take (o .length) (o .space))) e);
+        ledger = λ L. ap (λ (o : Outcome). note (x .call) (replied o) L) e;
+        silent = λ k. ap (λ (o : Outcome). isStatus k (replied o)) e;
       }
 
   unasked-idle : asked (x .call) ≡ none → outcome s x ≡ settled (x .space) s (complete s (x .context) (x .call) (header (x .call) 0)) → Idle
-  unfolding note asked noted
+  unfolding replyTo note asked noted
   unasked-idle n e =
       record {
         store = ap (λ (o : Outcome). o .store) e ∙ unanswered (header (x .call) 0) n;
         ledger = λ L. by-bool (isOk (replyTo s x)) (λ t. rw (t, n)) (λ t. rw t);
-        unasked = λ t. n;
+        silent = λ k. ap (λ (o : Outcome). isStatus k (replied o)) e ∙ silence k (header (x .call) 0) n;
       }
 
   -- what becomes of a request

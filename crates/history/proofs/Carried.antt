@@ -32,7 +32,8 @@ use Rattle.history.proofs.Walk.{directoryAt, naming}
 use Rattle.history.proofs.Issue.{Current}
 use Rattle.history.proofs.Seen.{view, kind-at, child-at, live-in, parent-same}
 use Rattle.history.proofs.Inv.{Inv, tree}
-use Rattle.history.proofs.Checks.{found-name, Sure, sure-bind, sure-passed, sure-directory, sure-name}
+use Rattle.history.proofs.Checks.{found-name}
+use Rattle.history.proofs.Statuses.{sure-lookup}
 use Rattle.history.proofs.Replies.{found-is}
 use Rattle.history.proofs.Asked.{acted, Idle, served}
 use Rattle.history.proofs.Ranges.{asked-fits}
@@ -53,22 +54,6 @@ module _ (σ p q r : ℕ) (s : Store) (L : Ledger) (I : Inv σ p q r s L) where
       go T none z = omega (arith, T .flat .root)
       go T (some n) z = omega (arith, T .flat .dirs n (holds-true (names? (view s) n d) (lowest-passes (λ n. holds (names? (view s) n d)) (names s) n z .passes) .0))
 
-  sure-look : (d : ℕ) (text : List ℕ) → Sure (lookIn s d text)
-  unfolding lookIn
-  sure-look d text = dot (isDot text)
-    where
-      child : (x : Option ℕ) → Sure (childOf s (present 2 x))
-      child none = λ status e. let z : 2 ≡ status = cc in (omega arith, omega arith)
-      child (some n) = sure-passed (nameAt s n .child)
-
-      dots : (t : Bool) → Sure (cond t (passed (parent s d)) (childOf s (present 2 (findName s d text))))
-      dots true = sure-passed (parent s d)
-      dots false = child (findName s d text)
-
-      dot : (t : Bool) → Sure (cond t (passed d) (cond (isDotDot text) (passed (parent s d)) (childOf s (present 2 (findName s d text)))))
-      dot true = sure-passed d
-      dot false = dots (isDotDot text)
-
   look-live : (d : ℕ) (text : List ℕ) (o : ℕ) → Live (view s) d → lookIn s d text ≡ passed o → Live (view s) o
   unfolding lookIn
   look-live d text o l e = dot (isDot text) e
@@ -88,13 +73,6 @@ module _ (σ p q r : ℕ) (s : Store) (L : Ledger) (I : Inv σ p q r s L) where
       dot : (t : Bool) → cond t (passed d) (cond (isDotDot text) (passed (parent s d)) (childOf s (present 2 (findName s d text)))) ≡ passed o → Live (view s) o
       dot true e = let is : d ≡ o = cc in subst (Live (view s)) is l
       dot false e = dots (isDotDot text) e
-
-  sure-lookup : (h text : List ℕ) → Sure (checkLookup s h text)
-  unfolding checkLookup
-  sure-lookup h text =
-      sure-bind (reachDirectory s h) _ (sure-directory s h) (λ d.
-      sure-bind (checkName text) _ (sure-name text) (λ _.
-      sure-bind (lookIn s d text) _ (sure-look d text) (λ o. sure-passed (d, o))))
 
   look-facts : (h text : List ℕ) (x : ℕ × ℕ) → checkLookup s h text ≡ passed x → Live (view s) (x .1)
   unfolding checkLookup
@@ -122,7 +100,7 @@ module _ (σ p q r : ℕ) (s : Store) (L : Ledger) (I : Inv σ p q r s L) where
           → Answer call reply (Call.Lookup place) (settle s (failShowing s h) x (λ f. unchanged s (found (handleOf s (f .1)) (attributes s (f .1)) (attributes s (f .0)))) .result)
           → Current σ (view s) (foundHandle reply)
       go (refused n) e A =
-          let b = sure-lookup h text n e in
+          let b = sure-lookup s h text n e in
           true-false (sym t ∙ not-ok call reply (Call.Lookup place) _ A n (showing-says s h n) (b .0) (b .1))
       go (passed x) e A =
           let o = x .1 in
@@ -138,7 +116,7 @@ module _ (σ p q r : ℕ) (s : Store) (L : Ledger) (I : Inv σ p q r s L) where
   asks-of x a t e = go (served s x (passes-valid s (I .valid)))
     where
       go : Idle s x ⊎ ((b : Arguments) × Asks x b) → Asks x a
-      go (_⊎_.inl w) = let z : none ≡ some a = sym (w .unasked t) ∙ e in let y : _≡_ {A = ℕ} 0 1 = cc in absurd (omega arith)
+      go (_⊎_.inl w) = true-false (sym t ∙ unfold isOk in w .silent 0)
       go (_⊎_.inr (b, k)) = let z : some b ≡ some a = sym (k .reads) ∙ e in let y : b ≡ a = cc in subst (Asks x) y k
 
   -- "every handle in an OK reply has a line": it is a live object's, in the store after the call

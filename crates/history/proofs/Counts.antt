@@ -1,16 +1,16 @@
 -- What the invariant says of the counts: lines, places, free names and available objects. Assumes nothing.
-use mathlib.Core.Path.{_≡_, refl, sym, ap, ap₂, _∙_}
+use mathlib.Core.Path.{_≡_, refl, sym, ap, ap₂, _∙_, subst}
 use mathlib.Core.Logic.{_↔_, _⊎_, inl, inr, by-cases, ⊎-elim}
 use mathlib.Core.Bool.{Bool, true, false, _&&_, not}
 use mathlib.Core.List.{List, [], _∷_, map, List·Memᴰ, List·Memᴰ·head, List·Memᴰ·tail, List·Memᴰ·cases-cons, List·Memᴰ·not-nil}
-use Prim.Native.Nat.{ℕ, _+_, _*_, _-_, _≤_, _<_}
+use Prim.Native.Nat.{ℕ, _+_, _*_, _≤_, _<_}
 use native.Mathlib.Decide.{ℕ-discrete, decLt}
-use native.Mathlib.Nat.{mul-one}
+use native.Mathlib.Nat.{mul-one, mul-zero}
 use native.Mathlib.Omega.{arith}
 use lib.Dec.{eqb, ltb}
 use lib.ListN.{length, getD}
 use lib.Seq.{getD-take}
-use borrow.Author.Tests.{eq-eqb, ne-eqb, lt-ltb, le-ltb}
+use borrow.Author.Tests.{eq-eqb, eqb-true, lt-ltb, le-ltb}
 use Rattle.kinds.specs.declared.object.Object.{Object}
 use Rattle.spec.specs.Bytes.{sameBytes}
 use Rattle.spec.specs.Count.{bit, sum, count, times}
@@ -22,7 +22,8 @@ use Rattle.laws.proofs.FreeRoom.{free-room}
 use Rattle.laws.proofs.Tests.{and-true, or-one}
 use Rattle.laws.proofs.Valid.{GoodObject, live-true, true-live, false-live}
 use Rattle.history.specs.Book.{Line, Book, Ledger, handleBytes}
-use Rattle.history.specs.Statement.{In, HasLine, liveObjects, objectIn, placesIn, hasName, namedLines, isAmong, isLined, lastHandle, spentRecords}
+use Rattle.history.specs.Statement.{In, HasLine, liveObjects, objectIn, someLine, isLinedObject, isLinedFile, linedObjects, placesIn}
+use Rattle.history.specs.Statement.{hasName, namedLines, isAmong, isLined, lastHandle, spentRecords}
 use Rattle.history.proofs.Sum.{or-left, or-right, ind, ind-yes, ind-no, holds-same, sum-const}
 use Rattle.history.proofs.Lists.{same-true, All, all-times}
 use Rattle.history.proofs.View.{Live, Used}
@@ -34,17 +35,7 @@ use Rattle.history.proofs.Room.{one-place}
 use Rattle.history.proofs.Seen.{view, heldBy, kind-at, gen-at, held-at, used-of, of-used}
 use Rattle.history.proofs.Bridge.{held-long, room-of}
 use Rattle.history.proofs.Inv.{Inv, tree, good}
-use Rattle.history.proofs.Lines.{total, total-append, total-map, total-ext, total-times, current-lined, lined-current, book-sum, factor-no, factor-yes}
-
--- ---- lists
-all-in : {A : Type 0} {P : A → Type 0} (xs : List A) → ((x : A) → List·Memᴰ x xs → P x) → All P xs
-all-in [] h = tt
-all-in (x ∷ xs) h = (h x (List·Memᴰ·head refl), all-in xs (λ y m. h y (List·Memᴰ·tail m)))
-
-total-one : {A : Type 0} (xs : List A) → total (λ _. 1) xs ≡ length xs
-unfolding total
-total-one [] = refl
-total-one (x ∷ xs) = omega (arith, total-one xs)
+use Rattle.history.proofs.Lines.{total, total-append, total-map, total-times, current-lined, lined-current, factor-yes}
 
 is-false : (t : Bool) → (t ≡ true → ⊥) → t ≡ false
 is-false t f = by-bool t (λ e. absurd (f e)) (λ e. e)
@@ -66,31 +57,36 @@ in-among h (g ∷ gs) m = ⊎-elim
     (λ (x : List·Memᴰ h gs). or-right (sameBytes g h) (isAmong h gs) (in-among h gs x))
     (List·Memᴰ·cases-cons m)
 
-pub lined-has : (h : List ℕ) (b : Book) → isLined h b ≡ true → (l : Line) × List·Memᴰ l b × (l .handle ≡ h)
-unfolding isLined
-lined-has h [] e = true-false (sym e)
-lined-has h (l ∷ ls) e = ⊎-elim
-    (λ (x : sameBytes (l .handle) h ≡ true). (l, List·Memᴰ·head refl, same-true (l .handle) h x))
-    (λ (x : isLined h ls ≡ true). let (k, m, y) = lined-has h ls x in (k, List·Memᴰ·tail m, y))
-    (or-one (sameBytes (l .handle) h) (isLined h ls) e)
+line-has : (test : Line → Bool) (b : Book) → someLine test b ≡ true → (l : Line) × List·Memᴰ l b × (test l ≡ true)
+unfolding someLine
+line-has test [] e = true-false (sym e)
+line-has test (l ∷ ls) e = ⊎-elim
+    (λ (x : test l ≡ true). (l, List·Memᴰ·head refl, x))
+    (λ (x : someLine test ls ≡ true). let (k, m, y) = line-has test ls x in (k, List·Memᴰ·tail m, y))
+    (or-one (test l) (someLine test ls) e)
 
-pub has-lined : (h : List ℕ) (b : Book) (l : Line) → List·Memᴰ l b → l .handle ≡ h → isLined h b ≡ true
-unfolding isLined
-has-lined h [] l m e = absurd (List·Memᴰ·not-nil m)
-has-lined h (k ∷ ks) l m e = ⊎-elim
-    (λ (x : l ≡ k). or-left (sameBytes (k .handle) h) (isLined h ks) (same-yes (k .handle) h (ap (λ (y : Line). y .handle) (sym x) ∙ e)))
-    (λ (x : List·Memᴰ l ks). or-right (sameBytes (k .handle) h) (isLined h ks) (has-lined h ks l x e))
+has-line : (test : Line → Bool) (b : Book) (l : Line) → List·Memᴰ l b → test l ≡ true → someLine test b ≡ true
+unfolding someLine
+has-line test [] l m e = absurd (List·Memᴰ·not-nil m)
+has-line test (k ∷ ks) l m e = ⊎-elim
+    (λ (x : l ≡ k). or-left (test k) (someLine test ks) (ap test (sym x) ∙ e))
+    (λ (x : List·Memᴰ l ks). or-right (test k) (someLine test ks) (has-line test ks l x e))
     (List·Memᴰ·cases-cons m)
+
+lined-has : (h : List ℕ) (b : Book) → isLined h b ≡ true → (l : Line) × List·Memᴰ l b × (l .handle ≡ h)
+lined-has h b e = let (l, m, x) = line-has (λ l. sameBytes (l .handle) h) b e in (l, m, same-true (l .handle) h x)
+
+has-lined : (h : List ℕ) (b : Book) (l : Line) → List·Memᴰ l b → l .handle ≡ h → isLined h b ≡ true
+has-lined h b l m e = has-line (λ l. sameBytes (l .handle) h) b l m (same-yes (l .handle) h e)
 
 named-total : (b : Book) → namedLines b ≡ total (λ l. bit (hasName (l .standing))) b
 unfolding namedLines total
 named-total [] = refl
 named-total (l ∷ ls) = omega (arith, named-total ls)
 
-places-total : (s : Store) (b : Book) → placesIn s b ≡ total (λ l. bit (eqb (l .kind) 1) * need (sizeOf s (objectIn (l .handle)))) b
-unfolding placesIn total
-places-total s [] = refl
-places-total s (l ∷ ls) = omega (arith, places-total s ls)
+-- a file of size 0 has no places
+no-need : (k size : ℕ) → size ≡ 0 → k * need size ≡ need size
+no-need k size e = ap (λ (n : ℕ). k * need n) e ∙ mul-zero k ∙ ap need (sym e)
 
 module _ (σ p q r : ℕ) (s : Store) (L : Ledger) (I : Inv σ p q r s L) where
   T : Tree p q (view s)
@@ -99,17 +95,43 @@ module _ (σ p q r : ℕ) (s : Store) (L : Ledger) (I : Inv σ p q r s L) where
   live-bit : (i : ℕ) → i < objects s → ind (live? (view s) i) ≡ bit (isLive s i)
   live-bit i l = ap bit (holds-same (live? (view s) i) (isLive s i) (λ v. true-live s i (omega (arith, kind-at s i l))) (λ e. omega (arith, kind-at s i l, live-true s i e)))
 
-  -- ---- a line for each live object
+  -- ---- the records that have a line are the live ones, and the files among them those that have a file's
+  line-object : (l : Line) → List·Memᴰ l (L .book) → Live (view s) (objectIn (l .handle)) × (view s .kind (objectIn (l .handle)) ≡ l .kind)
+  unfolding T
+  line-object l m =
+      let (o, v, e, f) = lined-current σ p q r s L I (l .handle) (l .kind) (l, m, refl, refl) in
+      let i : objectIn (l .handle) ≡ o = ap objectIn e ∙ handle-object σ o (view s .gen o) (omega (arith, T .flat .past o v, T .flat .few)) in
+      (subst (Live (view s)) (sym i) v, ap (view s .kind) i ∙ f)
+
+  object-line : (o : ℕ) → Live (view s) o → (l : Line) × List·Memᴰ l (L .book) × (objectIn (l .handle) ≡ o) × (l .kind ≡ view s .kind o)
+  unfolding T
+  object-line o v =
+      let (l, m, e, f) = current-lined σ p q r s L I o v in
+      (l, m, ap objectIn e ∙ handle-object σ o (view s .gen o) (omega (arith, T .flat .past o v, T .flat .few)), f)
+
+  lined-object : (o : ℕ) → (isLinedObject (L .book) o ≡ true) ↔ Live (view s) o
+  lined-object o = (
+    (λ t. let (l, m, e) = line-has (λ l. eqb (objectIn (l .handle)) o) (L .book) t in
+        subst (Live (view s)) (eqb-true (objectIn (l .handle)) o e) (line-object l m .0)),
+    (λ v. let (l, m, e, f) = object-line o v in has-line (λ l. eqb (objectIn (l .handle)) o) (L .book) l m (eq-eqb (objectIn (l .handle)) o e)),
+  )
+
+  file-lined : (o : ℕ) → view s .kind o ≡ 1 → isLinedFile (L .book) o ≡ true
+  file-lined o k =
+      let (l, m, e, f) = object-line o (omega arith) in
+      has-line (λ l. eqb (objectIn (l .handle)) o && eqb (l .kind) 1) (L .book) l m
+      (and-true (eqb (objectIn (l .handle)) o) (eqb (l .kind) 1) (eq-eqb (objectIn (l .handle)) o e) (eq-eqb (l .kind) 1 (f ∙ k)))
+
   pub living-count : living p (view s) ≡ liveObjects s
   unfolding liveObjects
   living-count = ap (λ (n : ℕ). sum n (λ i. ind (live? (view s) i))) (sym (I .objs)) ∙ sum-ext (objects s) (λ i. ind (live? (view s) i)) (λ i. bit (isLive s i)) live-bit
 
-  pub line-living : length (L .book) ≡ living p (view s)
-  line-living =
-      sym (total-one (L .book)) ∙ book-sum σ p q r s L I (λ _. 1)
-      ∙ sum-ext p (λ i. ind (live? (view s) i) * 1) (λ i. ind (live? (view s) i)) (λ i _. mul-one (ind (live? (view s) i)))
+  line-living : linedObjects p (L .book) ≡ living p (view s)
+  unfolding linedObjects
+  line-living = sum-ext p (λ i. bit (isLinedObject (L .book) i)) (λ i. ind (live? (view s) i))
+      (λ i l. ap bit (sym (holds-same (live? (view s) i) (isLinedObject (L .book) i) (lined-object i .1) (lined-object i .0))))
 
-  pub line-count : length (L .book) ≡ liveObjects s
+  pub line-count : linedObjects p (L .book) ≡ liveObjects s
   line-count = line-living ∙ living-count
 
   -- ---- a line for each used name, and the root's
@@ -152,41 +174,32 @@ module _ (σ p q r : ℕ) (s : Store) (L : Ledger) (I : Inv σ p q r s L) where
       one-of false = refl
 
   -- ---- a live file's places are what its size needs, and no other object needs any
-  file-blocks : (i : ℕ) → i < objects s → ind (live? (view s) i) * (bit (eqb (view s .kind i) 1) * need (sizeOf s i)) ≡ need (sizeOf s i)
+  file-blocks : (i : ℕ) → i < objects s → bit (isLinedFile (L .book) i) * need (sizeOf s i) ≡ need (sizeOf s i)
   unfolding sizeOf
   file-blocks i l = go (I .valid .good-objects i l)
     where
-      by-size : ((objectAt s i .kind ≡ 1) × (objectAt s i .size ≤ 8192)) ⊎ ((objectAt s i .kind ≡ 2) × (objectAt s i .size ≡ 0))
-          → ind (live? (view s) i) * (bit (eqb (view s .kind i) 1) * need (objectAt s i .size)) ≡ need (objectAt s i .size)
-      by-size (_⊎_.inl a) =
-          factor-yes (ind (live? (view s) i)) _ (ind-yes (live? (view s) i) (omega (arith, kind-at s i l, a .0)))
-          ∙ factor-yes (bit (eqb (view s .kind i) 1)) (need (objectAt s i .size)) (ap bit (eq-eqb (view s .kind i) 1 (kind-at s i l ∙ a .0)))
-      by-size (_⊎_.inr a) =
-          factor-yes (ind (live? (view s) i)) _ (ind-yes (live? (view s) i) (omega (arith, kind-at s i l, a .0)))
-          ∙ factor-no (bit (eqb (view s .kind i) 1)) (need (objectAt s i .size)) (ap bit (ne-eqb (view s .kind i) 1 (λ e. omega (arith, kind-at s i l, a .0))))
-          ∙ ap need (sym (a .1))
+      lined : ℕ
+      lined = bit (isLinedFile (L .book) i)
 
-      go : GoodObject (blocks s) (objectAt s i) → ind (live? (view s) i) * (bit (eqb (view s .kind i) 1) * need (objectAt s i .size)) ≡ need (objectAt s i .size)
-      go (_⊎_.inl f) =
-          factor-no (ind (live? (view s) i)) _ (ind-no (live? (view s) i) (λ v. omega (arith, kind-at s i l, ap (λ (x : Object). x .kind) f)))
-          ∙ ap need (sym (ap (λ (v : Object). v .size) f))
+      by-size : ((objectAt s i .kind ≡ 1) × (objectAt s i .size ≤ 8192)) ⊎ ((objectAt s i .kind ≡ 2) × (objectAt s i .size ≡ 0))
+          → lined * need (objectAt s i .size) ≡ need (objectAt s i .size)
+      by-size (_⊎_.inl a) = factor-yes lined (need (objectAt s i .size)) (ap bit (file-lined i (kind-at s i l ∙ a .0)))
+      by-size (_⊎_.inr a) = no-need lined (objectAt s i .size) (a .1)
+
+      go : GoodObject (blocks s) (objectAt s i) → lined * need (objectAt s i .size) ≡ need (objectAt s i .size)
+      go (_⊎_.inl f) = no-need lined (objectAt s i .size) (ap (λ (v : Object). v .size) f)
       go (_⊎_.inr x) = by-size (x .size)
 
   -- ---- "Free blocks are R less the places"
-  pub free-blocks : freeBlockCount s + placesIn s (L .book) ≡ r
-  unfolding T
-  free-blocks =
-      let G : ℕ → ℕ = λ i. bit (eqb (view s .kind i) 1) * need (sizeOf s i) in
-      let a = places-total s (L .book) in
-      let b = total-ext (λ l. bit (eqb (l .kind) 1) * need (sizeOf s (objectIn (l .handle)))) (λ l. G (objectIn (l .handle))) (L .book)
-      (all-in (L .book) (λ l m. let (o, v, e, f) = lined-current σ p q r s L I (l .handle) (l .kind) (l, m, refl, refl) in
-      let w : objectIn (l .handle) ≡ o = ap objectIn e ∙ handle-object σ o (view s .gen o) (omega (arith, T .flat .past o v, T .flat .few)) in
-      ap (λ (k : ℕ). bit (eqb k 1) * need (sizeOf s (objectIn (l .handle)))) (sym f ∙ ap (view s .kind) (sym w)))) in
-      let c = book-sum σ p q r s L I G in
-      let d = sum-ext p (λ i. ind (live? (view s) i) * G i) (λ i. need (sizeOf s i)) (λ i l. file-blocks i (omega (arith, I .objs))) in
-      let e = free-room s (good σ p q r s L I) in
-      let g = ap (λ (n : ℕ). sum n (λ i. need (sizeOf s i))) (I .objs) in
-      omega (arith, I .blks)
+  pub free-blocks : freeBlockCount s + placesIn p s (L .book) ≡ r
+  unfolding placesIn
+  free-blocks = omega (
+    arith,
+    sum-ext p (λ i. bit (isLinedFile (L .book) i) * need (sizeOf s i)) (λ i. need (sizeOf s i)) (λ i l. file-blocks i (omega (arith, I .objs))),
+    free-room s (good σ p q r s L I),
+    ap (λ (n : ℕ). sum n (λ i. need (sizeOf s i))) (I .objs),
+    I .blks,
+  )
 
   held-block : (i k : ℕ) → k < need (sizeOf s i) → getD (held s i) k 0 ≡ getD (objectAt s i .blocks) k 0
   unfolding held
@@ -261,7 +274,7 @@ module _ (σ p q r : ℕ) (s : Store) (L : Ledger) (I : Inv σ p q r s L) where
       omega (arith, ap bit a, ap bit b, ind-no (live? (view s) i) v)))
 
   -- "available objects P less the live ones and the records whose handle of generation 4,294,967,294 was removed"
-  pub available-objects : availableCount s + (length (L .book) + spentRecords σ p L) ≡ p
+  pub available-objects : availableCount s + (linedObjects p (L .book) + spentRecords σ p L) ≡ p
   unfolding availableCount spentRecords
   available-objects =
       let S : ℕ → ℕ = λ i. bit (isAmong (lastHandle σ i) (L .given) && not (isLined (lastHandle σ i) (L .book))) in

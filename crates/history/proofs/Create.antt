@@ -4,7 +4,7 @@ use mathlib.Core.Logic.{_⊎_}
 use mathlib.Core.Bool.{true, false}
 use mathlib.Core.Option.{some, none}
 use mathlib.Core.List.{List}
-use Prim.Native.Nat.{ℕ, _-_, _<_}
+use Prim.Native.Nat.{ℕ, _<_}
 use native.Mathlib.Omega.{arith}
 use lib.Dec.{lit<}
 use lib.ListN.{length}
@@ -42,7 +42,8 @@ use Rattle.history.proofs.Checks.{found-name, no-name}
 use Rattle.history.proofs.Replies.{made-is}
 use Rattle.laws.proofs.ArgumentRange.{FitsHow}
 use Rattle.history.proofs.Noted.{Answer, created-says, changing-says, not-ok, note-failed, note-ok}
-use Rattle.history.proofs.Making.{handle-seen, withLine, new-keeps, new-handle, new-alive, directory-kind, line-added, line-there, existing-keeps, sure-create, sure-mkdir}
+use Rattle.history.proofs.Making.{handle-seen, withLine, new-keeps, new-handle, new-alive, directory-kind, line-added, line-there, existing-keeps}
+use Rattle.history.proofs.Statuses.{sure-create, sure-mkdir}
 
 -- what CREATE and MKDIR owe: the invariant, and that the handle in an OK reply is a live object's
 pub record Made (σ p q r : ℕ) (s t : Store) (L : Ledger) (reply : List ℕ) : Type 0 where

@@ -1,6 +1,6 @@
 -- Demand 3, proved: each field of `Kept` from the invariant, and the invariant after any list of requests from any successful format.
 -- Assumes nothing.
-use mathlib.Core.Path.{_≡_, sym, ap, _∙_, subst}
+use mathlib.Core.Path.{_≡_, refl, sym, ap, _∙_, subst}
 use mathlib.Core.Bool.{_&&_}
 use mathlib.Core.List.{List}
 use Prim.Native.Nat.{ℕ, _*_, _-_, _<_}
@@ -11,23 +11,26 @@ use borrow.Author.Tests.{leb-true, ltb-true}
 use Rattle.kinds.specs.declared.object.Time.{Time}
 use Rattle.spec.specs.Check.{goodTime, goodCounts, imageLength}
 use Rattle.spec.specs.Image.{Store}
+use Rattle.spec.specs.Procedures.{cut}
 use Rattle.spec.specs.Serve.{formatted, format}
 use Rattle.laws.proofs.Count.{by-bool, and-both}
 use Rattle.laws.proofs.Formatted.{FormatAsked}
 use Rattle.laws.proofs.Valid.{passes-valid}
-use Rattle.history.specs.Book.{firstLedger}
+use Rattle.history.specs.Book.{handleBytes, firstLedger}
 use Rattle.history.specs.Run.{Request, Lent, AllLent, State, step, run}
 use Rattle.history.specs.Statement.{HasLine, Kept, formattedState, Demand3}
 use Rattle.history.proofs.Seen.{view}
 use Rattle.history.proofs.Inv.{Inv, Owes}
 use Rattle.history.proofs.Next.{next, run-owes, format-inv}
-use Rattle.history.proofs.Lines.{object-lines, name-lines, current-lined}
+use Rattle.history.proofs.Lines.{object-lines, name-lines, current-lined, lined-current, stand-apart}
 use Rattle.history.proofs.Counts.{line-count, name-line-count, line-given, free-blocks, free-names, available-objects, one-block}
 use Rattle.history.proofs.Paths.{stored-path, book-path}
-use Rattle.history.proofs.Later.{removed-old, added-fresh, removed-stays, same-kind}
-use Rattle.history.proofs.Answers.{getattr-live, getattr-size, getattr-stale, fsstat-room}
+use Rattle.history.proofs.Later.{removed-old, added-fresh, given-stays, removed-stays, same-between}
+use Rattle.history.proofs.Answers.{names-at, getattr-live, getattr-size, getattr-stale, fsstat-room}
 use Rattle.history.proofs.Carried.{carried}
-use Rattle.history.proofs.Nospc.{blocks-left, names-left, objects-left, setattr-room, write-room, write-nothing, create-room, recreate-room, mkdir-room}
+use Rattle.history.proofs.Nospc.{blocks-left, names-left, objects-left, write-nothing, room}
+use Rattle.history.proofs.Only.{only-room}
+use Rattle.history.proofs.Conditions.{by-book, by-store, line-regular}
 
 -- the statement holds of every state that the invariant holds of
 pub kept : (σ p q r : ℕ) (w : State) → Inv σ p q r (w .store) (w .ledger) → Kept σ p q r w
@@ -45,6 +48,7 @@ kept σ p q r w I =
       blockCount = I .blks;
       objectLines = object-lines σ p q r s L I;
       nameLines = name-lines σ p q r s L I;
+      lineOnce = stand-apart σ p q r s L I;
       lineCount = line-count σ p q r s L I;
       nameLineCount = name-line-count σ p q r s L I;
       lineGiven = line-given σ p q r s L I;
@@ -58,30 +62,44 @@ kept σ p q r w I =
       bookPath = book-path σ p q r s L I;
       onePlace = λ i j k l a b _ _ m n e. one-block σ p q r s L I i j k l a b m n e;
       sizes = getattr-size σ p q r s L I;
+      totals = λ x h kind k l. let (a, b, c, d, e, f, g) = fsstat-room σ p q r s L I x h kind k l in (a, b, e);
       placesFit = omega (arith, free-blocks σ p q r s L I);
       freeBytes = λ x h kind k l.
-          let (a, b, c, d, e) = fsstat-room σ p q r s L I x h kind k l in
-          let f = ap (λ (n : ℕ). 512 * n) (sym (blocks-left σ p q r s L I)) in
-          (a, b ∙ f, c ∙ f);
+          let (a, b, c, d, e, f, g) = fsstat-room σ p q r s L I x h kind k l in
+          let z = ap (λ (n : ℕ). 512 * n) (sym (blocks-left σ p q r s L I)) in
+          (c ∙ z, d ∙ z);
       objectsFit = omega (arith, available-objects σ p q r s L I);
       available = λ x h kind k l.
-          let f = sym (objects-left σ p q r s L I) in
-          (fsstat-room σ p q r s L I x h kind k l .3 ∙ f, fsstat-room σ p q r s L I x h kind k l .4 ∙ f);
+          let (a, b, c, d, e, f, g) = fsstat-room σ p q r s L I x h kind k l in
+          let z = sym (objects-left σ p q r s L I) in
+          (f ∙ z, g ∙ z);
       namesFit = omega (arith, free-names σ p q r s L I);
       freeNames = sym (names-left σ p q r s L I);
+      givenStays = λ g m xs l. given-stays σ p q r s (run w xs .store) L (run w xs .ledger) I (later xs l .inv) (later xs l .grew) g m;
+      sameObject = λ g kind a.
+          let (o, v, e, f) = lined-current σ p q r s L I g kind a in
+          let n = view s .gen o in (
+            o,
+            n,
+            names-at σ p q r s L I g o n kind v e refl f,
+            (λ xs ys k l j b.
+                let t = run w xs in
+                let u = run t ys in
+                let J = later xs k in
+                let K = run-owes σ p q r t (J .inv) ys l in
+                let c : HasLine (u .ledger .book) (handleBytes σ o n) j = subst (λ (h : List ℕ). HasLine (u .ledger .book) h j) e b in
+                let (x, y) = same-between σ p q r s (t .store) (u .store) L (u .ledger) I (K .inv) (J .grew) (K .grew) o v j c in
+                names-at σ p q r (t .store) (t .ledger) (J .inv) g o n kind (omega arith) e x (y ∙ f)),
+          );
       live = getattr-live σ p q r s L I;
       stale = λ g d xs l x h k e.
           let (o, n, f, m, b, c) = removed-old σ p q r s L I g d in
           let y = later xs l in
           getattr-stale σ p q r (run w xs .store) (run w xs .ledger) (y .inv) x h k o n b c (omega (arith, y .grew .older o)) (e ∙ f);
       neverAgain = λ g d xs l. removed-stays σ p q r s (run w xs .store) L (run w xs .ledger) I (later xs l .inv) (later xs l .grew) g d;
-      sameKind = λ g i j a xs l b. same-kind σ p q r s (run w xs .store) L (run w xs .ledger) I (later xs l .inv) (later xs l .grew) g i j a b;
-      setattrRoom = setattr-room σ p q r s L I;
-      writeRoom = write-room σ p q r s L I;
-      writeNothing = write-nothing σ p q r s L I;
-      createRoom = create-room σ p q r s L I;
-      recreateRoom = recreate-room σ p q r s L I;
-      mkdirRoom = mkdir-room σ p q r s L I;
+      room = λ x m a. room σ p q r s L I x (by-store σ p q r s L I x a);
+      onlyRoom = λ x l e. let (m, a, b) = only-room σ p q r s L I x e in (m, by-book σ p q r s L I x l a, b);
+      writeNothing = λ x h offset bytes k y e. write-nothing σ p q r s L I x h offset bytes _ k (line-regular σ p q r s L I (cut (x .call) h) y .1) e;
     }
 
 -- what a successful format was asked for, and what it made

@@ -1,10 +1,14 @@
--- The book over bytes, by computation: a file is made, a request is refused, the file is renamed and removed, and its handle is stale.
+-- The book over bytes, by computation: a file is made, a request is refused, the file is renamed and removed, and its handle is stale; its record
+-- is counted once, and there is no room for a second file while it is there.
 use Prim.Native.Nat.{ℕ}
 use mathlib.Core.Path.{_≡_, refl}
+use mathlib.Core.Bool.{true}
 use mathlib.Core.List.{List, [], _∷_}
 use Rattle.spec.proofs.Setting.{context, space, fresh, getattrCall, createCall, removeCall, renameCall, nameA, nameB, computing}
-use Rattle.history.specs.Book.{Line, asRoot, under, handleBytes, firstLedger, someAt, add, strikeLines, strike, moveLine, moveLines, move, asked, statusIn, isOk, noted, note}
+use Rattle.history.specs.Book.{Line, asRoot, under, handleBytes, firstLedger, someAt, add, strikeLines, strike, moveLine, moveLines, move}
+use Rattle.history.specs.Book.{asked, statusIn, isStatus, isOk, noted, note}
 use Rattle.history.specs.Run.{Request, State, replyTo, step, run}
+use Rattle.history.specs.Statement.{someLine, linedObjects}
 
 -- a request with this call, and one whose reply space is too short
 abbrev request : List ℕ → Request
@@ -37,7 +41,10 @@ pub record Examples : Type 0 where
   pub renamed : run start (request (createCall nameA) ∷ request (renameCall 0 nameA 0 nameB) ∷ []) .ledger .book ≡ fileLine nameB ∷ rootLine ∷ []
   pub struck : removed .ledger ≡ record { book = rootLine ∷ []; given = file ∷ root ∷ [] }
   pub stale : statusIn (replyTo (removed .store) (request (getattrCall 1))) ≡ 70
+  pub counted : linedObjects 2 (fileLine nameA ∷ fileLine nameB ∷ rootLine ∷ []) ≡ 2
+  pub full : isStatus 28 (replyTo (run start (request (createCall nameA) ∷ []) .store) (request (createCall nameB))) ≡ true
+  pub roomAgain : isStatus 0 (replyTo (removed .store) (request (createCall nameB))) ≡ true
 
 pub examples : Examples
-unfolding computing someAt add strikeLines strike moveLine moveLines move asked isOk noted note replyTo step run
-examples = record { made = refl; renamed = refl; struck = refl; stale = refl }
+unfolding computing someAt add strikeLines strike moveLine moveLines move asked isStatus isOk noted note replyTo step run someLine linedObjects
+examples = record { made = refl; renamed = refl; struck = refl; stale = refl; counted = refl; full = refl; roomAgain = refl }

@@ -25,6 +25,7 @@ pub mod Asked
 pub mod Ranges
 pub mod Noted
 pub mod Checks
+pub mod Statuses
 -- The procedures, every request, and any list of them.
 pub mod Sizes
 pub mod Making
@@ -38,7 +39,10 @@ pub mod Paths
 pub mod Later
 pub mod Answers
 pub mod Carried
+pub mod Asking
 pub mod Nospc
+pub mod Only
+pub mod Conditions
 pub mod Demand
 -- The book over bytes, by computation.
 pub mod Examples

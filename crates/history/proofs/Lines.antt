@@ -2,26 +2,25 @@
 use mathlib.Core.Path.{_≡_, refl, sym, ap, _∙_, subst}
 use mathlib.Core.Logic.{_↔_, _⊎_, inl, inr, by-cases, ⊎-elim}
 use mathlib.Core.List.{List, [], _∷_, _++_, map, List·Memᴰ, List·Memᴰ·head, List·Memᴰ·tail, List·Memᴰ·cases-cons, List·Memᴰ·not-nil, List·Memᴰ·append-cases, List·Memᴰ·eq-of-singleton, Memᴰ·append-left, Memᴰ·append-right, Memᴰ·map, Memᴰ·of-map, Memᴰ·cast}
-use Prim.Native.Nat.{ℕ, zero, suc, _+_, _*_, _<_}
+use Prim.Native.Nat.{ℕ, zero, suc, _+_, _*_, _≤_, _<_}
 use native.Mathlib.Decide.{ℕ-discrete}
 use native.Mathlib.Nat.{not-suc-le-zero, zero-mul, one-mul, add-mul}
 use native.Mathlib.Omega.{arith}
 use lib.Dec.{eqb}
-use borrow.Author.Tests.{eq-eqb, ne-eqb, eqb-true}
+use borrow.Author.Tests.{eq-eqb, ne-eqb}
 use Rattle.spec.specs.Count.{bit, sum, times}
 use Rattle.spec.specs.Handles.{handleOf}
 use Rattle.spec.specs.Image.{Store, nameAt}
 use Rattle.laws.proofs.Count.{sum-ext, sum-zero, sum-add}
 use Rattle.laws.proofs.Valid.{true-live}
 use Rattle.history.specs.Book.{asRoot, under, Line, Book, Ledger}
-use Rattle.history.specs.Statement.{In, HasLine, HasName, StoredObject, StoredName, objectIn}
-use Rattle.laws.proofs.FreeCount.{sum-swap}
-use Rattle.history.proofs.Sum.{ind, ind-yes, ind-no, ind-true, holds-same}
-use Rattle.history.proofs.Lists.{All, all-times}
-use Rattle.history.proofs.View.{Live, Used, names?, namings, named-by}
-use Rattle.history.proofs.Tree.{Tree, live?}
-use Rattle.history.proofs.Handles.{handle-object}
-use Rattle.history.proofs.Agree.{Agrees, handleIn, lineOf, rootLine, used?}
+use Rattle.history.specs.Statement.{In, HasLine, HasName, StoredObject, StoredName, StandApart}
+use Rattle.history.proofs.Sum.{ind-yes, ind-true, ind-le}
+use Rattle.history.proofs.Lists.{All, times-all}
+use Rattle.history.proofs.View.{Live, Used, named-by, not-named}
+use Rattle.history.proofs.Tree.{Tree, lone, one-name}
+use Rattle.history.proofs.Handles.{same-object}
+use Rattle.history.proofs.Agree.{Agrees, handleIn, lineOf, rootLine, used?, all-used, own, not-root}
 use Rattle.history.proofs.Seen.{view, kind-at, dir-at, child-at, text-at, live-in, used-in, used-of, of-used}
 use Rattle.history.proofs.Inv.{Inv, tree}
 use Rattle.history.proofs.Making.{handle-seen}
@@ -42,19 +41,14 @@ unfolding total
 total-map f g [] = refl
 total-map f g (x ∷ xs) = omega (arith, total-map f g xs)
 
-pub total-ext : {A : Type 0} (f g : A → ℕ) (xs : List A) → All (λ x. f x ≡ g x) xs → total f xs ≡ total g xs
-unfolding total
-total-ext f g [] h = refl
-total-ext f g (x ∷ xs) h = omega (arith, total-ext f g xs (h .1), h .0)
-
 -- a term with a factor of 0 or 1
-pub factor-no : (k x : ℕ) → k ≡ 0 → k * x ≡ 0
+factor-no : (k x : ℕ) → k ≡ 0 → k * x ≡ 0
 factor-no k x e = ap (λ (j : ℕ). j * x) e ∙ zero-mul x
 
 pub factor-yes : (k x : ℕ) → k ≡ 1 → k * x ≡ x
 factor-yes k x e = ap (λ (j : ℕ). j * x) e ∙ one-mul x
 
-pub sum-single : (n x : ℕ) (f : ℕ → ℕ) → x < n → sum n (λ i. bit (eqb x i) * f i) ≡ f x
+sum-single : (n x : ℕ) (f : ℕ → ℕ) → x < n → sum n (λ i. bit (eqb x i) * f i) ≡ f x
 unfolding sum
 sum-single zero x f l = absurd (not-suc-le-zero l)
 sum-single (suc n) x f l = by-cases (ℕ-discrete x n)
@@ -64,11 +58,6 @@ sum-single (suc n) x f l = by-cases (ℕ-discrete x n)
     (λ d. let r = sum-single n x f (omega arith) in
     let y : bit (eqb x n) * f n ≡ 0 = factor-no (bit (eqb x n)) (f n) (ap bit (ne-eqb x n d)) in
     omega arith)
-
-mul-sum : (n : ℕ) (g : ℕ → ℕ) (c : ℕ) → sum n (λ i. g i * c) ≡ sum n g * c
-unfolding sum
-mul-sum zero g c = sym (zero-mul c)
-mul-sum (suc n) g c = ap (λ (k : ℕ). g n * c + k) (mul-sum n g c) ∙ sym (add-mul (g n) (sum n g) c)
 
 -- a sum over a list of numbers below n
 pub total-times : (n : ℕ) (f : ℕ → ℕ) (xs : List ℕ) → All (λ x. x < n) xs → total f xs ≡ sum n (λ i. times i xs * f i)
@@ -187,63 +176,56 @@ module _ (σ p q r : ℕ) (s : Store) (L : Ledger) (I : Inv σ p q r s L) where
           let b : view s .text n ≡ text = cc in
           (n, k, used-of s (I .valid .good-names) n k u, dir-handle n u ∙ a, child-handle n u ∙ ap (λ (z : Line). z .handle) x ∙ e, sym (text-at s n k) ∙ b)
 
-  -- ---- sums over the lines are sums over the live objects
-  order-below : All (λ n. n < q) (A .order)
-  unfolding T
-  order-below = all-times (A .order) (λ n h. T .flat .rows n (order-used n h))
+  -- no line stands twice
+  apart : (ks : List ℕ) → All (Used (view s)) ks → ((n : ℕ) → times n ks ≤ 1) → StandApart (map (lineOf σ (view s)) ks ++ (rootLine σ (view s) ∷ []))
+  unfolding times T
+  apart [] h o = ((λ k m e. List·Memᴰ·not-nil m), tt)
+  apart (n ∷ ks) h o = (
+    (λ k m e. ⊎-elim
+        (λ (x : List·Memᴰ k (map (lineOf σ (view s)) ks)).
+        let (i, j, y) = Memᴰ·of-map (lineOf σ (view s)) ks x in
+        let u : Used (view s) i = times-all (Used (view s)) ks i (h .1) (member-times i ks j) in
+        let z : i ≡ n = own p q σ (view s) T n (h .0) i u (ap (λ (l : Line). l .standing) y ∙ e) in
+        omega (arith, o i, member-times i ks j, ap bit (eq-eqb n i (sym z))))
+        (λ (x : List·Memᴰ k (rootLine σ (view s) ∷ [])).
+        not-root p q σ (view s) T n (h .0) (ap (λ (l : Line). l .standing) (sym (List·Memᴰ·eq-of-singleton x)) ∙ e))
+        (List·Memᴰ·append-cases (map (lineOf σ (view s)) ks) m)),
+    apart ks (h .1) (λ i. omega (arith, o i)),
+  )
 
-  small : (o : ℕ) → Live (view s) o → o < 4294967296
-  unfolding T
-  small o l = omega (arith, T .flat .past o l, T .flat .few)
+  pub stand-apart : StandApart (L .book)
+  unfolding A
+  stand-apart = subst StandApart (sym (A .lines))
+      (apart (A .order) (all-used (view s) (A .order) (A .each)) (λ n. omega (arith, A .each n, ind-le (used? (view s) n))))
 
-  pub book-sum : (f : ℕ → ℕ) → total (λ l. f (objectIn (l .handle))) (L .book) ≡ sum p (λ i. ind (live? (view s) i) * f i)
-  unfolding total T A
-  book-sum f =
-      let v = view s in
-      let F : Line → ℕ = λ l. f (objectIn (l .handle)) in
-      let whole = ap (total F) (A .lines) ∙ total-append F (map (lineOf σ v) (A .order)) (rootLine σ v ∷ []) in
-      let each = total-map F (lineOf σ v) (A .order)
-      ∙ total-ext (λ n. F (lineOf σ v n)) (λ n. f (v .child n)) (A .order)
-      (all-times (A .order) (λ n h. ap f (handle-object σ (v .child n) (v .gen (v .child n)) (small (v .child n) (T .flat .ends n (order-used n h))))))
-      ∙ total-times q (λ n. f (v .child n)) (A .order) order-below in
-      let top : F (rootLine σ v) ≡ f 0 = ap f (handle-object σ 0 (v .gen 0) (omega arith)) in
-      -- by the object that a record names
-      let spread = sum-ext q (λ n. times n (A .order) * f (v .child n)) (λ n. sum p (λ i. ind (names? v n i) * f i)) (λ n l. spread-one n) in
-      let turn = sum-swap q p (λ n i. ind (names? v n i) * f i) in
-      let gather = sum-ext p (λ i. sum q (λ n. ind (names? v n i) * f i)) (λ i. namings q v i * f i) (λ i l. mul-sum q (λ n. ind (names? v n i)) (f i)) in
-      let root = sum-single p 0 f (T .flat .past 0 (omega (arith, T .flat .root))) in
-      let join = sum-add p (λ i. namings q v i * f i) (λ i. bit (eqb 0 i) * f i) in
-      let ends = sum-ext p (λ i. namings q v i * f i + bit (eqb 0 i) * f i) (λ i. ind (live? v i) * f i) (λ i l. one i) in
-      omega arith
+  -- an object has one line, for now
+  pub one-line : (k l : Line) → In k (L .book) → In l (L .book) → k .handle ≡ l .handle → k ≡ l
+  unfolding T
+  one-line k l a b e = go (in-book k .0 a) (in-book l .0 b)
     where
-      spread-one : (n : ℕ) → times n (A .order) * f (view s .child n) ≡ sum p (λ i. ind (names? (view s) n i) * f i)
-      spread-one n = by-cases (used? (view s) n)
-          (λ u. let c = view s .child n in
-          factor-yes (times n (A .order)) (f c) (A .each n ∙ ind-yes (used? (view s) n) u)
-          ∙ sym (sum-ext p (λ i. ind (names? (view s) n i) * f i) (λ i. bit (eqb c i) * f i)
-          (λ i l. ap (λ (k : ℕ). k * f i) (ap bit (holds-same (names? (view s) n i) (eqb c i) (λ h. eq-eqb c i (h .1)) (λ e. (u, eqb-true c i e)))))
-          ∙ sum-single p c f (T .flat .past c (T .flat .ends n u))))
-          (λ u. factor-no (times n (A .order)) (f (view s .child n)) (A .each n ∙ ind-no (used? (view s) n) u)
-          ∙ sym (sum-zero p (λ i. ind (names? (view s) n i) * f i) (λ i l. factor-no (ind (names? (view s) n i)) (f i) (ind-no (names? (view s) n i) (λ h. u (h .0))))))
+      At : Line → Type 0
+      At l = (l ≡ rootLine σ (view s)) ⊎ ((n : ℕ) × Used (view s) n × (lineOf σ (view s) n ≡ l))
 
-      one : (i : ℕ) → namings q (view s) i * f i + bit (eqb 0 i) * f i ≡ ind (live? (view s) i) * f i
-      one i = by-cases (ℕ-discrete 0 i)
-          (λ e. omega (
-            arith,
-            factor-no (namings q (view s) i) (f i) (ap (namings q (view s)) (sym e) ∙ T .flat .never),
-            factor-yes (bit (eqb 0 i)) (f i) (ap bit (eq-eqb 0 i e)),
-            factor-yes (ind (live? (view s) i)) (f i) (ind-yes (live? (view s) i) (omega (arith, T .flat .root, ap (view s .kind) e))),
-          ))
-          (λ n. by-cases (live? (view s) i)
-          (λ l. omega (
-            arith,
-            factor-yes (namings q (view s) i) (f i) (omega (arith, T .flat .once i (λ e. n (sym e)) l)),
-            factor-no (bit (eqb 0 i)) (f i) (ap bit (ne-eqb 0 i n)),
-            factor-yes (ind (live? (view s) i)) (f i) (ind-yes (live? (view s) i) l),
-          ))
-          (λ l. omega (
-            arith,
-            factor-no (namings q (view s) i) (f i) (sum-zero q (λ m. ind (names? (view s) m i)) (λ m j. ind-no (names? (view s) m i) (λ h. l (subst (Live (view s)) (h .1) (T .flat .ends m (h .0)))))),
-            factor-no (bit (eqb 0 i)) (f i) (ap bit (ne-eqb 0 i n)),
-            factor-no (ind (live? (view s) i)) (f i) (ind-no (live? (view s) i) l),
-          )))
+      small : (o : ℕ) → Live (view s) o → o < 4294967296
+      small o v = omega (arith, T .flat .past o v, T .flat .few)
+
+      object : (i j : ℕ) → Live (view s) i → Live (view s) j → handleIn σ (view s) i ≡ handleIn σ (view s) j → i ≡ j
+      object i j u v = same-object σ i (view s .gen i) j (view s .gen j) (small i u) (small j v)
+
+      root : Live (view s) 0
+      root = omega (arith, T .flat .root)
+
+      unnamed : (n : ℕ) → Used (view s) n → handleIn σ (view s) (view s .child n) ≡ handleIn σ (view s) 0 → k ≡ l
+      unnamed n u h = absurd (not-named q (view s) 0 n (T .flat .never) (T .flat .rows n u) (u, object (view s .child n) 0 (T .flat .ends n u) root h))
+
+      of : {x y : Line} → x ≡ y → x .handle ≡ y .handle
+      of z = ap (λ (m : Line). m .handle) z
+
+      go : At k → At l → k ≡ l
+      go (inl x) (inl y) = x ∙ sym y
+      go (inl x) (inr (n, u, y)) = unnamed n u (of y ∙ sym e ∙ of x)
+      go (inr (n, u, x)) (inl y) = unnamed n u (of x ∙ e ∙ of y)
+      go (inr (n, u, x)) (inr (m, v, y)) =
+          let c = object (view s .child n) (view s .child m) (T .flat .ends n u) (T .flat .ends m v) (of x ∙ e ∙ sym (of y)) in
+          let z = one-name p q (view s) (T .flat) (view s .child m) n m (lone p q (view s) (T .flat) (view s .child m) (T .flat .ends m v)) (u, c) (v, refl) in
+          sym x ∙ ap (lineOf σ (view s)) z ∙ y

@@ -3,7 +3,7 @@ use mathlib.Core.Path.{_≡_, refl, sym, ap, _∙_, subst}
 use mathlib.Core.Logic.{_≢_, by-cases}
 use mathlib.Core.Bool.{Bool, true, cond}
 use mathlib.Core.List.{List, [], _∷_}
-use Prim.Native.Nat.{ℕ, zero, suc, _<_}
+use Prim.Native.Nat.{ℕ, suc, _<_}
 use native.Mathlib.Decide.{ℕ-discrete}
 use native.Mathlib.Nat.{not-suc-le-zero}
 use native.Mathlib.Omega.{arith}
@@ -45,21 +45,6 @@ times-all P [] a h l = absurd (not-suc-le-zero l)
 times-all P (x ∷ xs) a h l = by-cases (ℕ-discrete x a)
     (λ e. subst P e (h .0))
     (λ n. times-all P xs a (h .1) (omega (arith, ap bit (ne-eqb x a n))))
-
-pub times-at : (a d : ℕ) (xs : List ℕ) (k : ℕ) → k < length xs → getD xs k d ≡ a → 0 < times a xs
-unfolding times
-times-at a d [] k l e = absurd (omega arith)
-times-at a d (x ∷ xs) zero l e = omega (arith, ap bit (eq-eqb x a e))
-times-at a d (x ∷ xs) (suc k) l e = omega (arith, times-at a d xs k (omega arith) e)
-
--- two places with one element
-pub times-two : (a d : ℕ) (xs : List ℕ) (k l : ℕ) → k < l → l < length xs → getD xs k d ≡ a → getD xs l d ≡ a → 1 < times a xs
-unfolding times
-times-two a d [] k l p q e f = absurd (omega arith)
-times-two a d (x ∷ xs) zero zero p q e f = absurd (omega arith)
-times-two a d (x ∷ xs) zero (suc l) p q e f = omega (arith, ap bit (eq-eqb x a e), times-at a d xs l (omega arith) f)
-times-two a d (x ∷ xs) (suc k) zero p q e f = absurd (omega arith)
-times-two a d (x ∷ xs) (suc k) (suc l) p q e f = omega (arith, times-two a d xs k l (omega arith) (omega arith) e f)
 
 -- a number's place in a list
 pub times-place : (a d : ℕ) (xs : List ℕ) → 0 < times a xs → (k : ℕ) × (k < length xs) × (getD xs k d ≡ a)

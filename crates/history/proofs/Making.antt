@@ -1,26 +1,22 @@
 -- CREATE and MKDIR keep the invariant, with the line that the book gets. Assumes nothing.
 use mathlib.Core.Path.{_≡_, refl, sym, ap, _∙_, subst}
 use mathlib.Core.Logic.{_⊎_}
-use mathlib.Core.Bool.{Bool, true, false, _&&_, _||_, not}
-use mathlib.Core.Option.{Option, some, none}
+use mathlib.Core.Bool.{true}
 use mathlib.Core.List.{List, _∷_}
 use Prim.Native.Nat.{ℕ, _-_, _^_, _≤_, _<_}
 use native.Mathlib.Omega.{arith}
-use lib.Dec.{lit<}
 use Rattle.kinds.specs.declared.object.Context.{Context}
 use Rattle.kinds.specs.declared.object.Object.{Object}
 use Rattle.kinds.specs.declared.call.SetSize.{SetSize}
 use Rattle.kinds.specs.declared.call.SetSize.the-variants as SetSize
 use Rattle.kinds.specs.declared.call.Settable.{Settable}
-use Rattle.kinds.specs.declared.call.How.{How}
-use Rattle.kinds.specs.declared.call.How.the-variants as How
-use Rattle.spec.specs.Checked.{Checked, refused, passed, absent}
+use Rattle.spec.specs.Checked.{absent}
 use Rattle.spec.specs.Edits.{withAttributes, withGeneration, resize, createObject, mtimeAndCtime}
-use Rattle.spec.specs.Handles.{handleOf, reachDirectory}
-use Rattle.spec.specs.Image.{Store, objects, names, blocks, objectAt, nameAt}
-use Rattle.spec.specs.Procedures.Attributes.{isGiven, sizeSet, badAttributes, lacksRoom, resizeTo}
-use Rattle.spec.specs.Procedures.Names.{newObject, newEdit, new, existing, isNew, roomForNew, checkExisting, targetOf, checkNew, checkAttributed, checkHow, checkCreate, existingEdit, checkMkdir}
-use Rattle.spec.specs.Room.{isRegular, sizeOf, need, freeBlockCount, findName}
+use Rattle.spec.specs.Handles.{handleOf}
+use Rattle.spec.specs.Image.{Store, objects, names, blocks, objectAt}
+use Rattle.spec.specs.Procedures.Attributes.{isGiven, sizeSet, resizeTo}
+use Rattle.spec.specs.Procedures.Names.{newObject, newEdit, existingEdit}
+use Rattle.spec.specs.Room.{sizeOf, need, freeBlockCount}
 use Rattle.laws.proofs.CreateObject.{create-object, create-object-uses}
 use Rattle.laws.proofs.GoodRecords.{GoodClock, clock-fits, free-size}
 use Rattle.laws.proofs.Passed.{Reached, NewRoom}
@@ -35,7 +31,7 @@ use Rattle.history.proofs.Agree.{handleIn, none-at, some-at}
 use Rattle.history.proofs.Seen.{view, kind-at, gen-at, live-in}
 use Rattle.history.proofs.Inv.{Inv, Keeps, keeps-refl, keeps-trans, tree, touch-inv, resize-inv, created-of, create-keeps}
 use Rattle.history.proofs.Inv as Inv
-use Rattle.history.proofs.Checks.{handle-reached, Sure, sure-bind, sure-then, sure-passed, sure-refused, sure-absent, sure-directory, sure-room, sure-new}
+use Rattle.history.proofs.Checks.{handle-reached}
 use Rattle.history.proofs.Noted.{add-new, add-old}
 use Rattle.history.proofs.Sizes.{resize-to}
 
@@ -184,36 +180,3 @@ module _ (σ p q r : ℕ) (s : Store) (L : Ledger) (I : Inv σ p q r s L) (c : C
           let first = resize-inv σ p q r s L I o n k m e in
           keeps-trans σ p q r s (resize s o n) _ L L first
           (touch-inv σ p q r (resize s o n) L (first .owes .inv) (c .clock) o mtimeAndCtime (omega (arith, first .kinds o (omega arith))) clock mtime-and-ctime-fits mtime-and-ctime-allowed)
-
--- ---- the checks of CREATE and MKDIR
-pub sure-target : (s : Store) (d : ℕ) (text : List ℕ) (b : Bool) (a : Settable) → Sure (checkAttributed s d text b a)
-unfolding checkAttributed checkExisting
-sure-target s d text b a = sure-bind (checkNew s d text (badAttributes a)) _ (sure-new s d text (badAttributes a)) (λ _. target (findName s d text))
-  where
-    is-new : (x : Checked (ℕ × ℕ)) → Sure x → Sure (isNew x)
-    is-new (refused n) f = λ status e. let z : n ≡ status = cc in f status (ap refused z)
-    is-new (passed x) f = sure-passed (new (x .0) (x .1))
-
-    target : (x : Option ℕ) → Sure (targetOf s b a x)
-    target none = is-new (roomForNew s (sizeSet (a .size) 0)) (sure-room s (sizeSet (a .size) 0))
-    target (some n) =
-        sure-then (not (b && isRegular s (nameAt s n .child))) 17 _ (lit< tt) (lit< tt)
-        (sure-then (lacksRoom s (sizeOf s (nameAt s n .child)) (sizeSet (a .size) (sizeOf s (nameAt s n .child)))) 28 _ (lit< tt) (lit< tt) (sure-passed (existing (nameAt s n .child))))
-
-pub sure-create : (s : Store) (h text : List ℕ) (manner : How) → Sure (checkCreate s h text manner)
-unfolding checkCreate
-sure-create s h text manner =
-    sure-bind (reachDirectory s h) _ (sure-directory s h) (λ d. sure-bind (checkHow s d text manner) _ (how d manner) (λ t. sure-passed (d, t)))
-  where
-    how : (d : ℕ) (m : How) → Sure (checkHow s d text m)
-    how d (How.Unchecked a) = sure-target s d text true a
-    how d (How.Guarded a) = sure-target s d text false a
-    how d (How.Exclusive verifier) = sure-refused 10004 (lit< tt) (lit< tt)
-
-pub sure-mkdir : (s : Store) (h text : List ℕ) (a : Settable) → Sure (checkMkdir s h text a)
-unfolding checkMkdir
-sure-mkdir s h text a =
-    sure-bind (reachDirectory s h) _ (sure-directory s h) (λ d.
-    sure-bind (checkNew s d text (badAttributes a || isGiven (a .size))) _ (sure-new s d text (badAttributes a || isGiven (a .size))) (λ _.
-    sure-bind (absent 17 (findName s d text)) _ (sure-absent 17 (findName s d text) (lit< tt) (lit< tt)) (λ _.
-    sure-bind (roomForNew s 0) _ (sure-room s 0) (λ x. sure-passed (d, x .0, x .1)))))

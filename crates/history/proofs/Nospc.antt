@@ -33,7 +33,8 @@ use Rattle.laws.proofs.Error.{statusOf}
 use Rattle.laws.proofs.Searches.{count-nothing}
 use Rattle.history.specs.Book.{Ledger, isStatus, isOk}
 use Rattle.history.specs.Run.{Request, replyTo}
-use Rattle.history.specs.Statement.{Asks, AnswersRoom, BlocksMissing, RoomMissing, blocksLeft, namesLeft, objectsLeft}
+use Rattle.history.specs.Statement.{Asks, Room, Missing, AnswersRoom, blocksLeft, namesLeft, objectsLeft}
+use Rattle.history.proofs.Asking.{AsksStore}
 use Rattle.history.proofs.Inv.{Inv}
 use Rattle.history.proofs.Replies.{answered-is, answered-ok}
 use Rattle.history.proofs.Counts.{free-blocks, free-names, available-objects}
@@ -42,7 +43,7 @@ use Rattle.history.proofs.Next.{answer-to}
 
 -- ---- an answer by a test
 module _ (call reply : List ℕ) (a : Arguments) (r : Result) (A : Answer call reply a r) where
-  status-of : (n k : ℕ) → Says r n → n < 4294967296 → isStatus k reply ≡ eqb n k
+  pub status-of : (n k : ℕ) → Says r n → n < 4294967296 → isStatus k reply ≡ eqb n k
   status-of n k f l =
       ap (isStatus k) (A .is) ∙ answered-is (A .xid) (A .procedure) r (f .some) (omega (arith, f .status)) k ∙ ap (λ (x : ℕ). eqb x k) (f .status)
 
@@ -76,13 +77,20 @@ lowest-found n f l = go (lowest n f) refl
     go none e = absurd (omega (arith, count-nothing n f (λ i m. lowest-none f n i e m)))
     go (some k) e = (k, e)
 
+-- the two kinds of room that can be missing
+abbrev BlocksMissing : ℕ → ℕ → Store → Ledger → ℕ → ℕ → Type 0
+BlocksMissing p r s L old size = blocksLeft p r s L < need size - need old
+
+abbrev RoomMissing : ℕ → ℕ → ℕ → ℕ → Store → Ledger → ℕ → Type 0
+RoomMissing σ p q r s L size = (objectsLeft σ p L ≡ 0) ⊎ ((namesLeft q L ≡ 0) ⊎ (blocksLeft p r s L < need size))
+
 -- the checks of room for a new object, by what is found
 abbrev roomBy : Option ℕ → Option ℕ → Bool → Checked (ℕ × ℕ)
 roomBy x y t = bind (present 28 x) (λ o. bind (present 28 y) (λ n. bind (refuseIf t 28) (λ _. passed (o, n))))
 
 module _ (σ p q r : ℕ) (s : Store) (L : Ledger) (I : Inv σ p q r s L) where
   -- the room that is left, by the book and in the store
-  pub blocks-left : blocksLeft r s L ≡ freeBlockCount s
+  pub blocks-left : blocksLeft p r s L ≡ freeBlockCount s
   blocks-left = omega (arith, free-blocks σ p q r s L I)
 
   pub names-left : namesLeft q L ≡ freeNameCount s
@@ -91,23 +99,23 @@ module _ (σ p q r : ℕ) (s : Store) (L : Ledger) (I : Inv σ p q r s L) where
   pub objects-left : objectsLeft σ p L ≡ availableCount s
   objects-left = omega (arith, available-objects σ p q r s L I)
 
-  missing-yes : (old size : ℕ) → BlocksMissing r s L old size → lacksRoom s old size ≡ true
+  missing-yes : (old size : ℕ) → BlocksMissing p r s L old size → lacksRoom s old size ≡ true
   unfolding lacksRoom
   missing-yes old size m = lt-ltb (freeBlockCount s) (need size - need old) (omega (arith, blocks-left))
 
-  missing-no : (old size : ℕ) → ¬ BlocksMissing r s L old size → lacksRoom s old size ≡ false
+  missing-no : (old size : ℕ) → ¬ BlocksMissing p r s L old size → lacksRoom s old size ≡ false
   unfolding lacksRoom
   missing-no old size m =
       by-bool (ltb (freeBlockCount s) (need size - need old))
       (λ t. absurd (m (omega (arith, blocks-left, ltb-true (freeBlockCount s) (need size - need old) t)))) (λ t. t)
 
-  missing? : (old size : ℕ) → Dec (BlocksMissing r s L old size)
-  missing? old size = decLt (blocksLeft r s L) (need size - need old)
+  missing? : (old size : ℕ) → Dec (BlocksMissing p r s L old size)
+  missing? old size = decLt (blocksLeft p r s L) (need size - need old)
 
   -- ---- SETATTR
-  pub setattr-room : (x : Request) (h : Part) (a : Settable) (g : Guard) (o : ℕ) → Asks x (Call.Setattr h a g)
+  setattr-room : (x : Request) (h : Part) (a : Settable) (g : Guard) (o : ℕ) → Asks x (Call.Setattr h a g)
       → reach s (cut (x .call) h) ≡ passed o → differs g (objectAt s o .ctime) ≡ false → badAttributes a ≡ false → isGiven (a .size) && isDirectory s o ≡ false
-      → AnswersRoom (replyTo s x) (BlocksMissing r s L (sizeOf s o) (sizeSet (a .size) (sizeOf s o)))
+      → AnswersRoom (replyTo s x) (BlocksMissing p r s L (sizeOf s o) (sizeSet (a .size) (sizeOf s o)))
   unfolding act setattr checkSetattr statusOf
   setattr-room x h a g o k e₁ e₂ e₃ e₄ =
       let hb = cut (x .call) h in
@@ -117,15 +125,15 @@ module _ (σ p q r : ℕ) (s : Store) (L : Ledger) (I : Inv σ p q r s L) where
       let checks : checkSetattr s hb a g ≡ bind (refuseIf (lacksRoom s old size) 28) (λ _. passed o) = rw (e₁, e₂, e₃, e₄) in
       let result : Checked ℕ → Result = λ y. settle s (failChanging s hb) y (λ o. edited s o (setattrEdit s c o a)) .result in
       let A = answer-to σ p q r s L I x (Call.Setattr h a g) k in
-      by-room (x .call) (replyTo s x) (Call.Setattr h a g) _ A (BlocksMissing r s L old size) (missing? old size)
+      by-room (x .call) (replyTo s x) (Call.Setattr h a g) _ A (BlocksMissing p r s L old size) (missing? old size)
       (λ m. subst (λ (y : Checked ℕ). Says (result y) 28) (sym (checks ∙ ap (λ (t : Bool). bind (refuseIf t 28) (λ _. passed o)) (missing-yes old size m))) (changing-says s hb 28))
       (λ m. subst (λ (y : Checked ℕ). Says (result y) 0) (sym (checks ∙ ap (λ (t : Bool). bind (refuseIf t 28) (λ _. passed o)) (missing-no old size m)))
       (changed-says 0 _))
 
   -- ---- WRITE
-  pub write-room : (x : Request) (h : Part) (offset n : ℕ) (bytes : Part) (o : ℕ) → Asks x (Call.Write h offset n bytes)
+  write-room : (x : Request) (h : Part) (offset n : ℕ) (bytes : Part) (o : ℕ) → Asks x (Call.Write h offset n bytes)
       → reachRegular s (cut (x .call) h) ≡ passed o → n ≡ length (cut (x .call) bytes) → 0 < n → offset + min n mostBytes ≤ 8192
-      → AnswersRoom (replyTo s x) (BlocksMissing r s L (sizeOf s o) (grown s o offset (min n mostBytes)))
+      → AnswersRoom (replyTo s x) (BlocksMissing p r s L (sizeOf s o) (grown s o offset (min n mostBytes)))
   unfolding act write writeDone checkWrite statusOf
   write-room x h offset n bytes o k e₁ e₂ l m =
       let hb = cut (x .call) h in
@@ -139,7 +147,7 @@ module _ (σ p q r : ℕ) (s : Store) (L : Ledger) (I : Inv σ p q r s L) where
       let checks : checkWrite s hb offset n sent ≡ bind (refuseIf (lacksRoom s old size) 28) (λ _. passed o) = rw (e₁, d₁, d₂, d₃) in
       let result : Checked ℕ → Result = λ y. settle s (failChanging s hb) y (λ o. writeDone s c o offset (take (min n mostBytes) sent)) .result in
       let A = answer-to σ p q r s L I x (Call.Write h offset n bytes) k in
-      by-room (x .call) (replyTo s x) (Call.Write h offset n bytes) _ A (BlocksMissing r s L old size) (missing? old size)
+      by-room (x .call) (replyTo s x) (Call.Write h offset n bytes) _ A (BlocksMissing p r s L old size) (missing? old size)
       (λ b. subst (λ (y : Checked ℕ). Says (result y) 28) (sym (checks ∙ ap (λ (t : Bool). bind (refuseIf t 28) (λ _. passed o)) (missing-yes old size b))) (changing-says s hb 28))
       (λ b. subst (λ (y : Checked ℕ). Says (result y) 0) (sym (checks ∙ ap (λ (t : Bool). bind (refuseIf t 28) (λ _. passed o)) (missing-no old size b)))
       (wrote-says _ _ _))
@@ -163,7 +171,7 @@ module _ (σ p q r : ℕ) (s : Store) (L : Ledger) (I : Inv σ p q r s L) where
       (λ a. yes (inl a))
       (λ a. by-cases (ℕ-discrete (namesLeft q L) 0)
       (λ b. yes (inr (inl b)))
-      (λ b. by-cases (missing? 0 size)
+      (λ b. by-cases (decLt (blocksLeft p r s L) (need size))
       (λ c. yes (inr (inr c)))
       (λ c. no (λ x. ⊎-elim a (λ y. ⊎-elim b c y) x))))
 
@@ -180,20 +188,20 @@ module _ (σ p q r : ℕ) (s : Store) (L : Ledger) (I : Inv σ p q r s L) where
       both : (x y : Option ℕ) → roomBy x y (lacksRoom s 0 size) ≡ refused 28
       both none y = refl
       both (some o) none = refl
-      both (some o) (some n) = rw (missing-yes 0 size c)
+      both (some o) (some n) = rw (missing-yes 0 size (omega arith))
 
   room-there : (size : ℕ) → ¬ RoomMissing σ p q r s L size → (x : ℕ × ℕ) × (roomForNew s size ≡ passed x)
   unfolding roomForNew availableObject availableName availableCount freeNameCount
   room-there size m =
       let (o, e) = lowest-found (objects s) (isAvailable s) (some-of (objectsLeft σ p L) (count (objects s) (isAvailable s)) objects-left (λ z. m (inl z))) in
       let (n, f) = lowest-found (names s) (λ n. not (isUsedName s n)) (some-of (namesLeft q L) (count (names s) (λ n. not (isUsedName s n))) names-left (λ z. m (inr (inl z)))) in
-      ((o, n), rw (e, f, missing-no 0 size (λ z. m (inr (inr z)))))
+      ((o, n), rw (e, f, missing-no 0 size (λ z. m (inr (inr (omega arith))))))
     where
       some-of : (a b : ℕ) → a ≡ b → (a ≡ 0 → ⊥) → 0 < b
       some-of a b e n = by-cases (ℕ-discrete a 0) (λ z. absurd (n z)) (λ z. omega arith)
 
   -- ---- CREATE of a new file
-  pub create-room : (x : Request) (place : NameIn) (manner : How) (a : Settable) (d : ℕ) → Asks x (Call.Create place manner)
+  create-room : (x : Request) (place : NameIn) (manner : How) (a : Settable) (d : ℕ) → Asks x (Call.Create place manner)
       → (manner ≡ How.Unchecked a) ⊎ (manner ≡ How.Guarded a) → reachDirectory s (cut (x .call) (place .directory)) ≡ passed d
       → checkNew s d (cut (x .call) (place .name)) (badAttributes a) ≡ passed tt → findName s d (cut (x .call) (place .name)) ≡ none
       → AnswersRoom (replyTo s x) (RoomMissing σ p q r s L (sizeSet (a .size) 0))
@@ -218,11 +226,11 @@ module _ (σ p q r : ℕ) (s : Store) (L : Ledger) (I : Inv σ p q r s L) where
       either (_⊎_.inr e) = rw (e₁, e, e₂, e₃)
 
   -- ---- CREATE of an existing file
-  pub recreate-room : (x : Request) (place : NameIn) (a : Settable) (d n : ℕ) → Asks x (Call.Create place (How.Unchecked a))
+  recreate-room : (x : Request) (place : NameIn) (a : Settable) (d n : ℕ) → Asks x (Call.Create place (How.Unchecked a))
       → reachDirectory s (cut (x .call) (place .directory)) ≡ passed d
       → checkNew s d (cut (x .call) (place .name)) (badAttributes a) ≡ passed tt → findName s d (cut (x .call) (place .name)) ≡ some n
       → isRegular s (nameAt s n .child) ≡ true
-      → AnswersRoom (replyTo s x) (BlocksMissing r s L (sizeOf s (nameAt s n .child)) (sizeSet (a .size) (sizeOf s (nameAt s n .child))))
+      → AnswersRoom (replyTo s x) (BlocksMissing p r s L (sizeOf s (nameAt s n .child)) (sizeSet (a .size) (sizeOf s (nameAt s n .child))))
   unfolding act create checkCreate checkAttributed checkExisting statusOf
   recreate-room x place a d n k e₁ e₂ e₃ e₄ =
       let h = cut (x .call) (place .directory) in
@@ -235,13 +243,13 @@ module _ (σ p q r : ℕ) (s : Store) (L : Ledger) (I : Inv σ p q r s L) where
       let checks : checkCreate s h text (How.Unchecked a) ≡ rest (lacksRoom s old size) = rw (e₁, e₂, e₃, e₄) in
       let result : Checked (ℕ × Target) → Result = λ y. settle s (failChanging s h) y (λ p. createEdit s c (p .0) text a (p .1)) .result in
       let A = answer-to σ p q r s L I x (Call.Create place (How.Unchecked a)) k in
-      by-room (x .call) (replyTo s x) (Call.Create place (How.Unchecked a)) _ A (BlocksMissing r s L old size) (missing? old size)
+      by-room (x .call) (replyTo s x) (Call.Create place (How.Unchecked a)) _ A (BlocksMissing p r s L old size) (missing? old size)
       (λ m. subst (λ (y : Checked (ℕ × Target)). Says (result y) 28) (sym (checks ∙ ap rest (missing-yes old size m))) (changing-says s h 28))
       (λ m. subst (λ (y : Checked (ℕ × Target)). Says (result y) 0) (sym (checks ∙ ap rest (missing-no old size m)))
       (created-says _ _ _))
 
   -- ---- MKDIR
-  pub mkdir-room : (x : Request) (place : NameIn) (a : Settable) (d : ℕ) → Asks x (Call.Mkdir place a)
+  mkdir-room : (x : Request) (place : NameIn) (a : Settable) (d : ℕ) → Asks x (Call.Mkdir place a)
       → reachDirectory s (cut (x .call) (place .directory)) ≡ passed d
       → checkNew s d (cut (x .call) (place .name)) (badAttributes a || isGiven (a .size)) ≡ passed tt → findName s d (cut (x .call) (place .name)) ≡ none
       → AnswersRoom (replyTo s x) (RoomMissing σ p q r s L 0)
@@ -259,3 +267,11 @@ module _ (σ p q r : ℕ) (s : Store) (L : Ledger) (I : Inv σ p q r s L) where
       (λ m. let (y, e) = room-there 0 m in
       subst (λ (y : Checked (ℕ × ℕ × ℕ)). Says (result y) 0) (sym (checks ∙ ap rest e))
       (created-says _ _ _))
+
+  -- ---- whatever room is asked for
+  pub room : (x : Request) {m : Room} → AsksStore s x m → AnswersRoom (replyTo s x) (Missing σ p q r (record { store = s; ledger = L }) m)
+  room x (AsksStore.bySetattr h a g o k e₁ e₂ e₃ e₄) = setattr-room x h a g o k e₁ e₂ e₃ e₄
+  room x (AsksStore.byWrite h offset n bytes o k e₁ e₂ l m) = write-room x h offset n bytes o k e₁ e₂ (omega arith) m
+  room x (AsksStore.byCreate place manner a d k which e₁ e₂ e₃) = create-room x place manner a d k which e₁ e₂ e₃
+  room x (AsksStore.byRecreate place a d n k e₁ e₂ e₃ e₄) = recreate-room x place a d n k e₁ e₂ e₃ e₄
+  room x (AsksStore.byMkdir place a d k e₁ e₂ e₃) = mkdir-room x place a d k e₁ e₂ e₃

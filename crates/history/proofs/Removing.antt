@@ -1,10 +1,10 @@
 -- REMOVE, RMDIR and RENAME: the invariant after the call, with the book's step. Assumes nothing.
 use mathlib.Core.Path.{_≡_, refl, sym, ap, _∙_, subst}
 use mathlib.Core.Logic.{_≢_}
-use mathlib.Core.Bool.{Bool, false, _&&_, _||_, not}
+use mathlib.Core.Bool.{Bool, false, _&&_}
 use mathlib.Core.Option.{some, none}
 use mathlib.Core.List.{List}
-use Prim.Native.Nat.{ℕ, _-_, _<_}
+use Prim.Native.Nat.{ℕ, _<_}
 use native.Mathlib.Omega.{arith}
 use lib.Dec.{eqb, lit<}
 use lib.ListN.{length}
@@ -14,18 +14,16 @@ use Rattle.kinds.specs.declared.call.Part.{Part}
 use Rattle.kinds.specs.declared.call.NameIn.{NameIn}
 use Rattle.kinds.specs.declared.call.Arguments.{Arguments}
 use Rattle.kinds.specs.declared.call.Arguments.the-variants as Call
-use Rattle.spec.specs.Checked.{Checked, refused, passed, present, absent}
+use Rattle.spec.specs.Checked.{Checked, refused, passed}
 use Rattle.spec.specs.Count.{some-below, iterate}
 use Rattle.spec.specs.Edits.{setAttributes, onlyCtime, mtimeAndCtime, removeObject, moveName}
-use Rattle.spec.specs.Handles.{reachDirectory, checkName}
 use Rattle.spec.specs.Image.{Store, objects, objectAt, nameAt}
-use Rattle.spec.specs.Names.{isDots}
 use Rattle.spec.specs.Procedures.{cut}
 use Rattle.spec.specs.Procedures.Attributes.{edited}
 use Rattle.spec.specs.Procedures.Names.{touchDirectory}
 use Rattle.spec.specs.Procedures.Removal.{checkRemove, hasEntries, checkRmdir, removeFrom, remove, rmdir, isWithin, checkRename, renameEdit, failRenaming, renamedTo, rename}
 use Rattle.spec.specs.Results.{failChanging, settle}
-use Rattle.spec.specs.Room.{isDirectory, findName, above}
+use Rattle.spec.specs.Room.{isDirectory, above}
 use Rattle.laws.proofs.Count.{by-bool, true-false, some-none}
 use Rattle.laws.proofs.Error.{statusOf}
 use Rattle.laws.proofs.Range.{Below}
@@ -41,41 +39,10 @@ use Rattle.history.proofs.Walk.{parentIn, outside, outside-file}
 use Rattle.history.proofs.Agree.{handleIn}
 use Rattle.history.proofs.Seen.{view, kind-at, dir-at, child-at, text-at, live-in, used-in, text-long, above-same}
 use Rattle.history.proofs.Inv.{Inv, Owes, keeps-refl, keeps-trans, owes-trans, tree, touch-inv, removed-of, remove-inv, move-keeps}
-use Rattle.history.proofs.Checks.{found-name, no-name, Sure, sure-bind, sure-then, sure-passed, sure-present, sure-absent, sure-directory, sure-name}
+use Rattle.history.proofs.Checks.{found-name, no-name}
+use Rattle.history.proofs.Statuses.{Sure, sure-remove, sure-rmdir, sure-rename}
 use Rattle.history.proofs.Noted.{Answer, changed-says, renamed-says, changing-says, renaming-says, note-failed, note-ok}
 use Rattle.history.proofs.Making.{directory-kind, directory-handle}
-
--- ---- the checks' statuses
-pub sure-remove : (s : Store) (h text : List ℕ) → Sure (checkRemove s h text)
-unfolding checkRemove
-sure-remove s h text =
-    sure-bind (reachDirectory s h) _ (sure-directory s h) (λ d.
-    sure-bind (checkName text) _ (sure-name text) (λ _.
-    sure-then (isDots text) 13 _ (lit< tt) (lit< tt)
-    (sure-bind (present 2 (findName s d text)) _ (sure-present 2 (findName s d text) (lit< tt) (lit< tt)) (λ n.
-    sure-then (isDirectory s (nameAt s n .child)) 13 _ (lit< tt) (lit< tt) (sure-passed (d, n))))))
-
-pub sure-rmdir : (s : Store) (h text : List ℕ) → Sure (checkRmdir s h text)
-unfolding checkRmdir
-sure-rmdir s h text =
-    sure-bind (reachDirectory s h) _ (sure-directory s h) (λ d.
-    sure-bind (checkName text) _ (sure-name text) (λ _.
-    sure-then (isDots text) 22 _ (lit< tt) (lit< tt)
-    (sure-bind (present 2 (findName s d text)) _ (sure-present 2 (findName s d text) (lit< tt) (lit< tt)) (λ n.
-    sure-then (not (isDirectory s (nameAt s n .child))) 20 _ (lit< tt) (lit< tt)
-    (sure-then (hasEntries s (nameAt s n .child)) 66 _ (lit< tt) (lit< tt) (sure-passed (d, n)))))))
-
-pub sure-rename : (s : Store) (h text g title : List ℕ) → Sure (checkRename s h text g title)
-unfolding checkRename
-sure-rename s h text g title =
-    sure-bind (reachDirectory s h) _ (sure-directory s h) (λ d.
-    sure-bind (reachDirectory s g) _ (sure-directory s g) (λ e.
-    sure-bind (checkName text) _ (sure-name text) (λ _.
-    sure-bind (checkName title) _ (sure-name title) (λ _.
-    sure-then (isDots text || isDots title) 22 _ (lit< tt) (lit< tt)
-    (sure-bind (present 2 (findName s d text)) _ (sure-present 2 (findName s d text) (lit< tt) (lit< tt)) (λ n.
-    sure-bind (absent 17 (findName s e title)) _ (sure-absent 17 (findName s e title) (lit< tt) (lit< tt)) (λ _.
-    sure-then (isWithin s (nameAt s n .child) e) 22 _ (lit< tt) (lit< tt) (sure-passed (d, e, n)))))))))
 
 module _ (σ p q r : ℕ) (s : Store) (L : Ledger) (I : Inv σ p q r s L) (c : Context) (clock : GoodClock (c .clock)) where
   -- the object of name record n goes, with its name

@@ -1,13 +1,13 @@
 -- What the words of a reply say: its status, the handle in it, and numbers of 64 bits. Assumes nothing.
 use mathlib.Core.Path.{_≡_, refl, sym, ap, ap₂, _∙_}
 use mathlib.Core.Logic.{_≢_}
-use mathlib.Core.Bool.{Bool, _&&_}
+use mathlib.Core.Bool.{Bool, true, false, _&&_}
 use mathlib.Core.List.{List, [], _∷_, _++_, append-assoc, append-nil}
 use Prim.Native.Nat.{ℕ, suc, _+_, _*_, _≤_, _<_}
 use native.Mathlib.Omega.{arith}
-use lib.Dec.{eqb, lit<}
+use lib.Dec.{eqb, leb, lit<}
 use lib.ListN.{length, getD, replicate, length-append}
-use borrow.Author.Tests.{le-leb}
+use borrow.Author.Tests.{le-leb, lt-leb, ne-eqb}
 use Rattle.kinds.specs.declared.object.Attributes.{Attributes}
 use Rattle.kinds.specs.declared.object.Change.{Change}
 use Rattle.kinds.specs.Numbers.{zeroWords}
@@ -19,7 +19,7 @@ use Rattle.spec.specs.Rpc.{accepted}
 use Rattle.laws.proofs.Bytes.{part-left, part-right, part-whole, be-add}
 use Rattle.laws.proofs.Error.{statusOf}
 use Rattle.laws.proofs.Words.{words-append, words-length}
-use Rattle.history.specs.Book.{handleBytes, isStatus, isOk, handleAt}
+use Rattle.history.specs.Book.{handleBytes, statusIn, isStatus, isOk, handleAt}
 use Rattle.history.proofs.Handles.{word-in}
 
 -- an accepted reply whose results begin with the words ws
@@ -69,6 +69,23 @@ module _ (reply : List ℕ) (xid : ℕ) (ws rest : List ℕ) (b : Begins reply x
   pub ok-is : 0 < length ws → getD ws 0 0 < 4294967296 → isOk reply ≡ eqb (getD ws 0 0) 0
   unfolding isOk
   ok-is l h = status-test 0 l h
+
+-- ---- replies that show no status
+pub short-silent : (reply : List ℕ) → length reply < 28 → (k : ℕ) → isStatus k reply ≡ false
+unfolding isStatus
+short-silent reply l k = ap (λ (t : Bool). t && (eqb (beAt reply 20 4) 0 && eqb (statusIn reply) k)) (lt-leb 28 (length reply) l)
+
+-- an accept_stat other than SUCCESS
+pub other-silent : (xid stat : ℕ) (body : List ℕ) → 0 < stat → stat < 4294967296 → (k : ℕ) → isStatus k (accepted xid stat body) ≡ false
+unfolding isStatus accepted
+other-silent xid stat body l h k =
+    let reply = words (xid ∷ 1 ∷ 0 ∷ 0 ∷ 0 ∷ stat ∷ []) ++ body in
+    let e : beAt reply 20 4 ≡ stat = word-in (xid ∷ 1 ∷ 0 ∷ 0 ∷ 0 ∷ stat ∷ []) body 5 (omega arith) h in
+    ap (λ (t : Bool). leb 28 (length reply) && (t && eqb (statusIn reply) k)) (ne-eqb (beAt reply 20 4) 0 (λ z. omega arith)) ∙ none (leb 28 (length reply))
+  where
+    none : (t : Bool) → t && false ≡ false
+    none true = refl
+    none false = refl
 
 -- the words between others
 pub words-between : (xs ys rest : List ℕ) → part (words (xs ++ ys) ++ rest) (4 * length xs) (4 * length ys) ≡ words ys

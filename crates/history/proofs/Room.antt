@@ -9,7 +9,8 @@ use lib.ListN.{length, getD}
 use Rattle.spec.specs.Count.{sum, times}
 use Rattle.laws.proofs.Count.{sum-at}
 use Rattle.laws.proofs.Unique.{sum-two}
-use Rattle.history.proofs.Lists.{All, times-at, times-two}
+use Rattle.laws.proofs.Count.{times-at, times-two}
+use Rattle.history.proofs.Lists.{All}
 
 -- the blocks of each object, in the order of its bytes
 abbrev pub Blocks : Type 0

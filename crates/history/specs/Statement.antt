@@ -1,14 +1,14 @@
 -- DEMAND 3: what holds of the store and of the book after any list of requests from any successful format. `Kept` is the statement; the
--- definitions above it are its words. Each field quotes the sentence of document 01 that it says.
-use Prim.Native.Nat.{ℕ, suc, _+_, _*_, _-_, _≤_, _<_, min}
+-- definitions above it are its words. Each field quotes the sentence of document 01, or of demand 3 as it was asked, that it says.
+use Prim.Native.Nat.{ℕ, suc, _+_, _*_, _-_, _≤_, _<_, min, max}
 use mathlib.Core.Path.{_≡_}
 use mathlib.Core.Logic.{_⊎_, _↔_}
 use mathlib.Core.List.{List, [], _∷_, List·Memᴰ}
 use mathlib.Core.Bool.{Bool, true, false, _&&_, _||_, not}
-use mathlib.Core.Option.{some, none}
+use mathlib.Core.Option.{some}
 use lib.Dec.{eqb}
 use lib.ListN.{length, getD}
-use Rattle.kinds.specs.Numbers.{NOSPC, STALE, REGULAR}
+use Rattle.kinds.specs.Numbers.{NOSPC, STALE, REGULAR, DIRECTORY}
 use Rattle.kinds.specs.declared.object.Time.{Time}
 use Rattle.kinds.specs.declared.call.Part.{Part}
 use Rattle.kinds.specs.declared.call.NameIn.{NameIn}
@@ -19,21 +19,22 @@ use Rattle.kinds.specs.declared.call.How.the-variants as How
 use Rattle.kinds.specs.declared.call.Arguments.{Arguments}
 use Rattle.kinds.specs.declared.call.Arguments.the-variants as Call
 use Rattle.spec.specs.Bytes.{beAt, sameBytes}
-use Rattle.spec.specs.Count.{bit, count}
+use Rattle.spec.specs.Count.{bit, sum, count}
 use Rattle.spec.specs.Image.{Store, stamp, objects, names, blocks, objectAt, nameAt}
-use Rattle.spec.specs.Room.{isLive, isRegular, isDirectory, isUsedName, sizeOf, need, freeNameCount, findName}
+use Rattle.spec.specs.Room.{isLive, isRegular, isUsedName, sizeOf, need, freeNameCount}
 use Rattle.spec.specs.Check.{passes}
-use Rattle.spec.specs.Handles.{handleOf, reach, reachDirectory}
+use Rattle.spec.specs.Handles.{handleOf, reach, checkName}
+use Rattle.spec.specs.Names.{isDots}
 use Rattle.spec.specs.Checked.{passed}
 use Rattle.spec.specs.Procedures.{cut}
 use Rattle.spec.specs.Procedures.Attributes.{isGiven, sizeSet, badAttributes, differs}
-use Rattle.spec.specs.Procedures.Data.{mostBytes, reachRegular, grown}
-use Rattle.spec.specs.Procedures.Names.{checkNew}
+use Rattle.spec.specs.Procedures.Data.{mostBytes}
 use Rattle.spec.specs.Serve.{format}
-use Rattle.history.specs.Book.{Standing, asRoot, under, Line, Book, Ledger, handleBytes, firstLedger, asked, isStatus, isOk, foundHandle, madeHandle}
+use Rattle.history.specs.Book.{Standing, asRoot, under, Line, Book, Ledger, handleBytes, firstLedger, someAt, asked, isStatus, isOk, foundHandle, madeHandle}
 use Rattle.history.specs.Run.{Request, Lent, AllLent, replyTo, State, step, run}
 
--- ---- the words of the statement
+-- ---- THE WORDS OF THE STATEMENT
+-- ---- lines, and what the store has of them
 -- x is a member of a list
 abbrev pub In : {A : Type 0} → A → List A → Type 0
 In x xs = List·Memᴰ x xs
@@ -70,10 +71,24 @@ abbrev pub BookPath : Book → List ℕ → List Line → Type 0
 BookPath b h [] = (l : Line) × In l b × (l .handle ≡ h) × (l .standing ≡ asRoot)
 BookPath b h (l ∷ ls) = In l b × (l .handle ≡ h) × ((d : List ℕ) × (text : List ℕ) × (l .standing ≡ under d text) × BookPath b d ls)
 
+-- no line stands twice: none behind a line has the standing that it has
+abbrev pub StandApart : Book → Type 0
+StandApart [] = Unit {0}
+StandApart (l ∷ ls) = ((k : Line) → In k ls → k .standing ≡ l .standing → ⊥) × StandApart ls
+
+-- the handle h names record o of the store: the record is live, with this generation and type, and a call that gives h reaches it
+pub record Names (s : Store) (h : List ℕ) (o generation kind : ℕ) : Type 0 where
+  pub below : o < objects s
+  pub live : isLive s o ≡ true
+  pub sameGeneration : objectAt s o .generation ≡ generation
+  pub sameType : objectAt s o .kind ≡ kind
+  pub reached : reach s h ≡ passed o
+
 -- how many objects are live
 unfoldable pub liveObjects : Store → ℕ
 liveObjects s = count (objects s) (isLive s)
 
+-- ---- requests and replies
 -- the request passes every check before its procedure's (the answers 2, 3 and 4; 1 does not come, and 5, the RPC outcomes and GARBAGE_ARGS
 -- are what `asked` rules out), and is read as a call with these arguments
 pub record Asks (x : Request) (a : Arguments) : Type 0 where
@@ -88,12 +103,15 @@ pub data Carries (x : Request) (reply : List ℕ) : List ℕ → Type 0 where
   create : (p : NameIn) (manner : How) → asked (x .call) ≡ some (Call.Create p manner) → Carries x reply (madeHandle reply)
   mkdir : (p : NameIn) (a : Settable) → asked (x .call) ≡ some (Call.Mkdir p a) → Carries x reply (madeHandle reply)
 
--- what replies show: GETATTR's type and size; FSSTAT's free bytes and available objects, each twice
+-- what replies show: GETATTR's type and size; FSSTAT's total bytes, free bytes twice, objects, and available objects twice
 abbrev pub shownKind : List ℕ → ℕ
 shownKind reply = beAt reply 28 4
 
 abbrev pub shownSize : List ℕ → ℕ
 shownSize reply = beAt reply 48 8
+
+abbrev pub shownTotal : List ℕ → ℕ
+shownTotal reply = beAt reply 116 8
 
 abbrev pub shownFree : List ℕ → ℕ
 shownFree reply = beAt reply 124 8
@@ -101,21 +119,40 @@ shownFree reply = beAt reply 124 8
 abbrev pub shownFreeAgain : List ℕ → ℕ
 shownFreeAgain reply = beAt reply 132 8
 
+abbrev pub shownObjects : List ℕ → ℕ
+shownObjects reply = beAt reply 140 8
+
 abbrev pub shownAvailable : List ℕ → ℕ
 shownAvailable reply = beAt reply 148 8
 
 abbrev pub shownAvailableAgain : List ℕ → ℕ
 shownAvailableAgain reply = beAt reply 156 8
 
+-- ---- what is counted, by the book
+-- some line passes a test
+unfoldable pub someLine : (Line → Bool) → Book → Bool
+someLine test [] = false
+someLine test (l ∷ ls) = test l || someLine test ls
+
 -- the object of a handle
 abbrev pub objectIn : List ℕ → ℕ
 objectIn h = beAt h 4 4
 
+-- record o is a live object, and a live file, by the book: a line has a handle of it. However many lines have one, it is one object
+abbrev pub isLinedObject : Book → ℕ → Bool
+isLinedObject b o = someLine (λ l. eqb (objectIn (l .handle)) o) b
+
+abbrev pub isLinedFile : Book → ℕ → Bool
+isLinedFile b o = someLine (λ l. eqb (objectIn (l .handle)) o && eqb (l .kind) REGULAR) b
+
+-- how many of the p records are live objects, by the book
+unfoldable pub linedObjects : ℕ → Book → ℕ
+linedObjects p b = count p (isLinedObject b)
+
 -- the places, a term that document 01 coins: "A place is one of a live file's ceil(size/512) blocks, size as GETATTR answers.". How many there
--- are, by the book's lines; that the sizes are those that GETATTR answers is the field `sizes`
-unfoldable pub placesIn : Store → Book → ℕ
-placesIn s [] = 0
-placesIn s (l ∷ ls) = bit (eqb (l .kind) REGULAR) * need (sizeOf s (objectIn (l .handle))) + placesIn s ls
+-- are, by the book's files; that the sizes are those that GETATTR answers is the field `sizes`
+unfoldable pub placesIn : ℕ → Store → Book → ℕ
+placesIn p s b = sum p (λ o. bit (isLinedFile b o) * need (sizeOf s o))
 
 -- "the lines with a name"
 abbrev pub hasName : Standing → Bool
@@ -131,9 +168,8 @@ unfoldable pub isAmong : List ℕ → List (List ℕ) → Bool
 isAmong h [] = false
 isAmong h (g ∷ gs) = sameBytes g h || isAmong h gs
 
-unfoldable pub isLined : List ℕ → Book → Bool
-isLined h [] = false
-isLined h (l ∷ ls) = sameBytes (l .handle) h || isLined h ls
+abbrev pub isLined : List ℕ → Book → Bool
+isLined h b = someLine (λ l. sameBytes (l .handle) h) b
 
 abbrev pub lastHandle : ℕ → ℕ → List ℕ
 lastHandle stamp o = handleBytes stamp o 4294967294
@@ -141,29 +177,78 @@ lastHandle stamp o = handleBytes stamp o 4294967294
 unfoldable pub spentRecords : ℕ → ℕ → Ledger → ℕ
 spentRecords stamp p L = count p (λ o. isAmong (lastHandle stamp o) (L .given) && not (isLined (lastHandle stamp o) (L .book)))
 
+-- ---- room
 -- the room that is left, by the book
-abbrev pub blocksLeft : ℕ → Store → Ledger → ℕ
-blocksLeft r s L = r - placesIn s (L .book)
+abbrev pub blocksLeft : ℕ → ℕ → Store → Ledger → ℕ
+blocksLeft p r s L = r - placesIn p s (L .book)
 
 abbrev pub namesLeft : ℕ → Ledger → ℕ
 namesLeft q L = q - namedLines (L .book)
 
--- the live objects are the lines, one each
 abbrev pub objectsLeft : ℕ → ℕ → Ledger → ℕ
-objectsLeft stamp p L = p - (length (L .book) + spentRecords stamp p L)
+objectsLeft σ p L = p - (linedObjects p (L .book) + spentRecords σ p L)
+
+-- what room can be asked for: the blocks for a file to go from one size to another; or a new object of a size, with its name and its blocks
+pub data Room : Type 0 where
+  growth : ℕ → ℕ → Room
+  newObject : ℕ → Room
+
+-- that room is missing. "NOSPC for a new object: no available object, no free name, or too few blocks for its size."
+abbrev pub Missing : ℕ → ℕ → ℕ → ℕ → State → Room → Type 0
+Missing σ p q r w (growth old size) = blocksLeft p r (w .store) (w .ledger) < need size - need old
+Missing σ p q r w (newObject size) =
+    (objectsLeft σ p (w .ledger) ≡ 0) ⊎ ((namesLeft q (w .ledger) ≡ 0) ⊎ (blocksLeft p r (w .store) (w .ledger) < need size))
+
+-- the size of the object that a handle names; that it is the size which GETATTR answers is the field `sizes`
+abbrev pub sizeIn : State → List ℕ → ℕ
+sizeIn w h = sizeOf (w .store) (objectIn h)
+
+-- the bytes of the call from which it takes the directory's handle, and those from which it takes the name
+abbrev pub directoryIn : Request → NameIn → List ℕ
+directoryIn x p = cut (x .call) (p .directory)
+
+abbrev pub nameIn : Request → NameIn → List ℕ
+nameIn x p = cut (x .call) (p .name)
+
+-- the earlier checks of a name to be made: the directory is live and a directory; the name may be had; the attributes are not `invalid`
+pub record MayMake (b : Book) (x : Request) (p : NameIn) (invalid : Bool) : Type 0 where
+  pub inDirectory : HasLine b (directoryIn x p) DIRECTORY
+  pub goodName : checkName (nameIn x p) ≡ passed tt
+  pub noDots : isDots (nameIn x p) ≡ false
+  pub valid : invalid ≡ false
+
+-- "The earlier checks are those these papers name": the request passes those of its procedure, and asks for this room. Handles and names
+-- are looked for in the book; only the guard's ctime and the sizes are the store's
+pub data AsksRoom (w : State) (x : Request) : Room → Type 0 where
+  -- SETATTR of a live handle, no size of a directory: the size that it gives, or the old one
+  bySetattr : (h : Part) (a : Settable) (g : Guard) (kind : ℕ) → Asks x (Call.Setattr h a g)
+      → HasLine (w .ledger .book) (cut (x .call) h) kind
+      → differs g (objectAt (w .store) (objectIn (cut (x .call) h)) .ctime) ≡ false
+      → badAttributes a ≡ false → isGiven (a .size) && eqb kind DIRECTORY ≡ false
+      → AsksRoom w x (growth (sizeIn w (cut (x .call) h)) (sizeSet (a .size) (sizeIn w (cut (x .call) h))))
+  -- WRITE of some bytes to a live file, that end within 8,192: the greater of its size and their end
+  byWrite : (h : Part) (offset n : ℕ) (bytes : Part) → Asks x (Call.Write h offset n bytes)
+      → HasLine (w .ledger .book) (cut (x .call) h) REGULAR → n ≡ length (cut (x .call) bytes)
+      → 0 < n → offset + min n mostBytes ≤ 8192
+      → AsksRoom w x (growth (sizeIn w (cut (x .call) h)) (max (sizeIn w (cut (x .call) h)) (offset + min n mostBytes)))
+  -- CREATE, UNCHECKED or GUARDED, where no line has that directory handle and name
+  byCreate : (p : NameIn) (manner : How) (a : Settable) → Asks x (Call.Create p manner)
+      → (manner ≡ How.Unchecked a) ⊎ (manner ≡ How.Guarded a)
+      → MayMake (w .ledger .book) x p (badAttributes a) → someAt (directoryIn x p) (nameIn x p) (w .ledger .book) ≡ false
+      → AsksRoom w x (newObject (sizeSet (a .size) 0))
+  -- CREATE, UNCHECKED, where a file's line has them: the size that it gives, or the old one
+  byRecreate : (p : NameIn) (a : Settable) (h : List ℕ) → Asks x (Call.Create p (How.Unchecked a))
+      → MayMake (w .ledger .book) x p (badAttributes a) → HasName (w .ledger .book) (directoryIn x p) h (nameIn x p) → HasLine (w .ledger .book) h REGULAR
+      → AsksRoom w x (growth (sizeIn w h) (sizeSet (a .size) (sizeIn w h)))
+  -- MKDIR without a size, where no line has them
+  byMkdir : (p : NameIn) (a : Settable) → Asks x (Call.Mkdir p a)
+      → MayMake (w .ledger .book) x p (badAttributes a || isGiven (a .size)) → someAt (directoryIn x p) (nameIn x p) (w .ledger .book) ≡ false
+      → AsksRoom w x (newObject 0)
 
 -- NOSPC exactly where the room is missing; OK where it is not
 pub record AnswersRoom (reply : List ℕ) (missing : Type 0) : Type 0 where
   pub nospc : (isStatus NOSPC reply ≡ true) ↔ missing
   pub ok : (missing → ⊥) → isOk reply ≡ true
-
--- a file's growth from one size to another asks for more blocks than are left
-abbrev pub BlocksMissing : ℕ → Store → Ledger → ℕ → ℕ → Type 0
-BlocksMissing r s L old size = blocksLeft r s L < need size - need old
-
--- "NOSPC for a new object: no available object, no free name, or too few blocks for its size."
-abbrev pub RoomMissing : ℕ → ℕ → ℕ → ℕ → Store → Ledger → ℕ → Type 0
-RoomMissing σ p q r s L size = (objectsLeft σ p L ≡ 0) ⊎ ((namesLeft q L ≡ 0) ⊎ BlocksMissing r s L 0 size)
 
 -- ---- THE STATEMENT
 -- the stamp σ and the counts p, q and r that format was given, and the state after any list of requests
@@ -179,8 +264,10 @@ pub record Kept (σ p q r : ℕ) (w : State) : Type 0 where
   -- "The store's live objects (handle, type) and used names (directory's handle, child's handle, name) are exactly the book's."
   pub objectLines : (h : List ℕ) (kind : ℕ) → StoredObject (w .store) h kind ↔ HasLine (w .ledger .book) h kind
   pub nameLines : (d h text : List ℕ) → StoredName (w .store) d h text ↔ HasName (w .ledger .book) d h text
-  -- no line stands twice: one for each live object, and one for each used name and the root
-  pub lineCount : length (w .ledger .book) ≡ liveObjects (w .store)
+  -- no line stands twice: no two have the same directory handle and name, or are the root's
+  pub lineOnce : StandApart (w .ledger .book)
+  -- as many records have a line as are live, and as many lines have a name as names are used
+  pub lineCount : linedObjects p (w .ledger .book) ≡ liveObjects (w .store)
   pub nameLineCount : namedLines (w .ledger .book) ≡ count (names (w .store)) (isUsedName (w .store))
   -- "A handle is given out once it has a line"
   pub lineGiven : (h : List ℕ) (kind : ℕ) → HasLine (w .ledger .book) h kind → In h (w .ledger .given)
@@ -205,67 +292,49 @@ pub record Kept (σ p q r : ℕ) (w : State) : Type 0 where
   -- the size that GETATTR answers for a live file is that of its record
   pub sizes : (x : Request) (h : Part) → Asks x (Call.Getattr h) → HasLine (w .ledger .book) (cut (x .call) h) REGULAR
       → shownSize (replyTo (w .store) x) ≡ sizeOf (w .store) (objectIn (cut (x .call) h))
+  -- FSSTAT answers a live handle OK, with the format's total bytes and objects
+  pub totals : (x : Request) (h : Part) (kind : ℕ) → Asks x (Call.Fsstat h) → HasLine (w .ledger .book) (cut (x .call) h) kind
+      → (isOk (replyTo (w .store) x) ≡ true)
+      × (shownTotal (replyTo (w .store) x) ≡ 512 * r)
+      × (shownObjects (replyTo (w .store) x) ≡ p)
   -- "Free blocks are R less the places, FSSTAT's free bytes 512 times that"
-  pub placesFit : placesIn (w .store) (w .ledger .book) ≤ r
+  pub placesFit : placesIn p (w .store) (w .ledger .book) ≤ r
   pub freeBytes : (x : Request) (h : Part) (kind : ℕ) → Asks x (Call.Fsstat h) → HasLine (w .ledger .book) (cut (x .call) h) kind
-      → (isOk (replyTo (w .store) x) ≡ true) × (shownFree (replyTo (w .store) x) ≡ 512 * blocksLeft r (w .store) (w .ledger))
-      × (shownFreeAgain (replyTo (w .store) x) ≡ 512 * blocksLeft r (w .store) (w .ledger))
+      → (shownFree (replyTo (w .store) x) ≡ 512 * blocksLeft p r (w .store) (w .ledger))
+      × (shownFreeAgain (replyTo (w .store) x) ≡ 512 * blocksLeft p r (w .store) (w .ledger))
   -- "available objects P less the live ones and the records whose handle of generation 4,294,967,294 was removed"
-  pub objectsFit : length (w .ledger .book) + spentRecords σ p (w .ledger) ≤ p
+  pub objectsFit : linedObjects p (w .ledger .book) + spentRecords σ p (w .ledger) ≤ p
   pub available : (x : Request) (h : Part) (kind : ℕ) → Asks x (Call.Fsstat h) → HasLine (w .ledger .book) (cut (x .call) h) kind
-      → (shownAvailable (replyTo (w .store) x) ≡ objectsLeft σ p (w .ledger)) × (shownAvailableAgain (replyTo (w .store) x) ≡ objectsLeft σ p (w .ledger))
+      → (shownAvailable (replyTo (w .store) x) ≡ objectsLeft σ p (w .ledger))
+      × (shownAvailableAgain (replyTo (w .store) x) ≡ objectsLeft σ p (w .ledger))
   -- "free names Q less the lines with a name"
   pub namesFit : namedLines (w .ledger .book) ≤ q
   pub freeNames : freeNameCount (w .store) ≡ namesLeft q (w .ledger)
   -- ---- 5. HANDLES
+  -- a handle that was given out stays so, after any further calls
+  pub givenStays : (g : List ℕ) → In g (w .ledger .given) → (xs : List Request) → AllLent xs → In g (run w xs .ledger .given)
+  -- demand 3: "A handle given out names the same object until that is removed": one record, live with one generation and type in every state from
+  -- this one up to any in which the handle still has a line
+  pub sameObject : (g : List ℕ) (kind : ℕ) → HasLine (w .ledger .book) g kind → (o : ℕ) × (generation : ℕ) × Names (w .store) g o generation kind
+      × ((xs ys : List Request) → AllLent xs → AllLent ys → (later : ℕ) → HasLine (run (run w xs) ys .ledger .book) g later
+      → Names (run w xs .store) g o generation kind)
   -- "Where no earlier check refuses, GETATTR answers a live handle OK with its type."
   pub live : (x : Request) (h : Part) (kind : ℕ) → Asks x (Call.Getattr h) → HasLine (w .ledger .book) (cut (x .call) h) kind
       → (isOk (replyTo (w .store) x) ≡ true) × (shownKind (replyTo (w .store) x) ≡ kind)
   -- once its line is gone GETATTR answers STALE after any further calls: "its object is live until no line has it, then removed"
   pub stale : (g : List ℕ) → IsRemoved (w .ledger) g → (xs : List Request) → AllLent xs
       → (x : Request) (h : Part) → Asks x (Call.Getattr h) → cut (x .call) h ≡ g → isStatus STALE (replyTo (run w xs .store) x) ≡ true
-  -- it never has another object's line again
+  -- and it never has another object's line again
   pub neverAgain : (g : List ℕ) → IsRemoved (w .ledger) g → (xs : List Request) → AllLent xs → (kind : ℕ) → HasLine (run w xs .ledger .book) g kind → ⊥
-  -- and keeps its type while it has one
-  pub sameKind : (g : List ℕ) (i j : ℕ) → HasLine (w .ledger .book) g i → (xs : List Request) → AllLent xs → HasLine (run w xs .ledger .book) g j → i ≡ j
   -- ---- 6. ROOM
-  -- "The earlier checks are those these papers name; a call that passes them, asks for room and has it is answered OK.": and NOSPC is answered
-  -- exactly when the room is missing. SETATTR:
-  pub setattrRoom : (x : Request) (h : Part) (a : Settable) (g : Guard) (o : ℕ) → Asks x (Call.Setattr h a g)
-      → reach (w .store) (cut (x .call) h) ≡ passed o → differs g (objectAt (w .store) o .ctime) ≡ false → badAttributes a ≡ false
-      → isGiven (a .size) && isDirectory (w .store) o ≡ false
-      → AnswersRoom (replyTo (w .store) x)
-      (BlocksMissing r (w .store) (w .ledger) (sizeOf (w .store) o) (sizeSet (a .size) (sizeOf (w .store) o)))
-  -- WRITE:
-  pub writeRoom : (x : Request) (h : Part) (offset n : ℕ) (bytes : Part) (o : ℕ) → Asks x (Call.Write h offset n bytes)
-      → reachRegular (w .store) (cut (x .call) h) ≡ passed o → n ≡ length (cut (x .call) bytes)
-      → 0 < n → offset + min n mostBytes ≤ 8192
-      → AnswersRoom (replyTo (w .store) x)
-      (BlocksMissing r (w .store) (w .ledger) (sizeOf (w .store) o) (grown (w .store) o offset (min n mostBytes)))
-  -- WRITE of 0 bytes asks for no room:
-  pub writeNothing : (x : Request) (h : Part) (offset : ℕ) (bytes : Part) (o : ℕ) → Asks x (Call.Write h offset 0 bytes)
-      → reachRegular (w .store) (cut (x .call) h) ≡ passed o → 0 ≡ length (cut (x .call) bytes) → isOk (replyTo (w .store) x) ≡ true
-  -- CREATE of a new file, UNCHECKED or GUARDED:
-  pub createRoom : (x : Request) (target : NameIn) (manner : How) (a : Settable) (d : ℕ) → Asks x (Call.Create target manner)
-      → (manner ≡ How.Unchecked a) ⊎ (manner ≡ How.Guarded a)
-      → reachDirectory (w .store) (cut (x .call) (target .directory)) ≡ passed d
-      → checkNew (w .store) d (cut (x .call) (target .name)) (badAttributes a) ≡ passed tt
-      → findName (w .store) d (cut (x .call) (target .name)) ≡ none
-      → AnswersRoom (replyTo (w .store) x) (RoomMissing σ p q r (w .store) (w .ledger) (sizeSet (a .size) 0))
-  -- CREATE, UNCHECKED, of an existing regular file:
-  pub recreateRoom : (x : Request) (target : NameIn) (a : Settable) (d n : ℕ) → Asks x (Call.Create target (How.Unchecked a))
-      → reachDirectory (w .store) (cut (x .call) (target .directory)) ≡ passed d
-      → checkNew (w .store) d (cut (x .call) (target .name)) (badAttributes a) ≡ passed tt
-      → findName (w .store) d (cut (x .call) (target .name)) ≡ some n → isRegular (w .store) (nameAt (w .store) n .child) ≡ true
-      → AnswersRoom (replyTo (w .store) x)
-      (BlocksMissing r (w .store) (w .ledger) (sizeOf (w .store) (nameAt (w .store) n .child))
-      (sizeSet (a .size) (sizeOf (w .store) (nameAt (w .store) n .child))))
-  -- MKDIR:
-  pub mkdirRoom : (x : Request) (target : NameIn) (a : Settable) (d : ℕ) → Asks x (Call.Mkdir target a)
-      → reachDirectory (w .store) (cut (x .call) (target .directory)) ≡ passed d
-      → checkNew (w .store) d (cut (x .call) (target .name)) (badAttributes a || isGiven (a .size)) ≡ passed tt
-      → findName (w .store) d (cut (x .call) (target .name)) ≡ none
-      → AnswersRoom (replyTo (w .store) x) (RoomMissing σ p q r (w .store) (w .ledger) 0)
+  -- "a call that passes them, asks for room and has it is answered OK.", and where it is missing NOSPC
+  pub room : (x : Request) (m : Room) → AsksRoom w x m → AnswersRoom (replyTo (w .store) x) (Missing σ p q r w m)
+  -- and nowhere else. Demand 3: "NOSPC is answered exactly when the room document 01 counts is missing.": whatever request it answers asks for
+  -- room, and that is missing
+  pub onlyRoom : (x : Request) → Lent x → isStatus NOSPC (replyTo (w .store) x) ≡ true → (m : Room) × AsksRoom w x m × Missing σ p q r w m
+  -- WRITE of 0 bytes to a live file asks for no room
+  pub writeNothing : (x : Request) (h : Part) (offset : ℕ) (bytes : Part) → Asks x (Call.Write h offset 0 bytes)
+      → HasLine (w .ledger .book) (cut (x .call) h) REGULAR → 0 ≡ length (cut (x .call) bytes) → isOk (replyTo (w .store) x) ≡ true
 
 -- the state that a format leaves: its store, and the book with the root's line
 abbrev pub formattedState : Store → ℕ → ℕ → ℕ → ℕ → Time → State

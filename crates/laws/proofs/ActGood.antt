@@ -61,13 +61,24 @@ size-small : (s : Store) (o : ℕ) → LiveObject (blocks s) (objectAt s o) → 
 unfolding sizeOf
 size-small s o v = live-size (blocks s) (objectAt s o) v
 
+-- the attributes of every manner of CREATE fit
+pub how-settable : (manner : How) → FitsHow manner → FitsSettable (settableOf manner)
+how-settable (How.Unchecked a) f = f
+how-settable (How.Guarded a) f = f
+how-settable (How.Exclusive verifier) f = only-ctime-fits
+
+-- no size is given
+pub not-given : (x : SetSize) → isGiven x ≡ false → sizeSet x 0 ≡ 0
+not-given SetSize.Keep e = refl
+not-given (SetSize.To n) e = true-false e
+
 -- ---- edits of any store with good records
 module _ (s : Store) (g : GoodRecords s) where
   tree-refl : SameTree s s
   tree-refl = kept-structure s s (kept-refl s (g .sound)) .tree
 
   -- a size, where one is given
-  resize-to : (o : ℕ) (x : SetSize) → o < objects s → (isGiven x ≡ true → objectAt s o .kind ≡ REGULAR) → sizeSet x 0 ≤ 8192
+  pub resize-to : (o : ℕ) (x : SetSize) → o < objects s → (isGiven x ≡ true → objectAt s o .kind ≡ REGULAR) → sizeSet x 0 ≤ 8192
       → need (sizeSet x (sizeOf s o)) - need (sizeOf s o) ≤ freeBlockCount s → StillGood s (resizeTo s o x) × SameTree s (resizeTo s o x)
   resize-to o SetSize.Keep l k small room = (still-refl s g, tree-refl)
   resize-to o (SetSize.To n) l k small room =
@@ -87,6 +98,28 @@ module _ (s t : Store) (a : StillGood s t) where
   touch-after : (c : Context) (d : ℕ) → GoodClock (c .clock) → d < objects s → objectAt t d .kind ≡ objectAt s d .kind → objectAt s d .kind ≡ DIRECTORY
       → StillGood s (touchDirectory t c d)
   touch-after c d k l e w = still-trans s t (touchDirectory t c d) a (touch-directory t (a .good) c k d (below-after d l) (omega arith))
+
+-- WRITE of bytes that fit, where there is room
+module _ (s : Store) (g : GoodRecords s) (c : Context) (k : GoodClock (c .clock)) where
+  pub write-edit : (o offset : ℕ) (xs : List ℕ) → o < objects s → objectAt s o .kind ≡ REGULAR → Below 256 xs → offset + length xs ≤ 8192
+      → need (grown s o offset (length xs)) - need (sizeOf s o) ≤ freeBlockCount s → StillGood s (writeEdit s c o offset xs)
+  unfolding writeEdit
+  write-edit o offset xs l reg w fits room =
+      let live = live-at s g o l (omega arith) in
+      let size = grown s o offset (length xs) in
+      let small : size ≤ 8192 = omega (arith, size-small s o live) in
+      let t = resize s o size in
+      let r = resize-still s g o size l reg small room in
+      let tree = resize-tree s o size (g .sound) l live small room in
+      let kind : objectAt t o .kind ≡ REGULAR = tree .kind o l ∙ reg in
+      let m = below-after s t r o l in
+      let inside : offset + length xs ≤ sizeOf t o = omega (arith, resize-size s o size (g .sound) l live small room) in
+      let u = writeFile t o offset xs in
+      let q = write-file-still t (r .good) o offset xs m (omega arith) w inside in
+      let same = write-file t o offset xs (r .good .sound) (live-at t (r .good) o m (omega arith)) w inside .each-object o m in
+      let i = still-trans s t u r q in
+      still-trans s u (writeEdit s c o offset xs) i
+      (set-attributes-still u (q .good) (c .clock) o mtimeAndCtime (below-after s u i o l) (rw same (omega arith)) k mtime-and-ctime-fits mtime-and-ctime-allowed)
 
 module _ (s : Store) (c : Context) (v : Valid s) (b : Below 256 s) (k : GoodClock (c .clock)) where
   records : GoodRecords s
@@ -116,26 +149,6 @@ module _ (s : Store) (c : Context) (v : Valid s) (b : Below 256 s) (k : GoodCloc
       settle-good (failChanging s h) (checkSetattr s h a w) (λ o. edited s o (setattrEdit s c o a)) (λ o e. setattr-edit h a w o f (setattr-passed s h a w o e))
 
   -- ---- WRITE
-  write-edit : (o offset : ℕ) (xs : List ℕ) → o < objects s → objectAt s o .kind ≡ REGULAR → Below 256 xs → offset + length xs ≤ 8192
-      → need (grown s o offset (length xs)) - need (sizeOf s o) ≤ freeBlockCount s → StillGood s (writeEdit s c o offset xs)
-  unfolding writeEdit
-  write-edit o offset xs l reg w fits room =
-      let live = live-at s records o l (omega arith) in
-      let size = grown s o offset (length xs) in
-      let small : size ≤ 8192 = omega (arith, size-small s o live) in
-      let t = resize s o size in
-      let r = resize-still s records o size l reg small room in
-      let tree = resize-tree s o size (records .sound) l live small room in
-      let kind : objectAt t o .kind ≡ REGULAR = tree .kind o l ∙ reg in
-      let m = below-after s t r o l in
-      let inside : offset + length xs ≤ sizeOf t o = omega (arith, resize-size s o size (records .sound) l live small room) in
-      let u = writeFile t o offset xs in
-      let q = write-file-still t (r .good) o offset xs m (omega arith) w inside in
-      let same = write-file t o offset xs (r .good .sound) (live-at t (r .good) o m (omega arith)) w inside .each-object o m in
-      let i = still-trans s t u r q in
-      still-trans s u (writeEdit s c o offset xs) i
-      (set-attributes-still u (q .good) (c .clock) o mtimeAndCtime (below-after s u i o l) (rw same (omega arith)) k mtime-and-ctime-fits mtime-and-ctime-allowed)
-
   write-store : (h : List ℕ) (offset count : ℕ) (bytes : List ℕ) (o : ℕ) → Below 256 bytes → WritePassed s h offset count bytes o
       → StillGood s (writeStore s c o offset (take (min count mostBytes) bytes))
   unfolding writeStore
@@ -145,7 +158,7 @@ module _ (s : Store) (c : Context) (v : Valid s) (b : Below 256 s) (k : GoodCloc
       by-bool (eqb (length xs) 0)
       (λ t. rw t (still-refl s records))
       (λ t. let some : 0 < count = omega (arith, eqb-false (length xs) 0 t) in
-      rw t (write-edit o offset xs (p .reached .below) (p .regular) (below-take 256 bytes (min count mostBytes) (lit< tt) w)
+      rw t (write-edit s records c k o offset xs (p .reached .below) (p .regular) (below-take 256 bytes (min count mostBytes) (lit< tt) w)
       (rw n (p .fits some)) (rw n (p .room some))))
 
   write-good : (h : List ℕ) (offset count : ℕ) (bytes : List ℕ) → Below 256 bytes → StillGood s (write s c h offset count bytes .store)
@@ -191,11 +204,6 @@ module _ (s : Store) (c : Context) (v : Valid s) (b : Below 256 s) (k : GoodCloc
       still-trans s t (existingEdit s c o (SetSize.To n)) r
       (set-attributes-still t (r .good) (c .clock) o mtimeAndCtime (below-after s t r o l) (rw (tree .kind o l) (omega arith)) k mtime-and-ctime-fits mtime-and-ctime-allowed)
 
-  how-settable : (manner : How) → FitsHow manner → FitsSettable (settableOf manner)
-  how-settable (How.Unchecked a) f = f
-  how-settable (How.Guarded a) f = f
-  how-settable (How.Exclusive verifier) f = only-ctime-fits
-
   create-target : (h text : List ℕ) (manner : How) (d : ℕ) (t : Target) → Below 256 text → FitsHow manner → CreatePassed s h text manner d t
       → StillGood s (createEdit s c d text (settableOf manner) t .store)
   create-target h text manner d (new o n) w f p =
@@ -212,10 +220,6 @@ module _ (s : Store) (c : Context) (v : Valid s) (b : Below 256 s) (k : GoodCloc
   create-good h text manner w f =
       settle-good (failChanging s h) (checkCreate s h text manner) (λ p. createEdit s c (p .0) text (settableOf manner) (p .1))
       (λ p e. create-target h text manner (p .0) (p .1) w f (create-passed s h text manner p e))
-
-  not-given : (x : SetSize) → isGiven x ≡ false → sizeSet x 0 ≡ 0
-  not-given SetSize.Keep e = refl
-  not-given (SetSize.To n) e = true-false e
 
   mkdir-good : (h text : List ℕ) (a : Settable) → Below 256 text → FitsSettable a → StillGood s (mkdir s c h text a .store)
   unfolding mkdir

@@ -175,6 +175,21 @@ unfolding times
 times-append r [] ys = omega arith
 times-append r (x ∷ xs) ys = omega (arith, times-append r xs ys)
 
+-- what stands in a list is counted there, and twice where it stands at two places
+pub times-at : (a d : ℕ) (xs : List ℕ) (k : ℕ) → k < length xs → getD xs k d ≡ a → 0 < times a xs
+unfolding times
+times-at a d [] k l e = absurd (omega arith)
+times-at a d (x ∷ xs) zero l e = omega (arith, ap bit (eq-eqb x a e))
+times-at a d (x ∷ xs) (suc k) l e = omega (arith, times-at a d xs k (omega arith) e)
+
+pub times-two : (a d : ℕ) (xs : List ℕ) (k l : ℕ) → k < l → l < length xs → getD xs k d ≡ a → getD xs l d ≡ a → 1 < times a xs
+unfolding times
+times-two a d [] k l p q e f = absurd (omega arith)
+times-two a d (x ∷ xs) zero zero p q e f = absurd (omega arith)
+times-two a d (x ∷ xs) zero (suc l) p q e f = omega (arith, ap bit (eq-eqb x a e), times-at a d xs l (omega arith) f)
+times-two a d (x ∷ xs) (suc k) zero p q e f = absurd (omega arith)
+times-two a d (x ∷ xs) (suc k) (suc l) p q e f = omega (arith, times-two a d xs k l (omega arith) (omega arith) e f)
+
 times-more : (r n : ℕ) (xs : List ℕ) (t : Bool) → times r (xs ++ cond t (n ∷ []) []) ≡ times r xs + bit (eqb n r && t)
 unfolding times
 times-more r n xs true = rw times-append (by-bool (eqb n r) (λ e. rw e) (λ e. rw e))

@@ -1,0 +1,305 @@
+-- The statuses of checks that refuse. What holds of every error but NOSPC, and of NOSPC where room is asked for, holds of the status with which the
+-- checks of each procedure refuse. Assumes nothing.
+use mathlib.Core.Path.{_≡_, refl, sym, ap, _∙_, subst}
+use mathlib.Core.Logic.{_≢_, _⊎_, inl, inr}
+use mathlib.Core.Bool.{Bool, true, false, _&&_, _||_, not, cond}
+use mathlib.Core.Option.{Option, some, none}
+use mathlib.Core.List.{List}
+use Prim.Native.Nat.{ℕ, zero, suc, _+_, _-_, _≤_, _<_, min}
+use native.Mathlib.Omega.{arith}
+use lib.Dec.{eqb, leb, ltb, lit<}
+use lib.ListN.{length}
+use borrow.Author.Tests.{eqb-true, eqb-false, ltb-false, not-true, not-false}
+use Rattle.kinds.specs.declared.call.Settable.{Settable}
+use Rattle.kinds.specs.declared.call.Guard.{Guard}
+use Rattle.kinds.specs.declared.call.How.{How}
+use Rattle.kinds.specs.declared.call.How.the-variants as How
+use Rattle.spec.specs.Bytes.{beAt}
+use Rattle.spec.specs.Checked.{Checked, refused, passed, bind, refuseIf, present, absent}
+use Rattle.spec.specs.Handles.{reach, reachDirectory, checkName}
+use Rattle.spec.specs.Image.{Store, stamp, objects, objectAt, nameAt}
+use Rattle.spec.specs.Names.{longestName, goodBytes, isDot, isDotDot, isDots}
+use Rattle.spec.specs.Procedures.Attributes.{isGiven, sizeSet, badAttributes, differs, lacksRoom, checkSetattr}
+use Rattle.spec.specs.Procedures.Data.{reachRegular, mostBytes, grown, checkWrite}
+use Rattle.spec.specs.Procedures.Listing.{entries, entriesAbove, isNothing, fitting, checkListing, checkReaddir}
+use Rattle.spec.specs.Procedures.Names.{childOf, lookIn, checkLookup, roomForNew, isNew, checkExisting, targetOf, checkNew, checkAttributed}
+use Rattle.spec.specs.Procedures.Names.{checkHow, checkCreate, checkMkdir}
+use Rattle.spec.specs.Procedures.Removal.{checkRemove, hasEntries, checkRmdir, isWithin, checkRename}
+use Rattle.spec.specs.Results.{Entry}
+use Rattle.spec.specs.Room.{isLive, isRegular, isDirectory, sizeOf, availableObject, availableName, findName, parent}
+use Rattle.laws.proofs.Count.{and-both, true-false}
+
+-- P holds of the status, where the checks refuse
+abbrev pub Tells : {A : Type 0} → (ℕ → Type 0) → Checked A → Type 0
+Tells P c = (status : ℕ) → c ≡ refused status → P status
+
+-- an error other than NOSPC
+abbrev pub Plain : ℕ → Type 0
+Plain n = (0 < n) × (n < 4294967296) × (n ≢ 28)
+
+-- ---- checks in order
+module _ (P : ℕ → Type 0) where
+  tells-passed : {A : Type 0} (a : A) → Tells P (passed a)
+  tells-passed a status e = let z : _≡_ {A = ℕ} 0 1 = cc in absurd (omega arith)
+
+  tells-refused : {A : Type 0} (n : ℕ) → P n → Tells {A = A} P (refused n)
+  tells-refused n h status e = let z : n ≡ status = cc in subst P z h
+
+  tells-bind : {A B : Type 0} (c : Checked A) (k : A → Checked B) → Tells P c → ((a : A) → c ≡ passed a → Tells P (k a)) → Tells P (bind c k)
+  tells-bind (refused n) k h f = tells-refused n (h n refl)
+  tells-bind (passed a) k h f = f a refl
+
+  -- a test with its status, and the rest
+  tells-if : {B : Type 0} (t : Bool) (n : ℕ) (k : Checked B) → (t ≡ true → P n) → (t ≡ false → Tells P k) → Tells P (bind (refuseIf t n) (λ _. k))
+  tells-if true n k h f = tells-refused n (h refl)
+  tells-if false n k h f = f refl
+
+  tells-last : (t : Bool) (n : ℕ) → P n → Tells P (refuseIf t n)
+  tells-last true n h = tells-refused n h
+  tells-last false n h = tells-passed tt
+
+  tells-present : (n : ℕ) (x : Option ℕ) → P n → Tells P (present n x)
+  tells-present n none h = tells-refused n h
+  tells-present n (some m) h = tells-passed m
+
+  tells-absent : (n : ℕ) (x : Option ℕ) → P n → Tells P (absent n x)
+  tells-absent n none h = tells-passed tt
+  tells-absent n (some m) h = tells-refused n h
+
+  tells-cond : {A : Type 0} (t : Bool) (a b : Checked A) → Tells P a → Tells P b → Tells P (cond t a b)
+  tells-cond true a b x y = x
+  tells-cond false a b x y = y
+
+-- ---- the checks of each procedure
+module _ (P : ℕ → Type 0) (plain : (n : ℕ) → Plain n → P n) (s : Store) where
+  noent : P 2
+  noent = plain 2 (lit< tt, lit< tt, omega arith)
+
+  acces : P 13
+  acces = plain 13 (lit< tt, lit< tt, omega arith)
+
+  exist : P 17
+  exist = plain 17 (lit< tt, lit< tt, omega arith)
+
+  notdir : P 20
+  notdir = plain 20 (lit< tt, lit< tt, omega arith)
+
+  inval : P 22
+  inval = plain 22 (lit< tt, lit< tt, omega arith)
+
+  stale : P 70
+  stale = plain 70 (lit< tt, lit< tt, omega arith)
+
+  bad-handle : P 10001
+  bad-handle = plain 10001 (lit< tt, lit< tt, omega arith)
+
+  too-small : P 10005
+  too-small = plain 10005 (lit< tt, lit< tt, omega arith)
+
+  pub reach-tells : (h : List ℕ) → Tells P (reach s h)
+  unfolding reach
+  reach-tells h =
+      tells-if P (not (eqb (length h) 12)) 10001 _ (λ _. bad-handle) (λ _.
+      tells-if P (leb (objects s) (beAt h 4 4)) 10001 _ (λ _. bad-handle) (λ _.
+      tells-if P (not (eqb (beAt h 0 4) (stamp s))) 70 _ (λ _. stale) (λ _.
+      tells-if P (not (isLive s (beAt h 4 4))) 70 _ (λ _. stale) (λ _.
+      tells-if P (not (eqb (beAt h 8 4) (objectAt s (beAt h 4 4) .generation))) 70 _ (λ _. stale) (λ _. tells-passed P _)))))
+
+  directory-tells : (h : List ℕ) → Tells P (reachDirectory s h)
+  unfolding reachDirectory
+  directory-tells h = tells-bind P (reach s h) _ (reach-tells h) (λ d _. tells-if P (not (isDirectory s d)) 20 _ (λ _. notdir) (λ _. tells-passed P _))
+
+  pub regular-tells : (h : List ℕ) → Tells P (reachRegular s h)
+  unfolding reachRegular
+  regular-tells h = tells-bind P (reach s h) _ (reach-tells h) (λ o _. tells-if P (not (isRegular s o)) 22 _ (λ _. inval) (λ _. tells-passed P _))
+
+  name-tells : (text : List ℕ) → Tells P (checkName text)
+  unfolding checkName
+  name-tells text =
+      tells-if P (eqb (length text) 0) 13 _ (λ _. acces) (λ _.
+      tells-if P (not (leb (length text) longestName)) 63 _ (λ _. plain 63 (lit< tt, lit< tt, omega arith)) (λ _.
+      tells-last P (not (goodBytes text)) 13 acces))
+
+  new-tells : (d : ℕ) (text : List ℕ) (invalid : Bool) → Tells P (checkNew s d text invalid)
+  unfolding checkNew
+  new-tells d text invalid =
+      tells-bind P (checkName text) _ (name-tells text) (λ _ _. tells-if P (isDots text) 17 _ (λ _. exist) (λ _. tells-last P invalid 22 inval))
+
+  pub lookup-tells : (h text : List ℕ) → Tells P (checkLookup s h text)
+  unfolding checkLookup lookIn
+  lookup-tells h text =
+      tells-bind P (reachDirectory s h) _ (directory-tells h) (λ d _.
+      tells-bind P (checkName text) _ (name-tells text) (λ _ _.
+      tells-bind P (lookIn s d text) _
+      (tells-cond P (isDot text) (passed d) _ (tells-passed P d)
+      (tells-cond P (isDotDot text) (passed (parent s d)) _ (tells-passed P (parent s d)) (child (findName s d text))))
+      (λ o _. tells-passed P _)))
+    where
+      child : (o : Option ℕ) → Tells P (childOf s (present 2 o))
+      child none = tells-refused P 2 noent
+      child (some n) = tells-passed P _
+
+  pub remove-tells : (h text : List ℕ) → Tells P (checkRemove s h text)
+  unfolding checkRemove
+  remove-tells h text =
+      tells-bind P (reachDirectory s h) _ (directory-tells h) (λ d _.
+      tells-bind P (checkName text) _ (name-tells text) (λ _ _.
+      tells-if P (isDots text) 13 _ (λ _. acces) (λ _.
+      tells-bind P (present 2 (findName s d text)) _ (tells-present P 2 (findName s d text) noent) (λ n _.
+      tells-if P (isDirectory s (nameAt s n .child)) 13 _ (λ _. acces) (λ _. tells-passed P _)))))
+
+  pub rmdir-tells : (h text : List ℕ) → Tells P (checkRmdir s h text)
+  unfolding checkRmdir
+  rmdir-tells h text =
+      tells-bind P (reachDirectory s h) _ (directory-tells h) (λ d _.
+      tells-bind P (checkName text) _ (name-tells text) (λ _ _.
+      tells-if P (isDots text) 22 _ (λ _. inval) (λ _.
+      tells-bind P (present 2 (findName s d text)) _ (tells-present P 2 (findName s d text) noent) (λ n _.
+      tells-if P (not (isDirectory s (nameAt s n .child))) 20 _ (λ _. notdir) (λ _.
+      tells-if P (hasEntries s (nameAt s n .child)) 66 _ (λ _. plain 66 (lit< tt, lit< tt, omega arith)) (λ _. tells-passed P _))))))
+
+  pub rename-tells : (h text g title : List ℕ) → Tells P (checkRename s h text g title)
+  unfolding checkRename
+  rename-tells h text g title =
+      tells-bind P (reachDirectory s h) _ (directory-tells h) (λ d _.
+      tells-bind P (reachDirectory s g) _ (directory-tells g) (λ e _.
+      tells-bind P (checkName text) _ (name-tells text) (λ _ _.
+      tells-bind P (checkName title) _ (name-tells title) (λ _ _.
+      tells-if P (isDots text || isDots title) 22 _ (λ _. inval) (λ _.
+      tells-bind P (present 2 (findName s d text)) _ (tells-present P 2 (findName s d text) noent) (λ n _.
+      tells-bind P (absent 17 (findName s e title)) _ (tells-absent P 17 (findName s e title) exist) (λ _ _.
+      tells-if P (isWithin s (nameAt s n .child) e) 22 _ (λ _. inval) (λ _. tells-passed P _))))))))
+
+  listing-tells : (head each limit : ℕ) (es : List Entry) → Tells P (checkListing head each limit es)
+  unfolding checkListing
+  listing-tells head each limit es =
+      tells-if P (ltb limit head) 10005 _ (λ _. too-small) (λ _.
+      tells-if P (not (isNothing es) && isNothing (fitting each (limit - head) es)) 10005 _ (λ _. too-small) (λ _. tells-passed P _))
+
+  pub readdir-tells : (h : List ℕ) (cookie verifier count : ℕ) → Tells P (checkReaddir s h cookie verifier count)
+  unfolding checkReaddir
+  readdir-tells h cookie verifier count =
+      tells-bind P (reachDirectory s h) _ (directory-tells h) (λ d _.
+      tells-if P (not (eqb verifier 0)) 10003 _ (λ _. plain 10003 (lit< tt, lit< tt, omega arith)) (λ _.
+      let es = entriesAbove cookie (entries s d) in
+      tells-bind P (checkListing 104 24 (min count 4096) es) _ (listing-tells 104 24 (min count 4096) es) (λ _ _. tells-passed P _)))
+
+  -- ---- those that ask for room
+  pub setattr-tells : (h : List ℕ) (a : Settable) (g : Guard)
+      → ((o : ℕ) → reach s h ≡ passed o → differs g (objectAt s o .ctime) ≡ false → badAttributes a ≡ false
+      → isGiven (a .size) && isDirectory s o ≡ false → P 28)
+      → Tells P (checkSetattr s h a g)
+  unfolding checkSetattr
+  setattr-tells h a g full =
+      tells-bind P (reach s h) _ (reach-tells h) (λ o e₁.
+      tells-if P (differs g (objectAt s o .ctime)) 10002 _ (λ _. plain 10002 (lit< tt, lit< tt, omega arith)) (λ e₂.
+      tells-if P (badAttributes a) 22 _ (λ _. inval) (λ e₃.
+      tells-if P (isGiven (a .size) && isDirectory s o) 22 _ (λ _. inval) (λ e₄.
+      tells-if P (lacksRoom s (sizeOf s o) (sizeSet (a .size) (sizeOf s o))) 28 _ (λ _. full o e₁ e₂ e₃ e₄) (λ _. tells-passed P _)))))
+
+  pub write-tells : (h : List ℕ) (offset n : ℕ) (bytes : List ℕ)
+      → ((o : ℕ) → reachRegular s h ≡ passed o → n ≡ length bytes → 0 < n → offset + min n mostBytes ≤ 8192 → P 28)
+      → Tells P (checkWrite s h offset n bytes)
+  unfolding checkWrite
+  write-tells h offset n bytes full =
+      let z = min n mostBytes in
+      tells-bind P (reachRegular s h) _ (regular-tells h) (λ o e₁.
+      tells-if P (not (eqb n (length bytes))) 22 _ (λ _. inval) (λ e₂.
+      tells-if P (not (eqb n 0) && ltb 8192 (offset + z)) 27 _ (λ _. plain 27 (lit< tt, lit< tt, omega arith)) (λ e₃.
+      tells-if P (not (eqb n 0) && lacksRoom s (sizeOf s o) (grown s o offset z)) 28 _
+      (λ e₄. let m = and-both (not (eqb n 0)) (lacksRoom s (sizeOf s o) (grown s o offset z)) e₄ .0 in
+      full o e₁ (eqb-true n (length bytes) (not-false (eqb n (length bytes)) e₂)) (some-bytes n (eqb-false n 0 (not-true (eqb n 0) m)))
+      (ltb-false 8192 (offset + z) (sym (ap (λ (t : Bool). t && ltb 8192 (offset + z)) m) ∙ e₃)))
+      (λ _. tells-passed P _))))
+    where
+      some-bytes : (n : ℕ) → n ≢ 0 → 0 < n
+      some-bytes zero d = absurd (d refl)
+      some-bytes (suc n) d = omega arith
+
+  room-tells : (size : ℕ) → P 28 → Tells P (roomForNew s size)
+  unfolding roomForNew
+  room-tells size full =
+      tells-bind P (present 28 (availableObject s)) _ (tells-present P 28 (availableObject s) full) (λ o _.
+      tells-bind P (present 28 (availableName s)) _ (tells-present P 28 (availableName s) full) (λ n _.
+      tells-if P (lacksRoom s 0 size) 28 _ (λ _. full) (λ _. tells-passed P _)))
+
+  target-tells : (unchecked : Bool) (a : Settable) (f : Option ℕ) → (f ≡ none → P 28)
+      → ((n : ℕ) → f ≡ some n → unchecked && isRegular s (nameAt s n .child) ≡ true → P 28) → Tells P (targetOf s unchecked a f)
+  unfolding checkExisting
+  target-tells unchecked a none fresh old = new (roomForNew s (sizeSet (a .size) 0)) (room-tells (sizeSet (a .size) 0) (fresh refl))
+    where
+      new : (c : Checked (ℕ × ℕ)) → Tells P c → Tells P (isNew c)
+      new (refused n) h = tells-refused P n (h n refl)
+      new (passed y) h = tells-passed P _
+  target-tells unchecked a (some n) fresh old =
+      let o = nameAt s n .child in
+      tells-if P (not (unchecked && isRegular s o)) 17 _ (λ _. exist) (λ e.
+      tells-if P (lacksRoom s (sizeOf s o) (sizeSet (a .size) (sizeOf s o))) 28 _ (λ _. old n refl (not-false (unchecked && isRegular s o) e)) (λ _.
+      tells-passed P _))
+
+  pub create-tells : (h text : List ℕ) (manner : How)
+      → ((d : ℕ) (a : Settable) → (manner ≡ How.Unchecked a) ⊎ (manner ≡ How.Guarded a) → reachDirectory s h ≡ passed d
+      → checkNew s d text (badAttributes a) ≡ passed tt → findName s d text ≡ none → P 28)
+      → ((d n : ℕ) (a : Settable) → manner ≡ How.Unchecked a → reachDirectory s h ≡ passed d
+      → checkNew s d text (badAttributes a) ≡ passed tt → findName s d text ≡ some n → isRegular s (nameAt s n .child) ≡ true → P 28)
+      → Tells P (checkCreate s h text manner)
+  unfolding checkCreate checkAttributed
+  create-tells h text manner fresh old =
+      tells-bind P (reachDirectory s h) _ (directory-tells h) (λ d e.
+      tells-bind P (checkHow s d text manner) _ (how d e manner refl) (λ t _. tells-passed P _))
+    where
+      how : (d : ℕ) → reachDirectory s h ≡ passed d → (m : How) → manner ≡ m → Tells P (checkHow s d text m)
+      how d e (How.Unchecked a) w =
+          tells-bind P (checkNew s d text (badAttributes a)) _ (new-tells d text (badAttributes a)) (λ _ f.
+          target-tells true a (findName s d text) (fresh d a (inl w) e f) (λ n. old d n a w e f))
+      how d e (How.Guarded a) w =
+          tells-bind P (checkNew s d text (badAttributes a)) _ (new-tells d text (badAttributes a)) (λ _ f.
+          target-tells false a (findName s d text) (fresh d a (inr w) e f) (λ n x y. true-false (sym y)))
+      how d e (How.Exclusive verifier) w = tells-refused P 10004 (plain 10004 (lit< tt, lit< tt, omega arith))
+
+  pub mkdir-tells : (h text : List ℕ) (a : Settable)
+      → ((d : ℕ) → reachDirectory s h ≡ passed d → checkNew s d text (badAttributes a || isGiven (a .size)) ≡ passed tt → findName s d text ≡ none → P 28)
+      → Tells P (checkMkdir s h text a)
+  unfolding checkMkdir
+  mkdir-tells h text a full =
+      let invalid = badAttributes a || isGiven (a .size) in
+      tells-bind P (reachDirectory s h) _ (directory-tells h) (λ d e₁.
+      tells-bind P (checkNew s d text invalid) _ (new-tells d text invalid) (λ _ e₂.
+      tells-bind P (absent 17 (findName s d text)) _ (tells-absent P 17 (findName s d text) exist) (λ _ e₃.
+      tells-bind P (roomForNew s 0) _ (room-tells 0 (full d e₁ e₂ (nothing (findName s d text) e₃))) (λ p _. tells-passed P _))))
+    where
+      nothing : (o : Option ℕ) → absent 17 o ≡ passed tt → o ≡ none
+      nothing none e = refl
+      nothing (some n) e = let z : _≡_ {A = ℕ} 0 1 = cc in absurd (omega arith)
+
+-- ---- a refusal's status is not OK, and fits a word
+abbrev pub Failing : ℕ → Type 0
+Failing n = (0 < n) × (n < 4294967296)
+
+abbrev pub Sure : {A : Type 0} → Checked A → Type 0
+Sure c = Tells Failing c
+
+plainly : (n : ℕ) → Plain n → Failing n
+plainly n x = (x .0, x .1)
+
+full : Failing 28
+full = (lit< tt, lit< tt)
+
+module _ (s : Store) (h text : List ℕ) where
+  pub sure-lookup : Sure (checkLookup s h text)
+  sure-lookup = lookup-tells Failing plainly s h text
+
+  pub sure-create : (manner : How) → Sure (checkCreate s h text manner)
+  sure-create manner = create-tells Failing plainly s h text manner (λ d a w e f g. full) (λ d n a w e f g i. full)
+
+  pub sure-mkdir : (a : Settable) → Sure (checkMkdir s h text a)
+  sure-mkdir a = mkdir-tells Failing plainly s h text a (λ d e f g. full)
+
+  pub sure-remove : Sure (checkRemove s h text)
+  sure-remove = remove-tells Failing plainly s h text
+
+  pub sure-rmdir : Sure (checkRmdir s h text)
+  sure-rmdir = rmdir-tells Failing plainly s h text
+
+  pub sure-rename : (g title : List ℕ) → Sure (checkRename s h text g title)
+  sure-rename = rename-tells Failing plainly s h text
