@@ -8,7 +8,9 @@
  *     send INODE DIGEST           bytes are about to be sent on a socket; inode and digest are those of the file TRACE_STORE
  *
  * Where TRACE_KILL is a number above 0, the process kills itself at the moment of that number. The moments are before and after each of the calls
- * above and each write to a file, and in a write or a send also when half of the bytes have been moved.
+ * above and each write to a file, and in a send also when half of the bytes have been moved. Where TRACE_KILL_WRITE is a number above 0, it kills
+ * itself within the write to a file that has this number, when TRACE_CUT thousandths of the bytes have been moved. Where TRACE_SEND is a number
+ * above 0, one call sends at most so many bytes, as the system may do too.
  */
 #define _GNU_SOURCE
 #include <dlfcn.h>
@@ -27,10 +29,14 @@
 
 #define NEXT(type, name) ((type)dlsym(RTLD_NEXT, name))
 
+static long setting(const char *variable) {
+    const char *text = getenv(variable);
+    return text == NULL ? 0 : atol(text);
+}
+
 static bool is_moment(void) {
     static long moments;
-    const char *kill_at = getenv("TRACE_KILL");
-    return kill_at != NULL && __sync_add_and_fetch(&moments, 1) == atol(kill_at);
+    return __sync_add_and_fetch(&moments, 1) == setting("TRACE_KILL");
 }
 
 static void moment(void) {
@@ -155,22 +161,36 @@ static ssize_t move(int fd, const struct iovec *parts, int count, off_t at, cons
     return NEXT(ssize_t (*)(int, const struct iovec *, int), "writev")(fd, parts, count);
 }
 
+/* Moves a part of the first bytes, in thousandths, and kills the process. */
+static void move_part_and_die(int fd, const struct iovec *parts, off_t at, const struct msghdr *message, int flags, size_t thousandths) {
+    struct iovec part = { .iov_base = parts[0].iov_base, .iov_len = parts[0].iov_len * thousandths / 1000 };
+    move(fd, &part, 1, at, message, flags);
+    raise(SIGKILL);
+}
+
 static ssize_t put(int fd, const struct iovec *parts, int count, off_t at, const struct msghdr *message, int flags) {
+    static long writes;
     mode_t to = kind(fd);
-    const char *path = getenv("TRACE_STORE");
-    if (to != S_IFSOCK && to != S_IFREG)
-        return move(fd, parts, count, at, message, flags);
-    if (to == S_IFSOCK && path != NULL) {
+    struct iovec first = count > 0 ? parts[0] : (struct iovec){ .iov_len = 0 };
+    if (to == S_IFSOCK && first.iov_len > 0) {
         char file[64];
-        describe_path(AT_FDCWD, path, file);
+        describe_path(AT_FDCWD, getenv("TRACE_STORE"), file);
         note("send", file, "");
-    }
-    moment();
-    if (is_moment()) {
-        struct iovec half = parts[0];
-        half.iov_len /= 2;
-        move(fd, &half, 1, at, message, flags);
-        raise(SIGKILL);
+        moment();
+        if (is_moment())
+            move_part_and_die(fd, parts, at, message, flags, 500);
+        size_t most = (size_t)setting("TRACE_SEND");
+        if (most > 0 && first.iov_len > most) {
+            first.iov_len = most;
+            parts = &first;
+            count = 1;
+        }
+    } else if (to == S_IFREG && first.iov_len > 0) {
+        moment();
+        if (__sync_add_and_fetch(&writes, 1) == setting("TRACE_KILL_WRITE"))
+            move_part_and_die(fd, parts, at, message, flags, (size_t)setting("TRACE_CUT"));
+    } else {
+        return move(fd, parts, count, at, message, flags);
     }
     ssize_t result = move(fd, parts, count, at, message, flags);
     moment();

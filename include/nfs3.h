@@ -21,8 +21,8 @@
  *    stamp old handles are answered STALE. The stamp is the bytes 4 to 7 of the store, most significant first. An older copy of a store that
  *    is brought back needs a new stamp there too, for the same reason. The check does not judge the stamp.
  *
- * 2. Starting. Make sure that no other process has the store (a lock that ends with the process); otherwise the two save over each other.
- *    Read the store, and ask nfs3_check: on an answer other than 0 stop and leave the file as it is. Bring the file and its directory to
+ * 2. Starting. Make sure that no other process has the store, before a format too (a lock that ends with the process); otherwise the two save
+ *    over each other. Read the store, and ask nfs3_check: on an answer other than 0 stop and leave the file as it is. Bring the file and its directory to
  *    stable storage (fsync both) before the first reply: the daemon before may have been stopped within a save, and what is read now is told
  *    to hosts. Take a verifier that was never used before (64 random bits, or a counter on stable storage). Otherwise: a host that sees the
  *    same verifier before and after a restart takes it that no write was lost in between, and does not send writes again.
@@ -37,8 +37,8 @@
  *    the same address, often from another port, with the same xid and the same bytes. The daemon keeps its last replies to calls that changed
  *    the store, each with the host's address, the xid and the call's bytes, and sends the kept reply, without nfs3_call, to a call that is the
  *    same in all three. Otherwise: a host whose reply was lost is told EXIST for the lock file that it made itself, or NOENT for the file that
- *    it removed itself. Keep more replies than hosts have calls on the way, and for as long as hosts resend (some minutes), but not for ever:
- *    a program that starts again may use its xids again. Other bytes under the same xid are a new call. Replies that are kept in memory are
+ *    it removed itself. Keep more replies than hosts have calls on the way (some hundreds), for as long as hosts resend (some minutes), but not for
+ *    ever: a program that starts again may use its xids again. Other bytes under the same xid are a new call. Replies that are kept in memory are
  *    lost when the daemon stops.
  *
  * 5. Calling. Lend a reply space of NFS3_REPLY_SPACE bytes and the whole store. Seconds are those since 1970, nanoseconds are below
@@ -59,7 +59,8 @@
  *
  * 7. Sending. The first `length` bytes of the reply space are the whole RPC message: over UDP one datagram to the address and port that the
  *    call came from; over TCP one record on the connection that it came from, with its 4 bytes in front. A reply has at most
- *    NFS3_REPLY_SPACE bytes. Replies may be sent in any order. On an answer other than 0 there is no reply; nfs3_number says what to do.
+ *    NFS3_REPLY_SPACE bytes. Replies may be sent in any order. `send` may take fewer bytes than it was given: the
+ *    rest goes first when the connection takes bytes again, and other connections are not to wait for it. On an answer other than 0 there is no reply; nfs3_number says what to do.
  *
  * 8. The root's handle. Hosts get it from the MOUNT protocol (RFC 1813, appendix I), which is not in the library: NFS3_HANDLE_LENGTH bytes,
  *    namely the stamp (bytes 4 to 7 of the store), then 8 zero bytes (object 0, generation 0). The root is never removed, so its handle stays
