@@ -160,7 +160,7 @@ static void load(void) {
     store_len = (size_t)len;
     memcpy(store, bytes, store_len);
     memcpy(saved, bytes, store_len);
-    put_random(&verifier, sizeof verifier); /* after a million starts the chance that any two were the same is 1 in 30 million */
+    put_random(&verifier, sizeof verifier); /* in a million starts two are the same with a chance below 1 in 30 million */
 }
 
 /* Duty 1. The chance that a random stamp is one of those of n earlier formats, the last one excluded, is n in 4,294,967,296. */
@@ -304,7 +304,7 @@ static void report_refused(const struct connection *c, uint32_t number, const ch
     fprintf(stderr, "daemon: refused: answer %u to %s of %zu bytes from %s\n", (unsigned)number, what, len, address);
 }
 
-/* Sends what can be sent of the reply. False where the connection is to be closed. */
+/* Duty 7: sends what can be sent of the reply. False where the connection is to be closed. */
 static bool send_reply(struct connection *c) {
     ssize_t n = send(c->fd, c->reply + c->reply_sent, c->reply_len - c->reply_sent, MSG_DONTWAIT | MSG_NOSIGNAL);
     if (n < 0)

@@ -3,82 +3,89 @@
  *
  * The library answers RPC messages. It has no socket, no file and no clock: the daemon lends it the bytes of a call, of the store and of a
  * reply space, and tells it the time. The three functions at the end of this file are proved to give, for any bytes, exactly the answer, the
- * reply and the store that the specification gives. All that a daemon does around them is not: demo/daemon.c is an example of it, its socket
- * and its file are no part of the verified library, and it is tested only (demo/daemon_test).
+ * reply and the store that the specification gives. What a daemon does around them is not proved: demo/daemon.c is an example of it, which is
+ * tested (demo/daemon_test); its socket and its file are no part of the verified library.
  *
- * The words used here: a HOST is a machine or program that sends calls. A HANDLE is what a host holds to name a file or directory. An OBJECT
- * is a file or a directory. The STORE is one run of bytes with all objects, names and contents; a daemon keeps it in a file or on a device.
+ * The words: a HOST is a machine or program that sends calls. A HANDLE is what a host holds to name a file or a directory. An OBJECT is a file
+ * or a directory. The STORE is one run of bytes with all objects, names and contents; a daemon keeps it in a file.
  *
  *
  * THE CALLER'S PART
  *
- * The proof speaks of single calls on bytes. That hosts lose nothing rests on the daemon too; each duty below has what happens otherwise.
+ * The proof speaks of bytes in memory. That hosts lose nothing rests on the daemon too, on each of these duties.
  *
- * 1. Formatting. nfs3_format makes a store once, when it is set up; a daemon that starts never formats by itself, since that removes all
- *    files. Take a stamp that was never used before (32 random bits other than the old store's stamp, or a counter on stable storage that
- *    outlives the store; not the time in seconds, which repeats when a clock is set back). Otherwise: format sets every generation to 0, so
- *    with a stamp used again a handle that a host still holds reaches another file, which it then reads or overwrites as its own. With a new
- *    stamp old handles are answered STALE. The stamp is the bytes 4 to 7 of the store, most significant first. An older copy of a store that
- *    is brought back needs a new stamp there too, for the same reason. The check does not judge the stamp.
+ * 1. Formatting. nfs3_format makes a store once, when it is set up; its counts stay as they are from then on. A daemon that starts never
+ *    formats by itself, since that removes all files. Take a stamp that was never used before: 32 random bits other than the old store's stamp,
+ *    or a counter on stable storage that outlives the store; not the time in seconds, which repeats when a clock is set back. The handles of
+ *    the old store are then answered STALE, and hosts mount again. An older copy of a store that is brought back needs a new stamp too: write
+ *    it over the bytes 4 to 7 of the store, most significant first. The check does not judge the stamp.
+ *    OTHERWISE: with a stamp used again a handle that a host still holds reaches another file, which the host then reads or overwrites as its
+ *    own, since format sets every generation to 0, and an older copy gives out again what was given out after it was made.
  *
- * 2. Starting. Make sure that no other process has the store, before a format too (a lock that ends with the process); otherwise the two save
- *    over each other. Read the store, and ask nfs3_check: on an answer other than 0 stop and leave the file as it is. Bring the file and its directory to
- *    stable storage (fsync both) before the first reply: the daemon before may have been stopped within a save, and what is read now is told
- *    to hosts. Take a verifier that was never used before (64 random bits, or a counter on stable storage). Otherwise: a host that sees the
- *    same verifier before and after a restart takes it that no write was lost in between, and does not send writes again.
+ * 2. Starting. Make sure that no other process has the store, before a format too (by a lock that ends with the process); otherwise two
+ *    processes save over each other. Read the store and ask nfs3_check: where the answer is not NFS3_DONE, stop and leave the file as it is.
+ *    Bring the file and its directory to stable storage (fsync of both) before the first reply: the process before may have been stopped within
+ *    a save, and what is read now is told to hosts. Take a verifier that was never used before: 64 random bits, or a counter on stable storage.
+ *    OTHERWISE: a host that sees the same verifier before and after a restart concludes that nothing was lost in between, and does not send its
+ *    writes again.
  *
- * 3. Receiving. A call is one RPC message (RFC 5531). Over UDP one datagram is one message. Over TCP messages are records (RFC 5531, section
- *    11): each fragment starts with 4 bytes, most significant first, whose highest bit says that it is the last fragment of its record and
- *    whose other 31 bits are the number of bytes that follow; the fragments' bytes joined are the message. A fragment may come in pieces, and
- *    several records at once. The 31 bits are not to be trusted: a record of more than NFS3_CALL_MOST bytes is refused anyway (NFS3_LONG_CALL),
- *    so no more than these are ever to be held; close the connection. The xid is the first 4 bytes of the message.
+ * 3. Receiving. A call is one RPC message (RFC 5531). Over UDP one datagram is one message; receive it into more than NFS3_CALL_MOST bytes, or
+ *    a longer one is cut short and taken for another call. Over TCP messages are records (RFC 5531, section 11): each fragment starts with 4
+ *    bytes, most significant first, whose highest bit says that it is the last fragment of its record, and whose other 31 bits are the number
+ *    of bytes that follow; the bytes of the fragments, joined, are the message. A fragment, and its 4 bytes too, may come in pieces; several
+ *    records may come at once; a fragment may be empty. The number is not to be trusted: a record of more than NFS3_CALL_MOST bytes is refused
+ *    in any case (NFS3_LONG_CALL), so the daemon never holds more than these, and closes the connection. A connection within a record does not
+ *    keep others waiting.
  *
- * 4. Resent calls. The library keeps no replies. Hosts send a call again when its reply is late or lost, over TCP after a new connection, from
- *    the same address, often from another port, with the same xid and the same bytes. The daemon keeps its last replies to calls that changed
- *    the store, each with the host's address, the xid and the call's bytes, and sends the kept reply, without nfs3_call, to a call that is the
- *    same in all three. Otherwise: a host whose reply was lost is told EXIST for the lock file that it made itself, or NOENT for the file that
- *    it removed itself. Keep more replies than hosts have calls on the way (some hundreds), for as long as hosts resend (some minutes), but not for
- *    ever: a program that starts again may use its xids again. Other bytes under the same xid are a new call. Replies that are kept in memory are
- *    lost when the daemon stops.
+ * 4. Resent calls. The library keeps no replies. Hosts send a call again when its reply is late or lost, over TCP on a new connection: from the
+ *    same address, often from another port, with the same bytes; the first 4 of them are the call's number, the xid. Keep the last replies to
+ *    calls that changed the store, each with the host's address and the call's bytes. To a call that is the same in both send the kept reply,
+ *    without nfs3_call. Other bytes under the same xid are a new call. Keep more replies than hosts have calls on the way (some hundreds), for
+ *    as long as hosts go on resending (some minutes), but not for ever: a program that starts again may use its xids again. With several
+ *    threads, a call that is still being answered is not done a second time. Replies that are kept in memory are lost when the daemon stops.
+ *    OTHERWISE: a host whose reply was lost is told EXIST for the lock file that it made itself, or NOENT for the file that it removed itself,
+ *    and a late WRITE undoes a newer one.
  *
- * 5. Calling. Lend a reply space of NFS3_REPLY_SPACE bytes and the whole store. Seconds are those since 1970, nanoseconds are below
- *    NFS3_NANOSECONDS. The clock must be finer than seconds, best later at each call than at the one before, also when the system's clock is
- *    set back. Otherwise: two changes get the same time, and a host that read the file between them sees the same time again and goes on
- *    using its old bytes. FSINFO tells hosts a resolution of 1 nanosecond.
+ * 5. Calling. Lend the whole store and a reply space of NFS3_REPLY_SPACE bytes. Seconds are those since 1970, as 32 bits without a sign;
+ *    nanoseconds are below NFS3_NANOSECONDS. The clock is finer than seconds (FSINFO tells hosts 1 nanosecond): best is a time that is later in
+ *    each call than in the one before, also when the system's clock stands still or is set back.
+ *    OTHERWISE: two changes get the same time, and a host that read the file between them sees that time again and goes on using its old bytes.
  *
- * 6. Keeping. Where a call changed the store, bring all its bytes to stable storage BEFORE the reply is sent, all or nothing: write them to a
- *    new file in the same directory, fsync it, rename it over the old one, fsync the directory. Otherwise: every reply to WRITE says
- *    FILE_SYNC, that is, the data is on stable storage, so a host told too early forgets its data, and a stop of the machine loses it; and a
- *    file that is written in place is damaged by a stop in between. Where saving fails, send no reply, now or later: the store in memory is
- *    no longer the one that was saved. Stop, or go back to the saved bytes.
- *      How to see that a call changed nothing: compare the store's bytes with a copy of what was saved last. That is sure, and it takes
- *    microseconds. Besides, these never change a byte of the store: an answer other than 0; a reply that is denied or not SUCCESS; a reply with
- *    an NFS status other than OK; the procedures NULL, GETATTR, LOOKUP, ACCESS, READ, READDIR, FSSTAT, FSINFO, PATHCONF and COMMIT, and those
- *    that are not served (READLINK, SYMLINK, MKNOD, LINK, READDIRPLUS: NOTSUPP). The others may leave the store as it was even with OK, as
- *    WRITE of 0 bytes does.
+ * 6. Keeping. Where a call changed the store, bring all of its bytes to stable storage, all or nothing, BEFORE the reply is sent: write a new
+ *    file in the same directory, fsync it, rename it to the store's name, fsync the directory. Until then no other reply may show the change
+ *    either. Where saving fails, send no reply and stop: it is not known which bytes are on stable storage, and the next start will read them.
+ *    OTHERWISE: every reply to WRITE says FILE_SYNC, which means that the data is on stable storage, so a host that is told so too early drops
+ *    its own copy, and a stop of the machine loses the data; and a file that is written in place is damaged by a stop in between.
+ *
+ *    How to see that a call changed nothing: compare the store's bytes with a copy of those saved last. That is sure, and takes microseconds.
+ *    Apart from that, no byte of the store is changed with an answer other than NFS3_DONE; with a reply that is denied or not SUCCESS; with an
+ *    NFS status other than OK (the word at byte 24 of a reply whose bytes 4 to 23 are the words 1 0 0 0 0); and by the procedures NULL,
+ *    GETATTR, LOOKUP, ACCESS, READ, READDIR, FSSTAT, FSINFO, PATHCONF and COMMIT and those that are not served (READLINK, SYMLINK, MKNOD, LINK
+ *    and READDIRPLUS, answered NOTSUPP). The others may leave the store as it was even with OK: WRITE of 0 bytes does.
  *
  * 7. Sending. The first `length` bytes of the reply space are the whole RPC message: over UDP one datagram to the address and port that the
- *    call came from; over TCP one record on the connection that it came from, with its 4 bytes in front. A reply has at most
- *    NFS3_REPLY_SPACE bytes. Replies may be sent in any order. `send` may take fewer bytes than it was given: the
- *    rest goes first when the connection takes bytes again, and other connections are not to wait for it. On an answer other than 0 there is no reply; nfs3_number says what to do.
+ *    call came from; over TCP one record on the connection that the call came on, with its 4 bytes in front. Replies may be sent in any order.
+ *    `send` may take fewer bytes than it is given: the rest goes first when the connection takes bytes again, and other connections do not wait
+ *    for it. With an answer other than NFS3_DONE there is no reply; enum nfs3_number says what to do.
  *
- * 8. The root's handle. Hosts get it from the MOUNT protocol (RFC 1813, appendix I), which is not in the library: NFS3_HANDLE_LENGTH bytes,
- *    namely the stamp (bytes 4 to 7 of the store), then 8 zero bytes (object 0, generation 0). The root is never removed, so its handle stays
- *    the same until the next format. Every other handle is in the library's replies.
+ * 8. The root's handle. Hosts get it through the MOUNT protocol (RFC 1813, appendix I), which is not in the library. It has NFS3_HANDLE_LENGTH
+ *    bytes: the stamp (bytes 4 to 7 of the store), then 8 zero bytes (object 0, generation 0). The root is never removed, so the handle stays
+ *    the same until the stamp changes. Every other handle comes from the library's replies.
  *
- * 9. Rights are not looked at yet. Any credential is accepted, and whoever reaches the socket may read and change every file. Listen only
- *    where all are trusted.
+ * 9. Rights are not looked at yet. Any credential is accepted, and whoever reaches the socket can read and change every file. Listen only where
+ *    everybody is trusted.
  *
  *
  * THE FUNCTIONS
  *
- * Memory: they read and write the lent bytes and their own stack and nothing else. There is no allocation, no static data, no lock, no system
- *   call, no callback; they keep no pointer. Each ends, whatever the bytes.
- * Threads: they may run at once on different buffers, and be called from signal handlers. One store must not be used by two calls at once; a
- *   lock has to hold from the call until the store is saved.
- * Stack: at most NFS3_STACK bytes. See there.
- * Pointers: must not be null, even where the length is 0. They need no alignment. The buffers of one call must not overlap.
- * Platform: x86-64 with the System V calling convention (Linux). The store's bytes do not depend on the platform.
+ * Memory: they read and write the lent bytes and their own stack, and nothing else. There is no allocation, no static data but constants, no lock,
+ *   no system call; they keep no pointer.
+ * Time: each ends, whatever the bytes. A call checks the whole store first, which takes a few microseconds for the largest one.
+ * Threads: they are reentrant, and may run at once on different stores. One store is used by one call at a time; a lock has to hold from the
+ *   call until the store is saved.
+ * Stack: at most NFS3_STACK bytes, see there.
+ * Pointers: not null, even where the length is 0; no alignment is needed; the buffers of one call do not overlap.
+ * Platform: x86-64 with the System V calling convention (Linux). The bytes of a store do not depend on the platform.
  */
 #ifndef NFS3_H
 #define NFS3_H
