@@ -51,9 +51,10 @@
  *    each call than in the one before, also when the system's clock stands still or is set back.
  *    OTHERWISE: two changes get the same time, and a host that read the file between them sees that time again and goes on using its old bytes.
  *
- * 6. Keeping. Where a call changed the store, bring all of its bytes to stable storage, all or nothing, BEFORE the reply is sent: write a new
- *    file in the same directory, fsync it, rename it to the store's name, fsync the directory. Until then no other reply may show the change
- *    either. Where saving fails, send no reply and stop: it is not known which bytes are on stable storage, and the next start will read them.
+ * 6. Keeping. Where a call changed the store, and only there, bring all of its bytes to stable storage, all or nothing, BEFORE the reply is
+ *    sent: write a new file in the same directory, fsync it, rename it to the store's name, fsync the directory. Until then no other reply may
+ *    show the change either. Where saving fails, send no reply and stop: it is not known which bytes are on stable storage, and the next start
+ *    will read them.
  *    OTHERWISE: every reply to WRITE says FILE_SYNC, which means that the data is on stable storage, so a host that is told so too early drops
  *    its own copy, and a stop of the machine loses the data; and a file that is written in place is damaged by a stop in between.
  *
@@ -117,12 +118,12 @@ extern "C" {
 /* The lengths that a store is made of: what is there in any store, and each object, name record and block. */
 #define NFS3_FIXED_LENGTH 20
 #define NFS3_OBJECT_LENGTH 80
-#define NFS3_NAME_LENGTH 44
+#define NFS3_NAME_RECORD_LENGTH 44
 #define NFS3_BLOCK_LENGTH 512
 
 /* The exact length of a store with so many objects, name records and blocks, and the greatest one: 535,060 bytes. */
 #define NFS3_STORE_LENGTH(objects, names, blocks)                                                                                              \
-    ((size_t)NFS3_FIXED_LENGTH + (size_t)NFS3_OBJECT_LENGTH * (objects) + (size_t)NFS3_NAME_LENGTH * (names) +                                 \
+    ((size_t)NFS3_FIXED_LENGTH + (size_t)NFS3_OBJECT_LENGTH * (objects) + (size_t)NFS3_NAME_RECORD_LENGTH * (names) +                          \
      (size_t)NFS3_BLOCK_LENGTH * (blocks))
 #define NFS3_STORE_MOST NFS3_STORE_LENGTH(NFS3_OBJECTS_MOST, NFS3_NAMES_MOST, NFS3_BLOCKS_MOST)
 
@@ -130,8 +131,11 @@ extern "C" {
 #define NFS3_STAMP_OFFSET 4
 #define NFS3_STAMP_LENGTH 4
 
-/* The length of a handle: stamp, object, generation, 4 bytes each, most significant first. A call may hold up to 64 bytes as a handle. */
+/* The length of a handle: stamp, object, generation, 4 bytes each, most significant first. One of another length is answered BADHANDLE. */
 #define NFS3_HANDLE_LENGTH 12
+
+/* The longest run of bytes that is read as a handle in a call, as RFC 1813 has it. A longer one is answered GARBAGE_ARGS. */
+#define NFS3_HANDLE_MOST 64
 
 /* The longest name (NAMETOOLONG), the largest file (FBIG, INVAL), the greatest mode (INVAL), and the most bytes that one READ or WRITE moves. */
 #define NFS3_NAME_MOST 32
@@ -143,9 +147,10 @@ extern "C" {
 #define NFS3_CREDENTIAL_MOST 400
 
 /*
- * The stack that a function uses at most. Measured: 2,512 bytes for a call, 1,888 for the check, 104 for a format, the most over all formats,
- * checks and calls of the vectors in crates/vectors/data, each run on a stack that was filled with one byte before (demo/stack). The frames of
- * all functions in the library's machine code, added up, have 4,728 bytes; it has no recursion and calls nothing outside it but memset.
+ * The stack that a function uses at most. Measured: about 2,500 bytes for a call, 1,900 for the check and 100 for a format, the most over all
+ * calls, checks and formats of the vectors in crates/vectors/data, each run on a stack that was filled with one byte before; demo/stack does so
+ * and fails where the bound is not twice as much. The frames of all functions in the library's machine code, added up, have below 5,000 bytes;
+ * it has no recursion and calls nothing outside it but memset.
  */
 #define NFS3_STACK 8192
 
@@ -161,8 +166,8 @@ struct nfs3_answer {
  *                     made; save it.
  *   NFS3_BAD_STORE    the bytes are no store that passes its check. Send nothing and stop. At the start: it is another file, or a damaged one;
  *                     bring back a copy (with a new stamp, duty 1). Later on: something else wrote into the store's memory.
- *   NFS3_SMALL_REPLY  the reply space has less than NFS3_REPLY_SPACE bytes: a fault of the daemon.
- *   NFS3_BAD_CLOCK    the nanoseconds are NFS3_NANOSECONDS or more: a fault of the daemon.
+ *   NFS3_SMALL_REPLY  the reply space has less than NFS3_REPLY_SPACE bytes: a fault of the daemon, to be mended there.
+ *   NFS3_BAD_CLOCK    the nanoseconds are NFS3_NANOSECONDS or more: a fault of the daemon, to be mended there.
  *   NFS3_LONG_CALL    the call has more than NFS3_CALL_MOST bytes. Send nothing, report it; over TCP close the connection. No host that keeps to
  *                     what FSINFO told it sends such a call.
  *   NFS3_NO_CALL      the message is no RPC call with a complete header. Send nothing, report it; over TCP close the connection, since the marks
