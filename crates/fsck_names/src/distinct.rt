@@ -1,13 +1,10 @@
 // That no two names in a directory are the same, by chains of the records of one hash: `head` has for each hash the last record with it,
 // and `next` for each record the one before it with the same hash. Both hold the record's number and 1, or 0 for none.
 ghost use mathlib.Core.Path.{_≡_};
-ghost use mathlib.Core.Bool.{true, false};
+ghost use mathlib.Core.Bool.{false};
 ghost use Prim.Native.Nat.{ℕ, _+_, _≤_, _<_};
 ghost use lib.ListN.{length, getD, set};
-ghost use Rattle.spec.specs.Count.{every};
-ghost use Rattle.spec.specs.Image.{objects, names, nameAt};
-ghost use Rattle.spec.specs.Room.{isUsedName, isNamed};
-ghost use Rattle.spec.specs.Check.{goodNameRecord};
+ghost use Rattle.spec.specs.Image.{objects, names};
 ghost use Rattle.fsck_objects.specs.Told.{Shaped, Told};
 ghost use Rattle.fsck_names.specs.Distinct.{wordAt, joined, hash, isSame, Used, New, Chains};
 use crate::record::directory_of;
