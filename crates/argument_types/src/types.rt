@@ -38,7 +38,7 @@ const ANY_LENGTH: usize = 4294967295;
 pub fn handle(s: &[u8], c: Cursor) -> PartRead
     ensures { λ r. ⌜ partOf r ≡ handle (now (s .entry)) (c .at) ⌝ }
 {
-    opaque(s, c, Limit::ANY_HANDLE)
+    opaque(s, c, Limit::MOST_HANDLE_BYTES)
 }
 
 // filename3, and the data of WRITE.

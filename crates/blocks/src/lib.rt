@@ -13,8 +13,8 @@ ghost use Rattle.laws.proofs.Kept.{Sound};
 ghost use Rattle.laws.proofs.Valid.{Live};
 use image::block::byte_at;
 use image::block::clear_block;
+use kinds::layout::Block;
 use kinds::numbers::BlockNumber;
-use kinds::numbers::Limit;
 use kinds::numbers::ObjectNumber;
 
 // Zeroes the blocks from place `start` to place `end` of a list.
@@ -41,12 +41,12 @@ pub fn clear_tail(store: &mut [u8], o: ObjectNumber, start: usize, end: usize)
     requires { ⌜ start ≤ end ⌝ }
     ensures { λ _. ⌜ now (store .exit) ≡ clearTail (now (store .entry)) (o .0) start end ⌝ }
 {
-    let inside = start % Limit::BLOCK_BYTES;
+    let inside = start % Block::BYTES;
     if inside == 0 {
         return;
     }
     let at = byte_at(store, o, start);
-    let rest = Limit::BLOCK_BYTES - inside;
+    let rest = Block::BYTES - inside;
     let asked = end - start;
     if asked < rest {
         wire::clear_bytes(store, at, asked);
@@ -81,7 +81,7 @@ pub fn write_file(
     let mut done = 0;
     while done < n {
         let i = offset + done;
-        let chunk = smaller(Limit::BLOCK_BYTES - i % Limit::BLOCK_BYTES, n - done);
+        let chunk = smaller(Block::BYTES - i % Block::BYTES, n - done);
         let at = byte_at(store, o, i);
         wire::copy_bytes(store, at, call, start + done, chunk);
         done += chunk;

@@ -3,7 +3,7 @@ ghost use mathlib.Core.Path.{_≡_};
 ghost use mathlib.Core.List.{[], _∷_, _++_};
 ghost use Prim.Native.Nat.{_+_, _*_, _/_, _%_, _≤_};
 ghost use lib.ListN.{length, take};
-ghost use Rattle.kinds.specs.Numbers.{OK};
+ghost use Rattle.kinds.specs.Numbers.{OK, mostFileBytes, mostNameBytes, mostTransferBytes, mostLinks, fileSync, fileSystemProperties};
 ghost use Rattle.spec.specs.Bytes.{words, opaqueBytes, padding};
 ghost use Rattle.spec.specs.Count.{bit};
 ghost use Rattle.spec.specs.Edits.{readFile};
@@ -20,12 +20,18 @@ use fields::attributes::put_handle;
 use fields::attributes::put_handle_change;
 use fields::attributes::put_post_op;
 use file_contents::put_file_bytes;
+use kinds::numbers::Limit;
 use kinds::numbers::ObjectNumber;
 use kinds::numbers::Status;
 use results::HandleChange;
 use results::ObjectChange;
 use xdr::write::put_word;
 use xdr::write::put_words;
+
+// Limits as the words of a reply.
+const TRANSFER: u32 = Limit::MOST_TRANSFER_BYTES as u32;
+const LARGEST_FILE: u32 = Limit::MOST_FILE_BYTES as u32;
+const LONGEST_NAME: u32 = Limit::MOST_NAME_BYTES as u32;
 
 // The two words of a number of 64 bits.
 fn high(v: u64) -> u32
@@ -168,10 +174,10 @@ pub fn put_wrote(
 ) -> usize
     requires { ⌜ at + 136 ≤ length (now reply) ⌝ }
     requires { ⌜ Showable (now store) (c .object .0) ⌝ }
-    ensures { λ r. ⌜ Wrote 136 (now (reply .entry)) (now (reply .exit)) at r (words (OK ∷ wccData (changeIn (now (store .entry)) c) ++ (count ∷ 2 ∷ hyper verifier))) ⌝ }
+    ensures { λ r. ⌜ Wrote 136 (now (reply .entry)) (now (reply .exit)) at r (words (OK ∷ wccData (changeIn (now (store .entry)) c) ++ (count ∷ fileSync ∷ hyper verifier))) ⌝ }
 {
     let next = put_changed(reply, at, store, Status::OK, c);
-    let ws = [count, 2, high(verifier), low(verifier)];
+    let ws = [count, Limit::FILE_SYNC, high(verifier), low(verifier)];
     put_words(reply, next, &ws)
 }
 
@@ -255,10 +261,10 @@ pub fn put_got_room(
 pub fn put_got_limits(reply: &mut [u8], at: usize, store: &[u8], o: ObjectNumber) -> usize
     requires { ⌜ at + 140 ≤ length (now reply) ⌝ }
     requires { ⌜ Showable (now store) (o .0) ⌝ }
-    ensures { λ r. ⌜ Wrote 140 (now (reply .entry)) (now (reply .exit)) at r (words (OK ∷ postOp (attributes (now (store .entry)) (o .0)) ++ (4096 ∷ 4096 ∷ 1 ∷ 4096 ∷ 4096 ∷ 1 ∷ 4096 ∷ hyper 8192) ++ (0 ∷ 1 ∷ 0x18 ∷ []))) ⌝ }
+    ensures { λ r. ⌜ Wrote 140 (now (reply .entry)) (now (reply .exit)) at r (words (OK ∷ postOp (attributes (now (store .entry)) (o .0)) ++ (mostTransferBytes ∷ mostTransferBytes ∷ 1 ∷ mostTransferBytes ∷ mostTransferBytes ∷ 1 ∷ mostTransferBytes ∷ hyper mostFileBytes) ++ (0 ∷ 1 ∷ fileSystemProperties ∷ []))) ⌝ }
 {
     let next = put_failed(reply, at, store, Status::OK, o);
-    let ws = [4096, 4096, 1, 4096, 4096, 1, 4096, 0, 8192, 0, 1, 0x18];
+    let ws = [TRANSFER, TRANSFER, 1, TRANSFER, TRANSFER, 1, TRANSFER, 0, LARGEST_FILE, 0, 1, Limit::PROPERTIES];
     put_words(reply, next, &ws)
 }
 
@@ -266,10 +272,10 @@ pub fn put_got_limits(reply: &mut [u8], at: usize, store: &[u8], o: ObjectNumber
 pub fn put_got_naming(reply: &mut [u8], at: usize, store: &[u8], o: ObjectNumber) -> usize
     requires { ⌜ at + 116 ≤ length (now reply) ⌝ }
     requires { ⌜ Showable (now store) (o .0) ⌝ }
-    ensures { λ r. ⌜ Wrote 116 (now (reply .entry)) (now (reply .exit)) at r (words (OK ∷ postOp (attributes (now (store .entry)) (o .0)) ++ (1 ∷ 32 ∷ 1 ∷ 0 ∷ 0 ∷ 1 ∷ []))) ⌝ }
+    ensures { λ r. ⌜ Wrote 116 (now (reply .entry)) (now (reply .exit)) at r (words (OK ∷ postOp (attributes (now (store .entry)) (o .0)) ++ (mostLinks ∷ mostNameBytes ∷ 1 ∷ 0 ∷ 0 ∷ 1 ∷ []))) ⌝ }
 {
     let next = put_failed(reply, at, store, Status::OK, o);
-    let ws = [1, 32, 1, 0, 0, 1];
+    let ws = [Limit::MOST_LINKS, LONGEST_NAME, 1, 0, 0, 1];
     put_words(reply, next, &ws)
 }
 

@@ -5,6 +5,7 @@ use mathlib.Core.Logic.{_≢_}
 use mathlib.Core.List.{List}
 use native.Mathlib.Omega.{arith}
 use lib.ListN.{length, take}
+use Rattle.kinds.specs.Numbers.{mostTransferBytes}
 use Rattle.kinds.specs.declared.object.Context.{Context}
 use Rattle.kinds.specs.declared.call.Part.{Part}
 use Rattle.kinds.specs.declared.call.SetSize.{SetSize}
@@ -16,7 +17,7 @@ use Rattle.spec.specs.Checked.{passed}
 use Rattle.spec.specs.Image.{Store, objects, blocks, objectAt}
 use Rattle.spec.specs.Procedures.{cut, act}
 use Rattle.spec.specs.Procedures.Attributes.{resizeTo, checkSetattr, setattrEdit, setattr}
-use Rattle.spec.specs.Procedures.Data.{mostBytes, checkWrite, writeStore, writeDone, write}
+use Rattle.spec.specs.Procedures.Data.{checkWrite, writeStore, writeDone, write}
 use Rattle.laws.proofs.ActGood.{act-good, regular-of}
 use Rattle.laws.proofs.Bytes.{part-length}
 use Rattle.laws.proofs.GoodRecords.{GoodRecords, StillGood, GoodClock, still-refl, live-at, resize-still}
@@ -51,11 +52,11 @@ setattr-sizable s h a g o r p =
     }
 
 -- one call moves no more bytes than its data has
-pub few-moved : (call : List ℕ) (p : Part) (count : ℕ) → p .start + p .length ≤ length call → count ≡ length (cut call p) → min count mostBytes ≤ p .length
+pub few-moved : (call : List ℕ) (p : Part) (count : ℕ) → p .start + p .length ≤ length call → count ≡ length (cut call p) → min count mostTransferBytes ≤ p .length
 few-moved call p count h e = omega (arith, part-length call (p .start) (p .length) h)
 
 pub write-writable : (s : Store) (h : List ℕ) (offset count : ℕ) (bytes : List ℕ) (o : ℕ) → WritePassed s h offset count bytes o
-    → (n : ℕ) → n ≡ min count mostBytes → n ≢ 0 → Writable s o offset n
+    → (n : ℕ) → n ≡ min count mostTransferBytes → n ≢ 0 → Writable s o offset n
 write-writable s h offset count bytes o p n e z =
     let some : 0 < count = omega arith in
     record { below = p .reached .below; regular = p .regular; fits = rw e (p .fits some); room = rw e (p .room some) }
@@ -68,6 +69,6 @@ module _ (s : Store) (c : Context) (v : Valid s) (b : Below 256 s) (k : GoodCloc
   setattr-left h a g o f e = rw e at (act-good s c v b k call (Arguments.Setattr h a g) w f)
 
   pub write-left : (h : Part) (offset count : ℕ) (bytes : Part) (o : ℕ) → checkWrite s (cut call h) offset count (cut call bytes) ≡ passed o
-      → StillGood s (writeStore s c o offset (take (min count mostBytes) (cut call bytes)))
+      → StillGood s (writeStore s c o offset (take (min count mostTransferBytes) (cut call bytes)))
   unfolding act write writeDone
   write-left h offset count bytes o e = rw e at (act-good s c v b k call (Arguments.Write h offset count bytes) w tt)

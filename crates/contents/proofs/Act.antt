@@ -6,7 +6,7 @@ use Prim.Native.Nat.{ℕ, _^_, _<_, min}
 use native.Mathlib.Omega.{arith}
 use lib.Dec.{lit<}
 use lib.ListN.{take}
-use Rattle.kinds.specs.Numbers.{REGULAR, DIRECTORY}
+use Rattle.kinds.specs.Numbers.{REGULAR, DIRECTORY, mostTransferBytes}
 use Rattle.kinds.specs.declared.object.Context.{Context}
 use Rattle.kinds.specs.declared.call.Part.{Part}
 use Rattle.kinds.specs.declared.call.SetSize.the-variants as SetSize
@@ -22,7 +22,7 @@ use Rattle.spec.specs.Handles.{reach}
 use Rattle.spec.specs.Image.{Store, objects, objectAt}
 use Rattle.spec.specs.Procedures.{cut, act}
 use Rattle.spec.specs.Procedures.Attributes.{checkSetattr, setattrEdit, edited, setattr}
-use Rattle.spec.specs.Procedures.Data.{mostBytes, checkWrite, writeDone, write}
+use Rattle.spec.specs.Procedures.Data.{checkWrite, writeDone, write}
 use Rattle.spec.specs.Procedures.Names.{touchDirectory, newEdit, createdIn, Target, new, existing}
 use Rattle.spec.specs.Procedures.Names.{settableOf, createEdit, checkCreate, create, checkMkdir, mkdir}
 use Rattle.spec.specs.Procedures.Removal.{checkRemove, checkRmdir, removeFrom, remove, rmdir, checkRename, renameEdit, failRenaming, renamedTo, rename}
@@ -51,7 +51,7 @@ use Rattle.contents.proofs.Procedures.{existing-others, new-others, rem
 module _ (s : Store) (g : GoodRecords s) (c : Context) (k : GoodClock (c .clock)) where
   -- a WRITE that passes its checks writes the bytes that it moves into the contents
   pub write-call : (h : List ℕ) (offset count : ℕ) (bytes : List ℕ) (o : ℕ) → Below 256 bytes → checkWrite s h offset count bytes ≡ passed o
-      → contents (write s c h offset count bytes .store) o ≡ written (contents s o) offset (take (min count mostBytes) bytes)
+      → contents (write s c h offset count bytes .store) o ≡ written (contents s o) offset (take (min count mostTransferBytes) bytes)
   unfolding write writeDone
   write-call h offset count bytes o w e = rw e (write-passed-written s g c k h offset count bytes o w (write-passed s h offset count bytes o e))
 
@@ -85,7 +85,7 @@ module _ (s : Store) (g : GoodRecords s) (c : Context) (k : GoodClock (c .clock)
       → contents (write s c h offset count bytes .store) p ≡ contents s p
   unfolding write writeDone
   write-frame h offset count bytes w z =
-      settled (failChanging s h) (checkWrite s h offset count bytes) (λ o. writeDone s c o offset (take (min count mostBytes) bytes)) (λ o e.
+      settled (failChanging s h) (checkWrite s h offset count bytes) (λ o. writeDone s c o offset (take (min count mostTransferBytes) bytes)) (λ o e.
       let q = write-passed s h offset count bytes o e in
       write-passed-others s g c k h offset count bytes o w q p l (other-handle h o z (reached-passes s h o (q .reached))))
 

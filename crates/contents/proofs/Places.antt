@@ -7,6 +7,7 @@ use native.Mathlib.Omega.{arith}
 use native.Mathlib.Decide.{ℕ-discrete}
 use lib.ListN.{length, getD}
 use lib.Seq.{getD-take}
+use Rattle.kinds.specs.Layout.{objectLength, nameRecordLength}
 use Rattle.spec.specs.Count.{times}
 use Rattle.spec.specs.Image.{Store, objects, names, blocks, objectStart, nameStart, blockStart, objectAt}
 use Rattle.spec.specs.Room.{sizeOf, need, held, uses, byteAt}
@@ -32,11 +33,11 @@ unfolding byteAt
 place-after s o k = omega arith
 
 -- and so after every object record
-pub object-before-place : (s : Store) (o k i : ℕ) → i < objects s → objectStart i + 80 ≤ byteAt s o k
+pub object-before-place : (s : Store) (o k i : ℕ) → i < objects s → objectStart i + objectLength ≤ byteAt s o k
 object-before-place s o k i b = omega (arith, place-after s o k)
 
 -- and after every name record
-pub name-before-place : (s : Store) (o k n : ℕ) → n < names s → nameStart s n + 44 ≤ byteAt s o k
+pub name-before-place : (s : Store) (o k n : ℕ) → n < names s → nameStart s n + nameRecordLength ≤ byteAt s o k
 name-before-place s o k n b = omega (arith, place-after s o k)
 
 module _ (s : Store) (g : GoodRecords s) (o : ℕ) (l : o < objects s) where

@@ -15,7 +15,7 @@ ghost use Rattle.directory_contents.specs.Entries.{PaddedName, entry, do
 use find::name::parent_of;
 use image::counts::name_count;
 use image::counts::names_start;
-use kinds::numbers::Limit;
+use kinds::layout::NameRecord;
 use kinds::numbers::NameNumber;
 use kinds::numbers::ObjectNumber;
 use xdr::write::put_word;
@@ -142,18 +142,18 @@ fn put_name(
     if wire::get_u32(store, at) as usize != directory.0 {
         return p;
     }
-    let len = wire::get_u32(store, at + 8);
+    let len = wire::get_u32(store, at + NameRecord::LENGTH);
     if len == 0 {
         return p;
     }
-    let fileid = wire::get_u32(store, at + 4) + 1;
+    let fileid = wire::get_u32(store, at + NameRecord::CHILD) + 1;
     let number = n.0 as u32 + 3;
     put_above(
         reply,
         p,
         fileid,
         store,
-        at + 12,
+        at + NameRecord::TEXT,
         len as usize,
         number,
         cookie,
@@ -181,7 +181,7 @@ fn put_names(
             return q;
         }
         q = put_name(reply, q, store, start, directory, NameNumber(n), cookie);
-        start += Limit::NAME_BYTES;
+        start += NameRecord::BYTES;
         n += 1;
     }
     q

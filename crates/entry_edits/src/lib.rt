@@ -2,6 +2,7 @@
 ghost use mathlib.Core.Path.{_≡_};
 ghost use Prim.Native.Nat.{_+_, _≤_};
 ghost use lib.ListN.{length};
+ghost use Rattle.kinds.specs.Layout.{objectLength};
 ghost use Rattle.spec.specs.Edits.{setAttributes, mtimeAndCtime, removeObject};
 ghost use Rattle.spec.specs.Image.{objectStart};
 ghost use Rattle.spec.specs.Procedures.{cut};
@@ -23,7 +24,7 @@ use naming::remove_object;
 
 // Sets a directory's mtime and ctime.
 fn touch_directory(store: &mut [u8], clock: Time, d: ObjectNumber)
-    requires { ⌜ objectStart (d .0) + 80 ≤ length (now store) ⌝ }
+    requires { ⌜ objectStart (d .0) + objectLength ≤ length (now store) ⌝ }
     ensures { λ _. ⌜ now (store .exit) ≡ setAttributes (now (store .entry)) clock (d .0) mtimeAndCtime ⌝ }
 {
     touch(store, clock, d);

@@ -4,6 +4,7 @@ use mathlib.Core.Logic.{_⊎_}
 use mathlib.Core.Path.{ap}
 use native.Mathlib.Omega.{arith}
 use lib.ListN.{length}
+use Rattle.kinds.specs.Layout.{objectLength}
 use Rattle.kinds.specs.declared.object.Object.{Object}
 use Rattle.spec.specs.Image.{Store, objectStart, objects, blocks, objectAt}
 use Rattle.spec.specs.Room.{sizeOf, byteAt}
@@ -16,7 +17,7 @@ with-byte r v i (_⊎_.inl f) h = absurd (omega (arith, ap (λ (x : Object). x .
 with-byte r v i (_⊎_.inr l) h = l
 
 module _ (s : Store) (o i : ℕ) (g : GoodRecords s) (l : o < objects s) where
-  pub object-in : objectStart o + 80 ≤ length s
+  pub object-in : objectStart o + objectLength ≤ length s
   object-in = let h = g .sound .shaped in omega arith
 
   live-file : i < sizeOf s o → LiveObject (blocks s) (objectAt s o)

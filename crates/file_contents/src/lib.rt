@@ -8,7 +8,7 @@ ghost use Rattle.xdr.specs.Wrote.{Wrote};
 ghost use Rattle.file_contents.specs.Together.{Together};
 use image::block::byte_at;
 use image::object::block_of;
-use kinds::numbers::Limit;
+use kinds::layout::Block;
 use kinds::numbers::ObjectNumber;
 use xdr::read::padding;
 use xdr::write::put_bytes;
@@ -23,8 +23,8 @@ fn run_length(store: &[u8], o: ObjectNumber, i: usize, left: usize) -> usize
     ensures { λ r. ⌜ r ≤ left ⌝ }
     ensures { λ r. ⌜ Together (now (store .entry)) (o .0) i r ⌝ }
 {
-    let mut k = i / Limit::BLOCK_BYTES;
-    let mut run = Limit::BLOCK_BYTES - i % Limit::BLOCK_BYTES;
+    let mut k = i / Block::BYTES;
+    let mut run = Block::BYTES - i % Block::BYTES;
     while run < left {
         let here = block_of(store, o, k);
         let next = block_of(store, o, k + 1);
@@ -32,7 +32,7 @@ fn run_length(store: &[u8], o: ObjectNumber, i: usize, left: usize) -> usize
             return run;
         }
         k += 1;
-        run += Limit::BLOCK_BYTES;
+        run += Block::BYTES;
     }
     left
 }

@@ -32,7 +32,7 @@ pub fn reach(store: &[u8], call: &[u8], h: Part) -> Reached
 {
     let start = h.start;
     let long = h.length;
-    if long != Limit::HANDLE {
+    if long != Limit::HANDLE_BYTES {
         return Reached::Refused(Status::BADHANDLE);
     }
     let number = wire::get_u32(call, start + 4) as usize;

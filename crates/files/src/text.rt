@@ -51,7 +51,7 @@ pub fn check_name(call: &[u8], name: Part) -> TextChecked
     if n == 0 {
         return TextChecked::Refused(Status::ACCES);
     }
-    if Limit::NAME < n {
+    if Limit::MOST_NAME_BYTES < n {
         return TextChecked::Refused(Status::NAMETOOLONG);
     }
     if !good_bytes(call, start, n) {

@@ -3,8 +3,9 @@ ghost use mathlib.Core.Path.{_≡_};
 ghost use mathlib.Core.Bool.{_&&_, not};
 ghost use Prim.Native.Nat.{_+_, _<_, _≤_};
 ghost use lib.ListN.{length};
+ghost use Rattle.kinds.specs.Layout.{nameRecordLength};
 ghost use Rattle.spec.specs.Count.{lowest};
-ghost use Rattle.spec.specs.Image.{nameRecordLength, names, nameStart, nameAt};
+ghost use Rattle.spec.specs.Image.{names, nameStart, nameAt};
 ghost use Rattle.spec.specs.Room.{isUsedName, isNaming, isIn, isNamed, isDirectory, availableName, freeNameCount, findName, subdirectories, parent};
 ghost use Rattle.image.specs.Shaped.{Shaped, SoundNames};
 ghost use Rattle.image.specs.Text.{textOf};
@@ -18,6 +19,7 @@ use image::name::name_child;
 use image::name::name_directory;
 use image::object::is_directory;
 use kinds::call::Part;
+use kinds::layout::NameRecord;
 use kinds::numbers::Limit;
 use kinds::numbers::NameNumber;
 use kinds::numbers::ObjectNumber;
@@ -130,17 +132,17 @@ fn is_named(
     let from = name.start;
     let len = name.length;
     let last = len - 1;
-    if store[at + 12 + last] != call[from + last] {
+    if store[at + NameRecord::TEXT + last] != call[from + last] {
         return false;
     }
-    let stated = wire::get_u32(store, at + 8) as usize;
+    let stated = wire::get_u32(store, at + NameRecord::LENGTH) as usize;
     if stated != len {
         return false;
     }
     if wire::get_u32(store, at) as usize != directory.0 {
         return false;
     }
-    wire::same_bytes(store, at + 12, call, from, len)
+    wire::same_bytes(store, at + NameRecord::TEXT, call, from, len)
 }
 
 // The record of a name in a directory.
@@ -154,7 +156,7 @@ pub fn find_name(store: &[u8], directory: ObjectNumber, call: &[u8], name: Part)
     if len == 0 {
         return FoundName::Nothing;
     }
-    if len > Limit::NAME {
+    if len > Limit::MOST_NAME_BYTES {
         return FoundName::Nothing;
     }
     let total = name_count(store);
@@ -164,7 +166,7 @@ pub fn find_name(store: &[u8], directory: ObjectNumber, call: &[u8], name: Part)
         if is_named(store, NameNumber(i), at, directory, call, name) {
             return FoundName::At(NameNumber(i));
         }
-        at += Limit::NAME_BYTES;
+        at += NameRecord::BYTES;
         i += 1;
     }
     FoundName::Nothing
@@ -178,10 +180,10 @@ fn is_subdirectory(store: &[u8], n: NameNumber, at: usize, directory: ObjectNumb
     requires { ⌜ at ≡ nameStart (now store) (n .0) ⌝ }
     ensures { λ r. ⌜ r ≡ isIn (now (store .entry)) (directory .0) (n .0) && isDirectory (now (store .entry)) (nameAt (now (store .entry)) (n .0) .child) ⌝ }
 {
-    if wire::get_u32(store, at + 8) == 0 {
+    if wire::get_u32(store, at + NameRecord::LENGTH) == 0 {
         return false;
     }
-    let child = ObjectNumber(wire::get_u32(store, at + 4) as usize);
+    let child = ObjectNumber(wire::get_u32(store, at + NameRecord::CHILD) as usize);
     if !is_directory(store, child) {
         return false;
     }
@@ -200,7 +202,7 @@ pub fn subdirectory_count(store: &[u8], directory: ObjectNumber) -> usize
     let mut i = 0;
     while i < total {
         found += one_if(is_subdirectory(store, NameNumber(i), at, directory));
-        at += Limit::NAME_BYTES;
+        at += NameRecord::BYTES;
         i += 1;
     }
     found

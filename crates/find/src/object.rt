@@ -2,7 +2,8 @@
 ghost use mathlib.Core.Path.{_≡_};
 ghost use Prim.Native.Nat.{_+_, _≤_};
 ghost use lib.ListN.{length};
-ghost use Rattle.spec.specs.Image.{objectLength, objectStart};
+ghost use Rattle.kinds.specs.Layout.{objectLength};
+ghost use Rattle.spec.specs.Image.{objectStart};
 ghost use Rattle.spec.specs.Room.{isAvailable, availableObject, availableCount};
 ghost use Rattle.image.specs.Shaped.{Shaped};
 ghost use Rattle.find.specs.Found.{foundObject};
@@ -22,7 +23,7 @@ pub fn is_available(store: &[u8], o: ObjectNumber) -> bool
     if kind_of(store, o) != Kind::FREE {
         return false;
     }
-    generation_of(store, o) < Limit::GENERATION
+    generation_of(store, o) < Limit::SPENT_GENERATION
 }
 
 // The lowest-numbered available object.

@@ -8,10 +8,11 @@ use lib.Dec.{eqb, leb, ltb}
 use lib.ListN.{length, take, drop, replicate, length-append, length-replicate}
 use lib.Seq.{take-append-add, drop-append-add, drop-length}
 use borrow.Author.Tests.{eqb-true, leb-true, ltb-true}
+use Rattle.kinds.specs.Layout.{objectsHead, namesHead, objectLength, nameRecordLength}
 use Rattle.kinds.specs.Objects.{rootObject}
 use Rattle.kinds.specs.declared.object.Time.{Time}
 use Rattle.spec.specs.Bytes.{overlay, zeros, bytesOf, words}
-use Rattle.spec.specs.Image.{Store, objectBytes, putObject}
+use Rattle.spec.specs.Image.{Store, objectBytes, putObject, objectStart}
 use Rattle.spec.specs.Check.{goodCounts, imageLength, goodTime, passes}
 use Rattle.spec.specs.Serve.{formatted, Formatted, format}
 use Rattle.laws.proofs.Bytes.{bytes-length, overlay-more}
@@ -60,7 +61,7 @@ whole : (s xs : List ℕ) → length xs ≡ length s → overlay s 0 xs ≡ xs
 unfolding overlay
 whole s xs e = ap (λ (q : ℕ). xs ++ drop q s) (zero-more (length xs) ∙ e) ∙ ap (λ (z : List ℕ). xs ++ z) (drop-length s) ∙ append-nil xs
 
-long-all : (xs : List ℕ) (k n : ℕ) → length xs ≡ 92 → 92 + k ≡ n → length (xs ++ zeros k) ≡ n
+long-all : (xs : List ℕ) (k n : ℕ) → length xs ≡ objectStart 1 → objectStart 1 + k ≡ n → length (xs ++ zeros k) ≡ n
 long-all xs k n e f = length-append xs (zeros k) ∙ ap₂ (λ (i j : ℕ). i + j) e (length-replicate k 0) ∙ f
 
 words-three : (a b c : ℕ) → words (a ∷ b ∷ c ∷ []) ≡ bytesOf 4 a ++ bytesOf 4 b ++ bytesOf 4 c
@@ -68,47 +69,47 @@ unfolding words
 words-three a b c = simp (append-assoc, append-nil)
 
 -- the writes of a whole store, with z zero bytes between the root and the count of names
-module _ (s s₅ s₆ s₇ : List ℕ) (stamp p q r z : ℕ) (clock : Time) (m : z + 80 ≡ 80 * p) (l : length s ≡ imageLength p q r) where
+module _ (s s₅ s₆ s₇ : List ℕ) (stamp p q r z : ℕ) (clock : Time) (m : z + objectLength ≡ objectLength * p) (l : length s ≡ imageLength p q r) where
   three-length : length (bytesOf 4 1 ++ bytesOf 4 stamp ++ bytesOf 4 p) ≡ 12
   three-length = simp (length-append, bytes-length)
 
-  run-front : s₅ ≡ frontOf s stamp p clock → s₅ ≡ bytesOf 4 1 ++ bytesOf 4 stamp ++ bytesOf 4 p ++ objectBytes (rootObject clock) ++ zeros (z + 4 + (44 * q + 4 + 512 * r))
+  run-front : s₅ ≡ frontOf s stamp p clock → s₅ ≡ bytesOf 4 1 ++ bytesOf 4 stamp ++ bytesOf 4 p ++ objectBytes (rootObject clock) ++ zeros (z + 4 + (nameRecordLength * q + 4 + 512 * r))
   unfolding putObject frontOf
   run-front e =
       let v = objectBytes (rootObject clock) in
       let b₁ = bytesOf 4 1 in
       let b₂ = bytesOf 4 stamp in
       let b₃ = bytesOf 4 p in
-      let k = z + 4 + (44 * q + 4 + 512 * r) in
+      let k = z + 4 + (nameRecordLength * q + 4 + 512 * r) in
       let s₁ = overlay s 0 b₁ in
       let s₂ = overlay s₁ 4 b₂ in
       let s₃ = overlay s₂ 8 b₃ in
       let s₄ = overlay s₃ 12 v in
       let l₂ : length (b₁ ++ b₂) ≡ 8 = simp (length-append, bytes-length) in
-      let l₄ : length (b₁ ++ b₂ ++ b₃ ++ v) ≡ 92 = simp (length-append, bytes-length, object-length) in
+      let l₄ : length (b₁ ++ b₂ ++ b₃ ++ v) ≡ objectStart 1 = simp (length-append, bytes-length, object-length) in
       let f₂ = overlay-more s 0 b₁ b₂ s₁ s₂ 4 (omega arith) (bytes-length 4 1) refl refl in
       let f₃ = overlay-more s 0 (b₁ ++ b₂) b₃ s₂ s₃ 8 (omega arith) l₂ f₂ refl in
       let f₄ = overlay-more s 0 (b₁ ++ b₂ ++ b₃) v s₃ s₄ 12 (omega arith) three-length f₃ refl in
-      let w : length s - 92 ≡ k = omega arith in
-      let f₅ = overlay-more s 0 (b₁ ++ b₂ ++ b₃ ++ v) (zeros k) s₄ s₅ 92 (omega arith) l₄ f₄ (e ∙ ap (λ (n : ℕ). overlay s₄ 92 (zeros n)) w) in
+      let w : length s - objectStart 1 ≡ k = omega arith in
+      let f₅ = overlay-more s 0 (b₁ ++ b₂ ++ b₃ ++ v) (zeros k) s₄ s₅ (objectStart 1) (omega arith) l₄ f₄ (e ∙ ap (λ (n : ℕ). overlay s₄ (objectStart 1) (zeros n)) w) in
       f₅ ∙ whole s (b₁ ++ b₂ ++ b₃ ++ v ++ zeros k) (long-all (b₁ ++ b₂ ++ b₃ ++ v) k (length s) l₄ (omega arith))
 
-  run-counts : (at bt : ℕ) → s₅ ≡ frontOf s stamp p clock → at ≡ 12 + 80 * p → bt ≡ 16 + 80 * p + 44 * q → s₆ ≡ overlay s₅ at (bytesOf 4 q)
+  run-counts : (at bt : ℕ) → s₅ ≡ frontOf s stamp p clock → at ≡ objectsHead + objectLength * p → bt ≡ namesHead + objectLength * p + nameRecordLength * q → s₆ ≡ overlay s₅ at (bytesOf 4 q)
       → s₇ ≡ overlay s₆ bt (bytesOf 4 r)
-      → s₇ ≡ bytesOf 4 1 ++ bytesOf 4 stamp ++ bytesOf 4 p ++ objectBytes (rootObject clock) ++ zeros z ++ bytesOf 4 q ++ zeros (44 * q) ++ bytesOf 4 r ++ zeros (512 * r)
+      → s₇ ≡ bytesOf 4 1 ++ bytesOf 4 stamp ++ bytesOf 4 p ++ objectBytes (rootObject clock) ++ zeros z ++ bytesOf 4 q ++ zeros (nameRecordLength * q) ++ bytesOf 4 r ++ zeros (512 * r)
   run-counts at bt e u w e₆ e₇ =
       let xs = bytesOf 4 1 ++ bytesOf 4 stamp ++ bytesOf 4 p ++ objectBytes (rootObject clock) in
-      let l₅ : length xs ≡ 92 = simp (length-append, bytes-length, object-length) in
-      let f₆ = step s₅ s₆ xs (bytesOf 4 q) (z + 4 + (44 * q + 4 + 512 * r)) z 4 (44 * q + 4 + 512 * r) at (run-front e) e₆ refl (omega arith) (bytes-length 4 q) in
+      let l₅ : length xs ≡ objectStart 1 = simp (length-append, bytes-length, object-length) in
+      let f₆ = step s₅ s₆ xs (bytesOf 4 q) (z + 4 + (nameRecordLength * q + 4 + 512 * r)) z 4 (nameRecordLength * q + 4 + 512 * r) at (run-front e) e₆ refl (omega arith) (bytes-length 4 q) in
       let ys = xs ++ zeros z ++ bytesOf 4 q in
       let l₆ : length ys ≡ 96 + z = simp (length-append, bytes-length, object-length, length-replicate) (omega arith) in
-      step s₆ s₇ ys (bytesOf 4 r) (44 * q + 4 + 512 * r) (44 * q) 4 (512 * r) bt f₆ e₇ refl (omega arith) (bytes-length 4 r)
+      step s₆ s₇ ys (bytesOf 4 r) (nameRecordLength * q + 4 + 512 * r) (nameRecordLength * q) 4 (512 * r) bt f₆ e₇ refl (omega arith) (bytes-length 4 r)
 
 pub format-run : (s s₅ s₆ s₇ : List ℕ) (stamp p q r at bt : ℕ) (clock : Time) → 1 ≤ p → length s ≡ imageLength p q r → s₅ ≡ frontOf s stamp p clock
-    → at ≡ 12 + 80 * p → bt ≡ 16 + 80 * p + 44 * q → s₆ ≡ overlay s₅ at (bytesOf 4 q) → s₇ ≡ overlay s₆ bt (bytesOf 4 r) → s₇ ≡ formatted stamp p q r clock
+    → at ≡ objectsHead + objectLength * p → bt ≡ namesHead + objectLength * p + nameRecordLength * q → s₆ ≡ overlay s₅ at (bytesOf 4 q) → s₇ ≡ overlay s₆ bt (bytesOf 4 r) → s₇ ≡ formatted stamp p q r clock
 unfolding formatted
 format-run s s₅ s₆ s₇ stamp p q r at bt clock h l e u w e₆ e₇ =
-    run-counts s s₅ s₆ s₇ stamp p q r (80 * (p - 1)) clock (omega arith) l at bt e u w e₆ e₇ ∙ rw (words-three, words-one, words-one)
+    run-counts s s₅ s₆ s₇ stamp p q r (objectLength * (p - 1)) clock (omega arith) l at bt e u w e₆ e₇ ∙ rw (words-three, words-one, words-one)
 
 -- ---- what format is asked for where it answers 0
 pub record Asked (s : Store) (p q r : ℕ) (clock : Time) : Type 0 where

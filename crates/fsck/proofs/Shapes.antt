@@ -6,6 +6,7 @@ use native.Mathlib.Omega.{arith}
 use lib.Dec.{eqb, leb}
 use lib.ListN.{length}
 use borrow.Author.Tests.{eqb-true, leb-true, eq-eqb, le-leb}
+use Rattle.kinds.specs.Layout.{objectsHead, namesHead, objectLength, nameRecordLength}
 use Rattle.spec.specs.Bytes.{beAt}
 use Rattle.spec.specs.Image.{Store, volumes, objects, names, blocks}
 use Rattle.spec.specs.Check.{goodCounts, imageLength, goodShape}
@@ -62,10 +63,10 @@ pub objects-are : (s : Store) → objects s ≡ beAt s 8 4
 unfolding objects
 objects-are s = refl
 
-pub names-are : (s : Store) (p : ℕ) → p ≡ objects s → beAt s (12 + 80 * p) 4 ≡ names s
+pub names-are : (s : Store) (p : ℕ) → p ≡ objects s → beAt s (objectsHead + objectLength * p) 4 ≡ names s
 unfolding names
 names-are s p e = rw e
 
-pub blocks-are : (s : Store) (p q at : ℕ) → p ≡ objects s → q ≡ names s → at ≡ 16 + 80 * p + 44 * q → beAt s at 4 ≡ blocks s
+pub blocks-are : (s : Store) (p q at : ℕ) → p ≡ objects s → q ≡ names s → at ≡ namesHead + objectLength * p + nameRecordLength * q → beAt s at 4 ≡ blocks s
 unfolding blocks
 blocks-are s p q at e f g = rw (g, e, f)

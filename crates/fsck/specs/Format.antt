@@ -5,10 +5,11 @@ use mathlib.Core.Bool.{cond}
 use mathlib.Core.List.{List}
 use lib.Dec.{eqb, ltb}
 use lib.ListN.{length}
+use Rattle.kinds.specs.Layout.{stampOffset, objectCountOffset}
 use Rattle.kinds.specs.Objects.{rootObject}
 use Rattle.kinds.specs.declared.object.Time.{Time}
 use Rattle.spec.specs.Bytes.{overlay, zeros, bytesOf}
-use Rattle.spec.specs.Image.{Store, putObject}
+use Rattle.spec.specs.Image.{Store, putObject, objectStart}
 use Rattle.spec.specs.Check.{goodCounts, imageLength}
 use Rattle.spec.specs.Serve.{Formatted}
 
@@ -19,7 +20,7 @@ answerFor length p q r nanoseconds = cond (ltb nanoseconds 1000000000) (cond (go
 -- the volume, the number of objects and the root, and all else zero
 unfoldable pub frontOf : Store → ℕ → ℕ → Time → Store
 frontOf s stamp p clock =
-    overlay (putObject (overlay (overlay (overlay s 0 (bytesOf 4 1)) 4 (bytesOf 4 stamp)) 8 (bytesOf 4 p)) 0 (rootObject clock)) 92 (zeros (length s - 92))
+    overlay (putObject (overlay (overlay (overlay s 0 (bytesOf 4 1)) stampOffset (bytesOf 4 stamp)) objectCountOffset (bytesOf 4 p)) 0 (rootObject clock)) (objectStart 1) (zeros (length s - objectStart 1))
 
 -- a number and a buffer are what format gives
 pub record Leaves (f : Formatted) (number : ℕ) (store : List ℕ) : Type 0 where

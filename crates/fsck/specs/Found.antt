@@ -3,6 +3,7 @@ use Prim.Native.Nat.{ℕ, _+_, _*_, _≤_}
 use mathlib.Core.Path.{_≡_}
 use mathlib.Core.Bool.{Bool, true, false, cond}
 use lib.ListN.{length}
+use Rattle.kinds.specs.Layout.{blocksHead, objectLength}
 use Rattle.spec.specs.Image.{Store, volumes, objects, names, blocks}
 use Rattle.spec.specs.Check.{goodShape}
 use Rattle.fsck.specs.declared.shape.Counts.{Counts}
@@ -27,4 +28,4 @@ pub record First (s : Store) (p : ℕ) : Type 0 where
   pub count : p ≡ objects s
   pub least : 1 ≤ p
   pub most : p ≤ 64
-  pub long : 20 + 80 * p ≤ length s
+  pub long : blocksHead + objectLength * p ≤ length s

@@ -1,6 +1,10 @@
 // The counts of a store, and its length.
 ghost use mathlib.Core.Path.{_≡_};
 ghost use Rattle.fsck.specs.Found.{shapeOf, First};
+use kinds::layout::Block;
+use kinds::layout::Image;
+use kinds::layout::NameRecord;
+use kinds::layout::ObjectRecord;
 use kinds::numbers::Limit;
 
 // How many objects, name records and blocks a store has.
@@ -27,14 +31,14 @@ pub fn shape(store: &[u8]) -> Found
     if wire::get_u32(store, 0) != 1 {
         return Found::Bad;
     }
-    let objects = wire::get_u32(store, 8) as usize;
+    let objects = wire::get_u32(store, Image::OBJECT_COUNT) as usize;
     if objects < 1 {
         return Found::Bad;
     }
-    if objects > Limit::OBJECTS {
+    if objects > Limit::MOST_OBJECTS {
         return Found::Bad;
     }
-    if length < 20 + Limit::OBJECT_BYTES * objects {
+    if length < Image::BLOCKS_HEAD + ObjectRecord::BYTES * objects {
         return Found::Bad;
     }
     rest_of_shape(store, objects)
@@ -46,19 +50,19 @@ fn rest_of_shape(store: &[u8], objects: usize) -> Found
     ensures { λ r. ⌜ r ≡ shapeOf (now (store .entry)) ⌝ }
 {
     let length = store.len();
-    let names = wire::get_u32(store, 12 + Limit::OBJECT_BYTES * objects) as usize;
-    if names > Limit::NAMES {
+    let names = wire::get_u32(store, Image::OBJECTS_HEAD + ObjectRecord::BYTES * objects) as usize;
+    if names > Limit::MOST_NAME_RECORDS {
         return Found::Bad;
     }
-    let start = 20 + Limit::OBJECT_BYTES * objects + Limit::NAME_BYTES * names;
+    let start = Image::BLOCKS_HEAD + ObjectRecord::BYTES * objects + NameRecord::BYTES * names;
     if length < start {
         return Found::Bad;
     }
     let blocks = wire::get_u32(store, start - 4) as usize;
-    if blocks > Limit::BLOCKS {
+    if blocks > Limit::MOST_BLOCKS {
         return Found::Bad;
     }
-    if length != start + Limit::BLOCK_BYTES * blocks {
+    if length != start + Block::BYTES * blocks {
         return Found::Bad;
     }
     Found::Good(Counts {

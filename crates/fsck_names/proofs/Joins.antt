@@ -7,6 +7,7 @@ use native.Mathlib.Omega.{arith}
 use lib.Dec.{ltb, leb}
 use lib.ListN.{length}
 use borrow.Author.Tests.{ltb-true, leb-true, eq-eqb, ne-eqb}
+use Rattle.kinds.specs.Layout.{namesHead, objectLength, nameRecordLength}
 use Rattle.spec.specs.Bytes.{part, beAt}
 use Rattle.spec.specs.Image.{Store, objects, names, nameStart, nameFrom, nameAt, nameLength}
 use Rattle.spec.specs.Names.{goodBytes, isDots, goodName}
@@ -20,7 +21,7 @@ use Rattle.fsck_objects.specs.Told.{Shaped}
 use Rattle.fsck_names.specs.Record.{isDirectoryIn, isLiveIn}
 
 -- the demands on a used record, by its bytes
-pub used-is : (s : Store) (p n len at : ℕ) → p ≡ objects s → len ≡ nameLength s n → at ≡ 16 + 80 * p + 44 * n
+pub used-is : (s : Store) (p n len at : ℕ) → p ≡ objects s → len ≡ nameLength s n → at ≡ namesHead + objectLength * p + nameRecordLength * n
     → goodUsed s n
     ≡ goodName (part s (at + 12) len) && isZero (part s (at + 12 + len) (32 - len)) && isDirectoryIn s (beAt s at 4) && isLiveIn s (beAt s (at + 4) 4)
 unfolding goodUsed nameAt nameFrom nameLength isDirectoryIn isLiveIn
@@ -82,6 +83,6 @@ unfolding isUsedName
 used-no s n h = rw (eq-eqb (nameLength s n) 0 h)
 
 -- where the length of a record stands
-pub length-at : (s : Store) (p n at : ℕ) → p ≡ objects s → at ≡ 16 + 80 * p + 44 * n → nameLength s n ≡ beAt s (at + 8) 4
+pub length-at : (s : Store) (p n at : ℕ) → p ≡ objects s → at ≡ namesHead + objectLength * p + nameRecordLength * n → nameLength s n ≡ beAt s (at + 8) 4
 unfolding nameLength
 length-at s p n at e f = rw (f, e)

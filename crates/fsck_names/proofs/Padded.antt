@@ -9,6 +9,7 @@ use native.Mathlib.Omega.{arith}
 use lib.Dec.{eqb, ltb}
 use lib.ListN.{length, getD}
 use borrow.Author.Tests.{lt-ltb, le-ltb, eq-eqb, ne-eqb, eqb-true}
+use Rattle.kinds.specs.Layout.{nameRecordLength}
 use Rattle.spec.specs.Bytes.{part, beOf, bytesOf, beAt, sameBytes, allBytes}
 use Rattle.spec.specs.Count.{every}
 use Rattle.spec.specs.Image.{Store}
@@ -136,7 +137,7 @@ number-zero s at w =
     by-bool (isZero (part s at w)) (λ e. e ∙ sym (eq-eqb (beAt s at w) 0 (zero-be s at w e)))
     (λ e. e ∙ sym (ne-eqb (beAt s at w) 0 (λ q. true-false (sym (be-zero s at w q) ∙ e))))
 
-pub free-is : (s : Store) (at : ℕ) → beAt s (at + 8) 4 ≡ 0 → isZero (part s at 44) ≡ eqb (beAt s at 8) 0 && isZero (part s (at + 12) 32)
+pub free-is : (s : Store) (at : ℕ) → beAt s (at + 8) 4 ≡ 0 → isZero (part s at nameRecordLength) ≡ eqb (beAt s at 8) 0 && isZero (part s (at + 12) 32)
 free-is s at e =
     let b : at + 8 + 4 ≡ at + 12 = omega arith in
     let z = number-zero s (at + 8) 4 ∙ eq-eqb (beAt s (at + 8) 4) 0 e in

@@ -8,6 +8,7 @@ use native.Mathlib.Omega.{arith}
 use lib.Dec.{eqb, lit≤}
 use lib.ListN.{length, getD, replicate, drop}
 use borrow.Author.Tests.{eqb-true, eq-eqb}
+use Rattle.kinds.specs.Layout.{namesHead, objectLength, nameRecordLength}
 use Rattle.spec.specs.Bytes.{part, digits, beOf, sameBytes, allBytes}
 use Rattle.spec.specs.Image.{Store, objects, names, nameStart, nameFrom, nameAt, nameLength}
 use Rattle.spec.specs.Room.{isUsedName, isIn, isNamed}
@@ -127,7 +128,7 @@ module _ (s : Store) (t : Shaped s) where
         (λ f. f ∙ sym e))
 
     -- as the code finds it
-    pub same-found : (p a b x y : ℕ) (t : Bool) → p ≡ objects s → a ≡ 16 + 80 * p + 44 * m → b ≡ 16 + 80 * p + 44 * n
+    pub same-found : (p a b x y : ℕ) (t : Bool) → p ≡ objects s → a ≡ namesHead + objectLength * p + nameRecordLength * m → b ≡ namesHead + objectLength * p + nameRecordLength * n
         → x ≡ nameAt s m .directory → y ≡ nameAt s n .directory → t ≡ sameBytes (part s (a + 12) 32) (part s (b + 12) 32) → isUsedName s m ≡ true
         → eqb x y && t ≡ isSame s n m
     same-found p a b x y t ep ea eb ex ey et u = rw (et, ex, ey, ea, eb, ep) (same-is u)
@@ -142,7 +143,7 @@ word-low b at h =
     rw (part-cons b at 7 (omega arith), part-cons b (suc at) 6 (omega arith), part-cons b (suc (suc at)) 5 (omega arith), part-cons b (suc (suc (suc at))) 4 (omega arith), part-cons b (suc (suc (suc (suc at)))) 3 (omega arith), part-cons b (suc (suc (suc (suc (suc at))))) 2 (omega arith), part-cons b (suc (suc (suc (suc (suc (suc at)))))) 1 (omega arith), part-cons b (suc (suc (suc (suc (suc (suc (suc at))))))) 0 (omega arith))
     (simp towards-suc (omega arith))
 
-pub hash-by : (s : Store) (p n at d a b e f u v w x : ℕ) → p ≡ objects s → at ≡ 16 + 80 * p + 44 * n → d ≡ nameAt s n .directory → a ≡ wordAt s (at + 12)
+pub hash-by : (s : Store) (p n at d a b e f u v w x : ℕ) → p ≡ objects s → at ≡ namesHead + objectLength * p + nameRecordLength * n → d ≡ nameAt s n .directory → a ≡ wordAt s (at + 12)
     → b ≡ wordAt s (at + 20) → e ≡ wordAt s (at + 28) → f ≡ wordAt s (at + 36) → u ≡ joined d a → v ≡ joined u b → w ≡ joined v e
     → x ≡ joined w f → (x / 2 ^ 32 * 2104504639 + x % 2 ^ 32 * 1511612125) / 2 ^ 27 % 256 ≡ hash s n
 unfolding hash mix

@@ -2,6 +2,7 @@
 ghost use mathlib.Core.Path.{_≡_};
 ghost use Prim.Native.Nat.{_+_, _*_, _≤_, _<_};
 ghost use lib.ListN.{length};
+ghost use Rattle.kinds.specs.Layout.{namesHead, objectLength, nameRecordLength};
 ghost use Rattle.spec.specs.Image.{objects, names, nameAt, nameLength};
 ghost use Rattle.spec.specs.Room.{isDirectory, isLive};
 ghost use Rattle.spec.specs.Bytes.{part, beAt};
@@ -12,6 +13,9 @@ ghost use Rattle.fsck_names.specs.Record.{isDirectoryIn, isLiveIn};
 use crate::text::good_text;
 use fsck_objects::object::kind_of;
 use fsck_objects::zero::is_zero;
+use kinds::layout::Image;
+use kinds::layout::NameRecord;
+use kinds::layout::ObjectRecord;
 use kinds::numbers::Kind;
 use kinds::numbers::Limit;
 
@@ -19,9 +23,9 @@ use kinds::numbers::Limit;
 pub fn name_start(p: usize, n: usize) -> usize
     requires { ⌜ p ≤ 64 ⌝ }
     requires { ⌜ n ≤ 128 ⌝ }
-    ensures { λ r. ⌜ r ≡ 16 + 80 * p + 44 * n ⌝ }
+    ensures { λ r. ⌜ r ≡ namesHead + objectLength * p + nameRecordLength * n ⌝ }
 {
-    16 + Limit::OBJECT_BYTES * p + Limit::NAME_BYTES * n
+    Image::NAMES_HEAD + ObjectRecord::BYTES * p + NameRecord::BYTES * n
 }
 
 // Whether o is the number of a directory.
@@ -53,16 +57,20 @@ fn good_used(store: &[u8], inside: &[u8; 64], p: usize, n: usize, len: usize) ->
     ensures { λ r. ⌜ r ≡ goodUsed (now (store .entry)) n ⌝ }
 {
     let at = name_start(p, n);
-    if len > Limit::NAME {
+    if len > Limit::MOST_NAME_BYTES {
         return false;
     }
-    if !good_text(store, inside, at + 12, len) {
+    if !good_text(store, inside, at + NameRecord::TEXT, len) {
         return false;
     }
     if !is_directory(store, p, wire::get_u32(store, at) as usize) {
         return false;
     }
-    is_live(store, p, wire::get_u32(store, at + 4) as usize)
+    is_live(
+        store,
+        p,
+        wire::get_u32(store, at + NameRecord::CHILD) as usize,
+    )
 }
 
 // The length that name record n states; 0 where it is free.
@@ -72,7 +80,7 @@ pub fn length_of(store: &[u8], p: usize, n: usize) -> usize
     requires { ⌜ n < names (now store) ⌝ }
     ensures { λ r. ⌜ r ≡ nameLength (now (store .entry)) n ⌝ }
 {
-    wire::get_u32(store, name_start(p, n) + 8) as usize
+    wire::get_u32(store, name_start(p, n) + NameRecord::LENGTH) as usize
 }
 
 // The directory of name record n.
@@ -92,19 +100,19 @@ pub fn child_of(store: &[u8], p: usize, n: usize) -> usize
     requires { ⌜ n < names (now store) ⌝ }
     ensures { λ r. ⌜ r ≡ nameAt (now (store .entry)) n .child ⌝ }
 {
-    wire::get_u32(store, name_start(p, n) + 4) as usize
+    wire::get_u32(store, name_start(p, n) + NameRecord::CHILD) as usize
 }
 
 // Whether the name record from `at`, whose length is 0, is zero.
 fn is_free(store: &[u8], at: usize) -> bool
-    requires { ⌜ at + 44 ≤ length (now store) ⌝ }
+    requires { ⌜ at + nameRecordLength ≤ length (now store) ⌝ }
     requires { ⌜ beAt (now store) (at + 8) 4 ≡ 0 ⌝ }
-    ensures { λ r. ⌜ r ≡ isZero (part (now (store .entry)) at 44) ⌝ }
+    ensures { λ r. ⌜ r ≡ isZero (part (now (store .entry)) at nameRecordLength) ⌝ }
 {
     if wire::get_u64(store, at) != 0 {
         return false;
     }
-    is_zero(store, at + 12, Limit::NAME)
+    is_zero(store, at + NameRecord::TEXT, Limit::MOST_NAME_BYTES)
 }
 
 // Whether name record n, which states the length `len`, passes by itself.

@@ -12,8 +12,9 @@ use lib.Dec.{eqb, ltb}
 use lib.ListN.{length, take, getD, set, length-set}
 use lib.Seq.{take-suc, getD-set-same, getD-set-other}
 use borrow.Author.Tests.{ltb-true, ltb-false, lt-ltb, le-ltb, eq-eqb, ne-eqb, eqb-true}
+use Rattle.kinds.specs.Layout.{objectLength}
 use Rattle.spec.specs.Count.{bit, sum, every, times}
-use Rattle.spec.specs.Image.{Store, objectLength, blocks, objectStart, objectFrom, objectAt}
+use Rattle.spec.specs.Image.{Store, blocks, objectStart, objectFrom, objectAt}
 use Rattle.spec.specs.Room.{need, sizeOf, held}
 use Rattle.spec.specs.Check.{goodBlock, goodFree, goodLive, goodObject, passes}
 use Rattle.laws.proofs.Bytes.{lt-or-le, be-2}
@@ -232,7 +233,7 @@ same-tests true u f g = sym (f refl)
 same-tests false true f g = g refl
 same-tests false false f g = refl
 
-module _ (s : Store) (o count : ℕ) (fits : objectStart o + 80 ≤ length s) (bytes : (i : ℕ) → getD s i 0 < 256) (most : count ≤ 16)
+module _ (s : Store) (o count : ℕ) (fits : objectStart o + objectLength ≤ length s) (bytes : (i : ℕ) → getD s i 0 < 256) (most : count ≤ 16)
     (needs : count ≡ need (objectAt s o .size)) where
   -- block number k is its two bytes
   number : (k : ℕ) → k < 16 → getD (objectAt s o .blocks) k 0 ≡ getD s (objectStart o + 48 + 2 * k) 0 * 256 + getD s (objectStart o + 48 + 2 * k + 1) 0

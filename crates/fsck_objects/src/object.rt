@@ -2,6 +2,7 @@
 ghost use mathlib.Core.Path.{_≡_};
 ghost use mathlib.Core.Bool.{true, _&&_};
 ghost use Prim.Native.Nat.{_+_, _*_, _/_, _≤_, _<_};
+ghost use Rattle.kinds.specs.Layout.{objectLength};
 ghost use Rattle.fsck_objects.specs.Objects.{goodFields, goodSizeOf, isUnused, LiveAt, MarkedBy, MarkedTo, ObjectPasses, Counted, Inside};
 ghost use lib.Dec.{ltb};
 ghost use lib.ListN.{length, getD};
@@ -11,6 +12,9 @@ ghost use Rattle.spec.specs.Check.{goodTime, goodBlock};
 ghost use Rattle.spec.specs.Room.{need};
 ghost use Rattle.fsck_objects.specs.Told.{Shaped, Told};
 use crate::zero::is_zero;
+use kinds::layout::Image;
+use kinds::layout::ObjectRecord;
+use kinds::layout::TimeField;
 use kinds::numbers::Kind;
 use kinds::numbers::Limit;
 
@@ -22,18 +26,21 @@ pub enum Uses {
 
 // The type of an object.
 pub fn kind_of(store: &[u8], o: usize) -> u32
-    requires { ⌜ objectStart o + 80 ≤ length (now store) ⌝ }
+    requires { ⌜ objectStart o + objectLength ≤ length (now store) ⌝ }
     ensures { λ r. ⌜ r ≡ objectAt (now (store .entry)) o .kind ⌝ }
 {
-    wire::get_u32(store, 12 + Limit::OBJECT_BYTES * o)
+    wire::get_u32(store, Image::OBJECTS_HEAD + ObjectRecord::BYTES * o)
 }
 
 // The size of an object.
 fn size_of(store: &[u8], o: usize) -> u32
-    requires { ⌜ objectStart o + 80 ≤ length (now store) ⌝ }
+    requires { ⌜ objectStart o + objectLength ≤ length (now store) ⌝ }
     ensures { λ r. ⌜ r ≡ objectAt (now (store .entry)) o .size ⌝ }
 {
-    wire::get_u32(store, 12 + Limit::OBJECT_BYTES * o + 20)
+    wire::get_u32(
+        store,
+        Image::OBJECTS_HEAD + ObjectRecord::BYTES * o + ObjectRecord::SIZE,
+    )
 }
 
 // Whether four numbers are below a limit.
@@ -57,38 +64,42 @@ fn good_size(kind: u32, size: u32) -> bool
     ensures { λ r. ⌜ r ≡ goodSizeOf kind size ⌝ }
 {
     if kind == Kind::REGULAR {
-        return size as u64 <= Limit::FILE;
+        return size as u64 <= Limit::MOST_FILE_BYTES;
     }
     kind == Kind::DIRECTORY && size == 0
 }
 
 // Whether the times of an object are good.
 fn good_times(store: &[u8], o: usize) -> bool
-    requires { ⌜ objectStart o + 80 ≤ length (now store) ⌝ }
+    requires { ⌜ objectStart o + objectLength ≤ length (now store) ⌝ }
     ensures { λ r. ⌜ r ≡ goodTime (objectAt (now (store .entry)) o .atime) && goodTime (objectAt (now (store .entry)) o .mtime) && goodTime (objectAt (now (store .entry)) o .ctime) ⌝ }
 {
-    let at = 12 + Limit::OBJECT_BYTES * o;
-    if wire::get_u32(store, at + 24 + 4) >= Limit::NANOSECONDS {
+    let at = Image::OBJECTS_HEAD + ObjectRecord::BYTES * o;
+    if wire::get_u32(store, at + ObjectRecord::ATIME + TimeField::NANOSECONDS)
+        >= Limit::NANOSECONDS_END
+    {
         return false;
     }
-    if wire::get_u32(store, at + 32 + 4) >= Limit::NANOSECONDS {
+    if wire::get_u32(store, at + ObjectRecord::MTIME + TimeField::NANOSECONDS)
+        >= Limit::NANOSECONDS_END
+    {
         return false;
     }
-    wire::get_u32(store, at + 40 + 4) < Limit::NANOSECONDS
+    wire::get_u32(store, at + ObjectRecord::CTIME + TimeField::NANOSECONDS) < Limit::NANOSECONDS_END
 }
 
 // Whether the numbers and times of a live object, of that type and size, are good.
 fn good_fields(store: &[u8], o: usize, kind: u32, size: u32) -> bool
-    requires { ⌜ objectStart o + 80 ≤ length (now store) ⌝ }
+    requires { ⌜ objectStart o + objectLength ≤ length (now store) ⌝ }
     requires { ⌜ kind ≡ objectAt (now store) o .kind ⌝ }
     requires { ⌜ size ≡ objectAt (now store) o .size ⌝ }
     ensures { λ r. ⌜ r ≡ goodFields (objectAt (now (store .entry)) o) ⌝ }
 {
-    let at = 12 + Limit::OBJECT_BYTES * o;
-    if wire::get_u32(store, at + 4) >= Limit::GENERATION {
+    let at = Image::OBJECTS_HEAD + ObjectRecord::BYTES * o;
+    if wire::get_u32(store, at + ObjectRecord::GENERATION) >= Limit::SPENT_GENERATION {
         return false;
     }
-    if wire::get_u32(store, at + 8) > Limit::MODE {
+    if wire::get_u32(store, at + ObjectRecord::MODE) > Limit::MOST_MODE {
         return false;
     }
     if !good_times(store, o) {
@@ -99,11 +110,14 @@ fn good_fields(store: &[u8], o: usize, kind: u32, size: u32) -> bool
 
 // Block number k of an object.
 fn block_of(store: &[u8], o: usize, k: usize) -> usize
-    requires { ⌜ objectStart o + 80 ≤ length (now store) ⌝ }
+    requires { ⌜ objectStart o + objectLength ≤ length (now store) ⌝ }
     requires { ⌜ k < 16 ⌝ }
     ensures { λ r. ⌜ r ≡ getD (objectAt (now (store .entry)) o .blocks) k 0 ⌝ }
 {
-    wire::get_u16(store, 12 + Limit::OBJECT_BYTES * o + 48 + 2 * k) as usize
+    wire::get_u16(
+        store,
+        Image::OBJECTS_HEAD + ObjectRecord::BYTES * o + ObjectRecord::BLOCKS + 2 * k,
+    ) as usize
 }
 
 // Marks four blocks of a live object, from block number k on; false where one is out of range. `count` is there for the contract alone.
@@ -193,14 +207,19 @@ fn past_unused(s: &[u8], inside: &[u8; 64], at: usize, n: usize) -> bool
 
 // Whether the block numbers of an object that its size does not need are all 65535.
 fn rest_unused(store: &[u8], inside: &[u8; 64], o: usize, count: usize) -> bool
-    requires { ⌜ objectStart o + 80 ≤ length (now store) ⌝ }
+    requires { ⌜ objectStart o + objectLength ≤ length (now store) ⌝ }
     requires { ⌜ Inside (now inside) ⌝ }
     requires { ⌜ count ≤ 16 ⌝ }
     requires { ⌜ count ≡ need (objectAt (now store) o .size) ⌝ }
     requires { ⌜ every count (goodBlock (blocks (now store)) (objectAt (now store) o)) ≡ true ⌝ }
     ensures { λ r. ⌜ r ≡ every 16 (goodBlock (blocks (now (store .entry))) (objectAt (now (store .entry)) o)) ⌝ }
 {
-    past_unused(store, inside, 12 + Limit::OBJECT_BYTES * o + 48, 2 * count)
+    past_unused(
+        store,
+        inside,
+        Image::OBJECTS_HEAD + ObjectRecord::BYTES * o + ObjectRecord::BLOCKS,
+        2 * count,
+    )
 }
 
 // Whether a live object that has good fields passes; marks its blocks.
@@ -247,8 +266,8 @@ pub fn object_uses(
     if kind == Kind::FREE {
         if !is_zero(
             store,
-            12 + Limit::OBJECT_BYTES * o + 8,
-            Limit::OBJECT_BYTES - 8,
+            Image::OBJECTS_HEAD + ObjectRecord::BYTES * o + ObjectRecord::MODE,
+            ObjectRecord::BYTES - 8,
         ) {
             return Uses::Bad;
         }

@@ -5,6 +5,7 @@ use mathlib.Core.Bool.{true, false, _&&_, _||_}
 use mathlib.Core.Option.{some, none}
 use Prim.Native.Nat.{ℕ, _+_, _≤_, _<_, min}
 use lib.ListN.{length}
+use Rattle.kinds.specs.Numbers.{mostTransferBytes}
 use Rattle.kinds.specs.declared.call.Part.{Part}
 use Rattle.kinds.specs.declared.call.NameIn.{NameIn}
 use Rattle.kinds.specs.declared.call.Settable.{Settable}
@@ -17,7 +18,7 @@ use Rattle.spec.specs.Handles.{reach, reachDirectory}
 use Rattle.spec.specs.Image.{Store, objectAt, nameAt}
 use Rattle.spec.specs.Procedures.{cut}
 use Rattle.spec.specs.Procedures.Attributes.{isGiven, sizeSet, badAttributes, differs}
-use Rattle.spec.specs.Procedures.Data.{mostBytes, reachRegular, grown}
+use Rattle.spec.specs.Procedures.Data.{reachRegular, grown}
 use Rattle.spec.specs.Procedures.Names.{checkNew}
 use Rattle.spec.specs.Room.{isRegular, isDirectory, sizeOf, findName}
 use Rattle.history.specs.Run.{Request}
@@ -33,8 +34,8 @@ pub data AsksStore (s : Store) (x : Request) : Room → Type 0 where
   -- WRITE of some bytes
   byWrite : (h : Part) (offset n : ℕ) (bytes : Part) (o : ℕ) → Asks x (Call.Write h offset n bytes)
       → reachRegular s (cut (x .call) h) ≡ passed o → n ≡ length (cut (x .call) bytes)
-      → 0 < n → offset + min n mostBytes ≤ 8192
-      → AsksStore s x (growth (sizeOf s o) (grown s o offset (min n mostBytes)))
+      → 0 < n → offset + min n mostTransferBytes ≤ 8192
+      → AsksStore s x (growth (sizeOf s o) (grown s o offset (min n mostTransferBytes)))
   -- CREATE of a new file, UNCHECKED or GUARDED
   byCreate : (target : NameIn) (manner : How) (a : Settable) (d : ℕ) → Asks x (Call.Create target manner)
       → (manner ≡ How.Unchecked a) ⊎ (manner ≡ How.Guarded a)

@@ -8,6 +8,7 @@ use mathlib.Core.List.{List, [], _∷_, List·Memᴰ, List·Memᴰ·cases-cons, 
 use Prim.Native.Nat.{ℕ, _+_, _<_, min, max}
 use native.Mathlib.Omega.{arith}
 use lib.Dec.{eqb, lit<}
+use Rattle.kinds.specs.Numbers.{mostTransferBytes}
 use Rattle.kinds.specs.declared.call.Part.{Part}
 use Rattle.kinds.specs.declared.call.NameIn.{NameIn}
 use Rattle.spec.specs.Checked.{Checked, refused, passed, bind, refuseIf}
@@ -16,7 +17,7 @@ use Rattle.spec.specs.Image.{Store, stamp, objects, objectAt, nameAt}
 use Rattle.spec.specs.Names.{isDots}
 use Rattle.spec.specs.Procedures.{cut}
 use Rattle.spec.specs.Procedures.Attributes.{isGiven, sizeSet, badAttributes, differs}
-use Rattle.spec.specs.Procedures.Data.{mostBytes, reachRegular}
+use Rattle.spec.specs.Procedures.Data.{reachRegular}
 use Rattle.spec.specs.Procedures.Names.{checkNew}
 use Rattle.spec.specs.Room.{isDirectory, sizeOf, findName}
 use Rattle.laws.proofs.Count.{true-false}
@@ -202,7 +203,7 @@ module _ (σ P Q R : ℕ) (s : Store) (L : Ledger) (I : Inv σ P Q R s L) where
           (subst (λ (i : ℕ). differs g (objectAt s i .ctime) ≡ false) (sym z) e₂) e₃ e₄)
       by-book (AsksStore.byWrite h offset n bytes o k e₁ e₂ l m) =
           let (w, y) = regular-passed s (cut (x .call) h) o e₁ in
-          subst (λ (i : ℕ). AsksRoom state x (growth (sizeOf s i) (max (sizeOf s i) (offset + min n mostBytes)))) (w .is-object)
+          subst (λ (i : ℕ). AsksRoom state x (growth (sizeOf s i) (max (sizeOf s i) (offset + min n mostTransferBytes)))) (w .is-object)
           (AsksRoom.byWrite h offset n bytes k (subst (HasLine (L .book) (cut (x .call) h)) y (reached-line (cut (x .call) h) (part-below h) o w)) e₂ l m)
       by-book (AsksStore.byCreate p manner a d k which e₁ e₂ e₃) =
           let (w, y) = directory-passed s (directoryIn x p) d e₁ in
@@ -236,7 +237,7 @@ module _ (σ P Q R : ℕ) (s : Store) (L : Ledger) (I : Inv σ P Q R s L) where
         (ap (λ (i : ℕ). isGiven (a .size) && eqb i 2) (z .type) ∙ e₄))
     by-store (AsksRoom.byWrite h offset n bytes k y e₂ l m) =
         let (o, z) = lined (cut (x .call) h) 1 y in
-        subst (λ (i : ℕ). AsksStore s x (growth (sizeOf s i) (max (sizeOf s i) (offset + min n mostBytes)))) (sym (z .is-object))
+        subst (λ (i : ℕ). AsksStore s x (growth (sizeOf s i) (max (sizeOf s i) (offset + min n mostTransferBytes)))) (sym (z .is-object))
         (AsksStore.byWrite h offset n bytes o k (regular-reached (cut (x .call) h) o z) e₂ l m)
     by-store (AsksRoom.byCreate p manner a k which m e) =
         let (d, z) = lined (directoryIn x p) 2 (m .inDirectory) in

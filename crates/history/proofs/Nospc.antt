@@ -10,6 +10,7 @@ use native.Mathlib.Omega.{arith}
 use lib.Dec.{eqb, ltb, lit<}
 use lib.ListN.{length, take}
 use borrow.Author.Tests.{eq-eqb, ne-eqb, lt-ltb, le-ltb, ltb-true}
+use Rattle.kinds.specs.Numbers.{mostTransferBytes}
 use Rattle.kinds.specs.declared.call.Part.{Part}
 use Rattle.kinds.specs.declared.call.NameIn.{NameIn}
 use Rattle.kinds.specs.declared.call.Settable.{Settable}
@@ -24,7 +25,7 @@ use Rattle.spec.specs.Handles.{reach, reachDirectory}
 use Rattle.spec.specs.Image.{Store, objects, names, objectAt, nameAt}
 use Rattle.spec.specs.Procedures.{cut, act}
 use Rattle.spec.specs.Procedures.Attributes.{isGiven, sizeSet, badAttributes, lacksRoom, differs, checkSetattr, setattrEdit, edited, setattr}
-use Rattle.spec.specs.Procedures.Data.{mostBytes, reachRegular, grown, checkWrite, writeDone, write}
+use Rattle.spec.specs.Procedures.Data.{reachRegular, grown, checkWrite, writeDone, write}
 use Rattle.spec.specs.Procedures.Names.{Target, existing, isNew, roomForNew, checkNew, checkExisting, checkAttributed, checkCreate, createEdit, settableOf, create, checkMkdir, mkdir, createdIn, newEdit}
 use Rattle.spec.specs.Results.{Result, failChanging, settle}
 use Rattle.spec.specs.Room.{isRegular, isDirectory, isAvailable, isUsedName, sizeOf, need, freeBlockCount, availableCount, availableObject, freeNameCount, availableName, findName}
@@ -132,20 +133,20 @@ module _ (σ p q r : ℕ) (s : Store) (L : Ledger) (I : Inv σ p q r s L) where
 
   -- ---- WRITE
   write-room : (x : Request) (h : Part) (offset n : ℕ) (bytes : Part) (o : ℕ) → Asks x (Call.Write h offset n bytes)
-      → reachRegular s (cut (x .call) h) ≡ passed o → n ≡ length (cut (x .call) bytes) → 0 < n → offset + min n mostBytes ≤ 8192
-      → AnswersRoom (replyTo s x) (BlocksMissing p r s L (sizeOf s o) (grown s o offset (min n mostBytes)))
+      → reachRegular s (cut (x .call) h) ≡ passed o → n ≡ length (cut (x .call) bytes) → 0 < n → offset + min n mostTransferBytes ≤ 8192
+      → AnswersRoom (replyTo s x) (BlocksMissing p r s L (sizeOf s o) (grown s o offset (min n mostTransferBytes)))
   unfolding act write writeDone checkWrite statusOf
   write-room x h offset n bytes o k e₁ e₂ l m =
       let hb = cut (x .call) h in
       let c = x .context in
       let old = sizeOf s o in
-      let size = grown s o offset (min n mostBytes) in
+      let size = grown s o offset (min n mostTransferBytes) in
       let sent = cut (x .call) bytes in
       let d₁ : eqb n (length sent) ≡ true = eq-eqb n (length sent) e₂ in
       let d₂ : eqb n 0 ≡ false = ne-eqb n 0 (λ z. omega arith) in
       let d₃ : ltb 8192 (offset + min n 4096) ≡ false = le-ltb 8192 (offset + min n 4096) m in
       let checks : checkWrite s hb offset n sent ≡ bind (refuseIf (lacksRoom s old size) 28) (λ _. passed o) = rw (e₁, d₁, d₂, d₃) in
-      let result : Checked ℕ → Result = λ y. settle s (failChanging s hb) y (λ o. writeDone s c o offset (take (min n mostBytes) sent)) .result in
+      let result : Checked ℕ → Result = λ y. settle s (failChanging s hb) y (λ o. writeDone s c o offset (take (min n mostTransferBytes) sent)) .result in
       let A = answer-to σ p q r s L I x (Call.Write h offset n bytes) k in
       by-room (x .call) (replyTo s x) (Call.Write h offset n bytes) _ A (BlocksMissing p r s L old size) (missing? old size)
       (λ b. subst (λ (y : Checked ℕ). Says (result y) 28) (sym (checks ∙ ap (λ (t : Bool). bind (refuseIf t 28) (λ _. passed o)) (missing-yes old size b))) (changing-says s hb 28))
@@ -161,7 +162,7 @@ module _ (σ p q r : ℕ) (s : Store) (L : Ledger) (I : Inv σ p q r s L) where
       let sent = cut (x .call) bytes in
       let d₁ : eqb 0 (length sent) ≡ true = eq-eqb 0 (length sent) e₂ in
       let checks : checkWrite s hb offset 0 sent ≡ passed o = rw (e₁, d₁) in
-      let result : Checked ℕ → Result = λ y. settle s (failChanging s hb) y (λ o. writeDone s c o offset (take (min 0 mostBytes) sent)) .result in
+      let result : Checked ℕ → Result = λ y. settle s (failChanging s hb) y (λ o. writeDone s c o offset (take (min 0 mostTransferBytes) sent)) .result in
       let A = answer-to σ p q r s L I x (Call.Write h offset 0 bytes) k in
       ok-of (x .call) (replyTo s x) (Call.Write h offset 0 bytes) _ A (subst (λ (y : Checked ℕ). Says (result y) 0) (sym checks) (wrote-says _ _ _))
 

@@ -10,6 +10,7 @@ use native.Mathlib.Omega.{arith}
 use lib.Dec.{eqb, leb, ltb, lit<}
 use lib.ListN.{length}
 use borrow.Author.Tests.{eqb-true, eqb-false, ltb-false, not-true, not-false}
+use Rattle.kinds.specs.Numbers.{mostNameBytes, mostTransferBytes}
 use Rattle.kinds.specs.declared.call.Settable.{Settable}
 use Rattle.kinds.specs.declared.call.Guard.{Guard}
 use Rattle.kinds.specs.declared.call.How.{How}
@@ -18,9 +19,9 @@ use Rattle.spec.specs.Bytes.{beAt}
 use Rattle.spec.specs.Checked.{Checked, refused, passed, bind, refuseIf, present, absent}
 use Rattle.spec.specs.Handles.{reach, reachDirectory, checkName}
 use Rattle.spec.specs.Image.{Store, stamp, objects, objectAt, nameAt}
-use Rattle.spec.specs.Names.{longestName, goodBytes, isDot, isDotDot, isDots}
+use Rattle.spec.specs.Names.{goodBytes, isDot, isDotDot, isDots}
 use Rattle.spec.specs.Procedures.Attributes.{isGiven, sizeSet, badAttributes, differs, lacksRoom, checkSetattr}
-use Rattle.spec.specs.Procedures.Data.{reachRegular, mostBytes, grown, checkWrite}
+use Rattle.spec.specs.Procedures.Data.{reachRegular, grown, checkWrite}
 use Rattle.spec.specs.Procedures.Listing.{entries, entriesAbove, isNothing, fitting, checkListing, checkReaddir}
 use Rattle.spec.specs.Procedures.Names.{childOf, lookIn, checkLookup, roomForNew, isNew, checkExisting, targetOf, checkNew, checkAttributed}
 use Rattle.spec.specs.Procedures.Names.{checkHow, checkCreate, checkMkdir}
@@ -117,7 +118,7 @@ module _ (P : ℕ → Type 0) (plain : (n : ℕ) → Plain n → P n) (s : Store
   unfolding checkName
   name-tells text =
       tells-if P (eqb (length text) 0) 13 _ (λ _. acces) (λ _.
-      tells-if P (not (leb (length text) longestName)) 63 _ (λ _. plain 63 (lit< tt, lit< tt, omega arith)) (λ _.
+      tells-if P (not (leb (length text) mostNameBytes)) 63 _ (λ _. plain 63 (lit< tt, lit< tt, omega arith)) (λ _.
       tells-last P (not (goodBytes text)) 13 acces))
 
   new-tells : (d : ℕ) (text : List ℕ) (invalid : Bool) → Tells P (checkNew s d text invalid)
@@ -198,11 +199,11 @@ module _ (P : ℕ → Type 0) (plain : (n : ℕ) → Plain n → P n) (s : Store
       tells-if P (lacksRoom s (sizeOf s o) (sizeSet (a .size) (sizeOf s o))) 28 _ (λ _. full o e₁ e₂ e₃ e₄) (λ _. tells-passed P _)))))
 
   pub write-tells : (h : List ℕ) (offset n : ℕ) (bytes : List ℕ)
-      → ((o : ℕ) → reachRegular s h ≡ passed o → n ≡ length bytes → 0 < n → offset + min n mostBytes ≤ 8192 → P 28)
+      → ((o : ℕ) → reachRegular s h ≡ passed o → n ≡ length bytes → 0 < n → offset + min n mostTransferBytes ≤ 8192 → P 28)
       → Tells P (checkWrite s h offset n bytes)
   unfolding checkWrite
   write-tells h offset n bytes full =
-      let z = min n mostBytes in
+      let z = min n mostTransferBytes in
       tells-bind P (reachRegular s h) _ (regular-tells h) (λ o e₁.
       tells-if P (not (eqb n (length bytes))) 22 _ (λ _. inval) (λ e₂.
       tells-if P (not (eqb n 0) && ltb 8192 (offset + z)) 27 _ (λ _. plain 27 (lit< tt, lit< tt, omega arith)) (λ e₃.

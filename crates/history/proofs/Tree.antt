@@ -6,8 +6,8 @@ use Prim.Native.Nat.{ℕ, zero, suc, _≤_, _<_}
 use native.Mathlib.Decide.{ℕ-discrete, decLt}
 use native.Mathlib.Omega.{arith}
 use lib.ListN.{length, drop, length-drop}
-use Rattle.spec.specs.Count.{sum}
 use Rattle.spec.specs.Check.{mostNames}
+use Rattle.spec.specs.Count.{sum}
 use Rattle.history.proofs.Sum.{ind, ind-yes, ind-le, pigeon}
 use Rattle.history.proofs.View.{View, Live, Used, Names, At, namings, entries, Path, not-named, named-once, entry-once}
 

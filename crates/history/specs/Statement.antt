@@ -8,7 +8,8 @@ use mathlib.Core.Bool.{Bool, true, false, _&&_, _||_, not}
 use mathlib.Core.Option.{some}
 use lib.Dec.{eqb}
 use lib.ListN.{length, getD}
-use Rattle.kinds.specs.Numbers.{NOSPC, STALE, REGULAR, DIRECTORY}
+use Rattle.kinds.specs.Layout.{blockLength}
+use Rattle.kinds.specs.Numbers.{NOSPC, STALE, REGULAR, DIRECTORY, leastReplyBytes, mostCallBytes, nanosecondsEnd, mostFileBytes, mostTransferBytes}
 use Rattle.kinds.specs.declared.object.Time.{Time}
 use Rattle.kinds.specs.declared.call.Part.{Part}
 use Rattle.kinds.specs.declared.call.NameIn.{NameIn}
@@ -28,7 +29,6 @@ use Rattle.spec.specs.Names.{isDots}
 use Rattle.spec.specs.Checked.{passed}
 use Rattle.spec.specs.Procedures.{cut}
 use Rattle.spec.specs.Procedures.Attributes.{isGiven, sizeSet, badAttributes, differs}
-use Rattle.spec.specs.Procedures.Data.{mostBytes}
 use Rattle.spec.specs.Serve.{format}
 use Rattle.history.specs.Book.{Standing, asRoot, under, Line, Book, Ledger, handleBytes, firstLedger, someAt, asked, isStatus, isOk, foundHandle, madeHandle}
 use Rattle.history.specs.Run.{Request, Lent, AllLent, replyTo, State, step, run}
@@ -92,9 +92,9 @@ liveObjects s = count (objects s) (isLive s)
 -- the request passes every check before its procedure's (the answers 2, 3 and 4; 1 does not come, and 5, the RPC outcomes and GARBAGE_ARGS
 -- are what `asked` rules out), and is read as a call with these arguments
 pub record Asks (x : Request) (a : Arguments) : Type 0 where
-  pub space : 4224 ≤ length (x .space)
-  pub clock : x .context .clock .nanoseconds < 1000000000
-  pub short : length (x .call) ≤ 8192
+  pub space : leastReplyBytes ≤ length (x .space)
+  pub clock : x .context .clock .nanoseconds < nanosecondsEnd
+  pub short : length (x .call) ≤ mostCallBytes
   pub reads : asked (x .call) ≡ some a
 
 -- the handle in an OK reply to LOOKUP, CREATE or MKDIR
@@ -229,8 +229,8 @@ pub data AsksRoom (w : State) (x : Request) : Room → Type 0 where
   -- WRITE of some bytes to a live file, that end within 8,192: the greater of its size and their end
   byWrite : (h : Part) (offset n : ℕ) (bytes : Part) → Asks x (Call.Write h offset n bytes)
       → HasLine (w .ledger .book) (cut (x .call) h) REGULAR → n ≡ length (cut (x .call) bytes)
-      → 0 < n → offset + min n mostBytes ≤ 8192
-      → AsksRoom w x (growth (sizeIn w (cut (x .call) h)) (max (sizeIn w (cut (x .call) h)) (offset + min n mostBytes)))
+      → 0 < n → offset + min n mostTransferBytes ≤ mostFileBytes
+      → AsksRoom w x (growth (sizeIn w (cut (x .call) h)) (max (sizeIn w (cut (x .call) h)) (offset + min n mostTransferBytes)))
   -- CREATE, UNCHECKED or GUARDED, where no line has that directory handle and name
   byCreate : (p : NameIn) (manner : How) (a : Settable) → Asks x (Call.Create p manner)
       → (manner ≡ How.Unchecked a) ⊎ (manner ≡ How.Guarded a)
@@ -295,13 +295,13 @@ pub record Kept (σ p q r : ℕ) (w : State) : Type 0 where
   -- FSSTAT answers a live handle OK, with the format's total bytes and objects
   pub totals : (x : Request) (h : Part) (kind : ℕ) → Asks x (Call.Fsstat h) → HasLine (w .ledger .book) (cut (x .call) h) kind
       → (isOk (replyTo (w .store) x) ≡ true)
-      × (shownTotal (replyTo (w .store) x) ≡ 512 * r)
+      × (shownTotal (replyTo (w .store) x) ≡ blockLength * r)
       × (shownObjects (replyTo (w .store) x) ≡ p)
   -- "Free blocks are R less the places, FSSTAT's free bytes 512 times that"
   pub placesFit : placesIn p (w .store) (w .ledger .book) ≤ r
   pub freeBytes : (x : Request) (h : Part) (kind : ℕ) → Asks x (Call.Fsstat h) → HasLine (w .ledger .book) (cut (x .call) h) kind
-      → (shownFree (replyTo (w .store) x) ≡ 512 * blocksLeft p r (w .store) (w .ledger))
-      × (shownFreeAgain (replyTo (w .store) x) ≡ 512 * blocksLeft p r (w .store) (w .ledger))
+      → (shownFree (replyTo (w .store) x) ≡ blockLength * blocksLeft p r (w .store) (w .ledger))
+      × (shownFreeAgain (replyTo (w .store) x) ≡ blockLength * blocksLeft p r (w .store) (w .ledger))
   -- "available objects P less the live ones and the records whose handle of generation 4,294,967,294 was removed"
   pub objectsFit : linedObjects p (w .ledger .book) + spentRecords σ p (w .ledger) ≤ p
   pub available : (x : Request) (h : Part) (kind : ℕ) → Asks x (Call.Fsstat h) → HasLine (w .ledger .book) (cut (x .call) h) kind

@@ -5,6 +5,7 @@ use Prim.Native.Nat.{ℕ, _+_, _-_, _≤_}
 use native.Mathlib.Omega.{arith}
 use native.Mathlib.Nat.{add-assoc}
 use lib.ListN.{length, replicate, length-append}
+use Rattle.kinds.specs.Layout.{objectLength, nameRecordLength}
 use Rattle.kinds.specs.declared.object.Object.{Object}
 use Rattle.kinds.specs.declared.object.Time.{Time}
 use Rattle.spec.specs.Bytes.{overlay, bytesOf}
@@ -29,13 +30,13 @@ unfolding timeBytes bytesOf
 times-run b at t u v h =
     overlay-more b at _ _ _ _ 16 (omega arith) refl (overlay-more b at _ _ _ _ 8 (omega arith) refl refl refl) refl
 
-pub object-run : (b : List ℕ) (o : ℕ) (v : Object) → objectStart o + 80 ≤ length b
+pub object-run : (b : List ℕ) (o : ℕ) (v : Object) → objectStart o + objectLength ≤ length b
     → overlay (overlay (overlay b (objectStart o) (headBytes v)) (objectStart o + 24) (timesBytes v)) (objectStart o + 48) (halvesBytes 16 (v .blocks)) ≡ putObject b o v
 unfolding putObject objectBytes headBytes timesBytes timeBytes bytesOf
 object-run b o v h =
     overlay-more b (objectStart o) _ _ _ _ 48 (omega arith) refl (overlay-more b (objectStart o) _ _ _ _ 24 (omega arith) refl refl refl) refl
 
-pub name-run : (b : List ℕ) (at d c len : ℕ) (t : List ℕ) → length t ≡ len → at + 44 ≤ length b → len ≤ 32
+pub name-run : (b : List ℕ) (at d c len : ℕ) (t : List ℕ) → length t ≡ len → at + nameRecordLength ≤ length b → len ≤ 32
     → (s₁ s₂ s₃ s₄ s₅ : List ℕ)
     → s₁ ≡ overlay b at (bytesOf 4 d)
     → s₂ ≡ overlay s₁ (at + 4) (bytesOf 4 c)

@@ -2,9 +2,12 @@
 ghost use mathlib.Core.Path.{_≡_};
 ghost use Prim.Native.Nat.{_+_, _≤_};
 ghost use lib.ListN.{length};
-ghost use Rattle.spec.specs.Image.{nameRecordLength, objectLength, volumes, stamp, objects, names, blocks, objectStart, nameStart, blockStart};
+ghost use Rattle.kinds.specs.Layout.{objectLength, nameRecordLength};
+ghost use Rattle.spec.specs.Image.{volumes, stamp, objects, names, blocks, objectStart, nameStart, blockStart};
+use kinds::layout::Image;
+use kinds::layout::NameRecord;
+use kinds::layout::ObjectRecord;
 use kinds::numbers::BlockNumber;
-use kinds::numbers::Limit;
 use kinds::numbers::NameNumber;
 use kinds::numbers::ObjectNumber;
 use places::block_place;
@@ -22,14 +25,14 @@ pub fn stamp_of(store: &[u8]) -> u32
     requires { ⌜ 8 ≤ length (now store) ⌝ }
     ensures { λ r. ⌜ r ≡ stamp (now (store .entry)) ⌝ }
 {
-    wire::get_u32(store, 4)
+    wire::get_u32(store, Image::STAMP)
 }
 
 pub fn object_count(store: &[u8]) -> usize
     requires { ⌜ 12 ≤ length (now store) ⌝ }
     ensures { λ r. ⌜ r ≡ objects (now (store .entry)) ⌝ }
 {
-    wire::get_u32(store, 8) as usize
+    wire::get_u32(store, Image::OBJECT_COUNT) as usize
 }
 
 pub fn name_count(store: &[u8]) -> usize
@@ -37,7 +40,7 @@ pub fn name_count(store: &[u8]) -> usize
     ensures { λ r. ⌜ r ≡ names (now (store .entry)) ⌝ }
 {
     let p = object_count(store);
-    wire::get_u32(store, 12 + Limit::OBJECT_BYTES * p) as usize
+    wire::get_u32(store, Image::OBJECTS_HEAD + ObjectRecord::BYTES * p) as usize
 }
 
 pub fn block_count(store: &[u8]) -> usize
@@ -46,10 +49,13 @@ pub fn block_count(store: &[u8]) -> usize
 {
     let p = object_count(store);
     let q = name_count(store);
-    wire::get_u32(store, 16 + Limit::OBJECT_BYTES * p + Limit::NAME_BYTES * q) as usize
+    wire::get_u32(
+        store,
+        Image::NAMES_HEAD + ObjectRecord::BYTES * p + NameRecord::BYTES * q,
+    ) as usize
 }
 
-// Where an object record starts; its 80 bytes lie in the store.
+// Where an object record starts; its bytes lie in the store.
 pub fn object_start(store: &[u8], o: ObjectNumber) -> usize
     requires { ⌜ objectStart (o .0) + objectLength ≤ length (now store) ⌝ }
     ensures { λ r. ⌜ r ≡ objectStart (o .0) ⌝ }
@@ -57,7 +63,7 @@ pub fn object_start(store: &[u8], o: ObjectNumber) -> usize
     object_place(o)
 }
 
-// Where a name record starts; its 44 bytes lie in the store.
+// Where a name record starts; its bytes lie in the store.
 pub fn name_start(store: &[u8], n: NameNumber) -> usize
     requires { ⌜ nameStart (now store) (n .0) + nameRecordLength ≤ length (now store) ⌝ }
     ensures { λ r. ⌜ r ≡ nameStart (now (store .entry)) (n .0) ⌝ }

@@ -2,12 +2,14 @@
 ghost use mathlib.Core.Path.{_≡_};
 ghost use Prim.Native.Nat.{_+_, _<_, _≤_};
 ghost use lib.ListN.{length};
+ghost use Rattle.kinds.specs.Layout.{nameRecordLength};
 ghost use Rattle.spec.specs.Bytes.{part};
-ghost use Rattle.spec.specs.Image.{nameRecordLength, nameStart, nameAt, nameLength, putName, freeName};
+ghost use Rattle.spec.specs.Image.{nameStart, nameAt, nameLength, putName, freeName};
 ghost use Rattle.spec.specs.Room.{isUsedName};
 ghost use Rattle.image.specs.Text.{nameOf, textOf};
 use crate::counts::name_start;
 use kinds::call::Part;
+use kinds::layout::NameRecord;
 use kinds::numbers::Limit;
 use kinds::numbers::NameNumber;
 use kinds::numbers::ObjectNumber;
@@ -27,7 +29,7 @@ pub fn name_child(store: &[u8], n: NameNumber) -> ObjectNumber
     ensures { λ r. ⌜ r .0 ≡ nameAt (now (store .entry)) (n .0) .child ⌝ }
 {
     let at = name_start(store, n);
-    ObjectNumber(wire::get_u32(store, at + 4) as usize)
+    ObjectNumber(wire::get_u32(store, at + NameRecord::CHILD) as usize)
 }
 
 // The length that a record states; 0 where it is free.
@@ -36,7 +38,7 @@ pub fn name_length(store: &[u8], n: NameNumber) -> usize
     ensures { λ r. ⌜ r ≡ nameLength (now (store .entry)) (n .0) ⌝ }
 {
     let at = name_start(store, n);
-    wire::get_u32(store, at + 8) as usize
+    wire::get_u32(store, at + NameRecord::LENGTH) as usize
 }
 
 pub fn is_used_name(store: &[u8], n: NameNumber) -> bool
@@ -66,10 +68,14 @@ pub fn save_name(
     let from = name.start;
     let len = name.length;
     wire::put_u32(store, at, directory.0 as u32);
-    wire::put_u32(store, at + 4, child.0 as u32);
-    wire::put_u32(store, at + 8, len as u32);
-    wire::copy_bytes(store, at + 12, call, from, len);
-    wire::clear_bytes(store, at + 12 + len, Limit::NAME - len);
+    wire::put_u32(store, at + NameRecord::CHILD, child.0 as u32);
+    wire::put_u32(store, at + NameRecord::LENGTH, len as u32);
+    wire::copy_bytes(store, at + NameRecord::TEXT, call, from, len);
+    wire::clear_bytes(
+        store,
+        at + NameRecord::TEXT + len,
+        Limit::MOST_NAME_BYTES - len,
+    );
 }
 
 // Frees a record.
@@ -78,5 +84,5 @@ pub fn clear_name(store: &mut [u8], n: NameNumber)
     ensures { λ _. ⌜ now (store .exit) ≡ putName (now (store .entry)) (n .0) freeName ⌝ }
 {
     let at = name_start(store, n);
-    wire::clear_bytes(store, at, Limit::NAME_BYTES);
+    wire::clear_bytes(store, at, NameRecord::BYTES);
 }

@@ -3,10 +3,13 @@ ghost use mathlib.Core.Path.{_≡_};
 ghost use mathlib.Core.List.{_++_};
 ghost use Prim.Native.Nat.{_+_, _<_, _≤_};
 ghost use lib.ListN.{length, getD};
+ghost use Rattle.kinds.specs.Layout.{objectLength};
 ghost use Rattle.spec.specs.Bytes.{overlay};
-ghost use Rattle.spec.specs.Image.{objectLength, objectStart, timeAt, timeBytes, halvesAt, halvesBytes, headBytes, objectAt, putObject};
+ghost use Rattle.spec.specs.Image.{objectStart, timeAt, timeBytes, halvesAt, halvesBytes, headBytes, objectAt, putObject};
 ghost use Rattle.spec.specs.Room.{isLive, isRegular, isDirectory, sizeOf};
 use crate::counts::object_start;
+use kinds::layout::ObjectRecord;
+use kinds::layout::TimeField;
 use kinds::numbers::BlockNumber;
 use kinds::numbers::Kind;
 use kinds::numbers::ObjectNumber;
@@ -18,7 +21,7 @@ fn load_time(store: &[u8], at: usize) -> Time
     ensures { λ r. ⌜ r ≡ timeAt (now (store .entry)) at ⌝ }
 {
     let seconds = wire::get_u32(store, at);
-    let nanoseconds = wire::get_u32(store, at + 4);
+    let nanoseconds = wire::get_u32(store, at + TimeField::NANOSECONDS);
     Time {
         seconds,
         nanoseconds,
@@ -45,15 +48,15 @@ pub fn load_object(store: &[u8], o: ObjectNumber) -> Object
 {
     let at = object_start(store, o);
     let kind = wire::get_u32(store, at);
-    let generation = wire::get_u32(store, at + 4);
-    let mode = wire::get_u32(store, at + 8);
-    let uid = wire::get_u32(store, at + 12);
-    let gid = wire::get_u32(store, at + 16);
-    let size = wire::get_u32(store, at + 20);
-    let atime = load_time(store, at + 24);
-    let mtime = load_time(store, at + 32);
-    let ctime = load_time(store, at + 40);
-    let blocks = load_blocks(store, at + 48);
+    let generation = wire::get_u32(store, at + ObjectRecord::GENERATION);
+    let mode = wire::get_u32(store, at + ObjectRecord::MODE);
+    let uid = wire::get_u32(store, at + ObjectRecord::UID);
+    let gid = wire::get_u32(store, at + ObjectRecord::GID);
+    let size = wire::get_u32(store, at + ObjectRecord::SIZE);
+    let atime = load_time(store, at + ObjectRecord::ATIME);
+    let mtime = load_time(store, at + ObjectRecord::MTIME);
+    let ctime = load_time(store, at + ObjectRecord::CTIME);
+    let blocks = load_blocks(store, at + ObjectRecord::BLOCKS);
     Object {
         kind,
         generation,
@@ -74,7 +77,7 @@ pub fn save_time(store: &mut [u8], at: usize, t: Time)
     ensures { λ _. ⌜ now (store .exit) ≡ overlay (now (store .entry)) at (timeBytes t) ⌝ }
 {
     wire::put_u32(store, at, t.seconds);
-    wire::put_u32(store, at + 4, t.nanoseconds);
+    wire::put_u32(store, at + TimeField::NANOSECONDS, t.nanoseconds);
 }
 
 // Writes the 16 block numbers of a record.
@@ -95,11 +98,11 @@ fn save_head(store: &mut [u8], at: usize, v: Object)
     ensures { λ _. ⌜ now (store .exit) ≡ overlay (now (store .entry)) at (headBytes v) ⌝ }
 {
     wire::put_u32(store, at, v.kind);
-    wire::put_u32(store, at + 4, v.generation);
-    wire::put_u32(store, at + 8, v.mode);
-    wire::put_u32(store, at + 12, v.uid);
-    wire::put_u32(store, at + 16, v.gid);
-    wire::put_u32(store, at + 20, v.size);
+    wire::put_u32(store, at + ObjectRecord::GENERATION, v.generation);
+    wire::put_u32(store, at + ObjectRecord::MODE, v.mode);
+    wire::put_u32(store, at + ObjectRecord::UID, v.uid);
+    wire::put_u32(store, at + ObjectRecord::GID, v.gid);
+    wire::put_u32(store, at + ObjectRecord::SIZE, v.size);
 }
 
 // Writes an object's times.
@@ -121,9 +124,9 @@ pub fn save_object(store: &mut [u8], o: ObjectNumber, v: Object)
     let atime = v.atime;
     let mtime = v.mtime;
     let ctime = v.ctime;
-    save_times(store, at + 24, atime, mtime, ctime);
+    save_times(store, at + ObjectRecord::ATIME, atime, mtime, ctime);
     let blocks = v.blocks;
-    save_blocks(store, at + 48, blocks);
+    save_blocks(store, at + ObjectRecord::BLOCKS, blocks);
 }
 
 // Single fields of a record.
@@ -140,7 +143,7 @@ pub fn generation_of(store: &[u8], o: ObjectNumber) -> u32
     ensures { λ r. ⌜ r ≡ objectAt (now (store .entry)) (o .0) .generation ⌝ }
 {
     let at = object_start(store, o);
-    wire::get_u32(store, at + 4)
+    wire::get_u32(store, at + ObjectRecord::GENERATION)
 }
 
 pub fn size_of(store: &[u8], o: ObjectNumber) -> u32
@@ -148,7 +151,7 @@ pub fn size_of(store: &[u8], o: ObjectNumber) -> u32
     ensures { λ r. ⌜ r ≡ sizeOf (now (store .entry)) (o .0) ⌝ }
 {
     let at = object_start(store, o);
-    wire::get_u32(store, at + 20)
+    wire::get_u32(store, at + ObjectRecord::SIZE)
 }
 
 pub fn mode_of(store: &[u8], o: ObjectNumber) -> u32
@@ -156,7 +159,7 @@ pub fn mode_of(store: &[u8], o: ObjectNumber) -> u32
     ensures { λ r. ⌜ r ≡ objectAt (now (store .entry)) (o .0) .mode ⌝ }
 {
     let at = object_start(store, o);
-    wire::get_u32(store, at + 8)
+    wire::get_u32(store, at + ObjectRecord::MODE)
 }
 
 pub fn uid_of(store: &[u8], o: ObjectNumber) -> u32
@@ -164,7 +167,7 @@ pub fn uid_of(store: &[u8], o: ObjectNumber) -> u32
     ensures { λ r. ⌜ r ≡ objectAt (now (store .entry)) (o .0) .uid ⌝ }
 {
     let at = object_start(store, o);
-    wire::get_u32(store, at + 12)
+    wire::get_u32(store, at + ObjectRecord::UID)
 }
 
 pub fn gid_of(store: &[u8], o: ObjectNumber) -> u32
@@ -172,7 +175,7 @@ pub fn gid_of(store: &[u8], o: ObjectNumber) -> u32
     ensures { λ r. ⌜ r ≡ objectAt (now (store .entry)) (o .0) .gid ⌝ }
 {
     let at = object_start(store, o);
-    wire::get_u32(store, at + 16)
+    wire::get_u32(store, at + ObjectRecord::GID)
 }
 
 pub fn atime_of(store: &[u8], o: ObjectNumber) -> Time
@@ -180,7 +183,7 @@ pub fn atime_of(store: &[u8], o: ObjectNumber) -> Time
     ensures { λ r. ⌜ r ≡ objectAt (now (store .entry)) (o .0) .atime ⌝ }
 {
     let at = object_start(store, o);
-    load_time(store, at + 24)
+    load_time(store, at + ObjectRecord::ATIME)
 }
 
 pub fn mtime_of(store: &[u8], o: ObjectNumber) -> Time
@@ -188,7 +191,7 @@ pub fn mtime_of(store: &[u8], o: ObjectNumber) -> Time
     ensures { λ r. ⌜ r ≡ objectAt (now (store .entry)) (o .0) .mtime ⌝ }
 {
     let at = object_start(store, o);
-    load_time(store, at + 32)
+    load_time(store, at + ObjectRecord::MTIME)
 }
 
 pub fn ctime_of(store: &[u8], o: ObjectNumber) -> Time
@@ -196,7 +199,7 @@ pub fn ctime_of(store: &[u8], o: ObjectNumber) -> Time
     ensures { λ r. ⌜ r ≡ objectAt (now (store .entry)) (o .0) .ctime ⌝ }
 {
     let at = object_start(store, o);
-    load_time(store, at + 40)
+    load_time(store, at + ObjectRecord::CTIME)
 }
 
 pub fn blocks_of(store: &[u8], o: ObjectNumber) -> [u16; 16]
@@ -204,7 +207,7 @@ pub fn blocks_of(store: &[u8], o: ObjectNumber) -> [u16; 16]
     ensures { λ r. ⌜ r ≡ objectAt (now (store .entry)) (o .0) .blocks ⌝ }
 {
     let at = object_start(store, o);
-    load_blocks(store, at + 48)
+    load_blocks(store, at + ObjectRecord::BLOCKS)
 }
 
 // The k-th of the 16 block numbers of a record.
@@ -214,7 +217,7 @@ pub fn block_of(store: &[u8], o: ObjectNumber, k: usize) -> BlockNumber
     ensures { λ r. ⌜ r .0 ≡ getD (objectAt (now (store .entry)) (o .0) .blocks) k 0 ⌝ }
 {
     let at = object_start(store, o);
-    BlockNumber(wire::get_u16(store, at + 48 + 2 * k) as usize)
+    BlockNumber(wire::get_u16(store, at + ObjectRecord::BLOCKS + 2 * k) as usize)
 }
 
 // Whether an object is live, a regular file, or a directory.

@@ -83,13 +83,101 @@ DIRECTORY = 2
 abbrev pub kinds : List ℕ
 kinds = FREE ∷ REGULAR ∷ DIRECTORY ∷ []
 
--- "reply space under 4,224 bytes"; "call over 8,192 bytes"; "nanoseconds 1,000,000,000 or more"; "P, 1 to 64"; "Q, 0 to 128";
--- "R, 0 to 1,024"; "80 bytes each"; "44 bytes each"; "512 bytes each"; "16 two-byte block numbers, unused 65535"; "size at most 8,192";
--- "4,294,967,295 is never given out"; "modes at most 4,095"; "names 1 to 32 bytes"; "A handle is 12 bytes"; "a handle over 64 bytes";
--- "a credential or verifier over 400 bytes"; "n = min(count, 4096)"
+-- "reply space under 4,224 bytes"
+abbrev pub leastReplyBytes : ℕ
+leastReplyBytes = 4224
+
+-- "call over 8,192 bytes"
+abbrev pub mostCallBytes : ℕ
+mostCallBytes = 8192
+
+-- "nanoseconds 1,000,000,000 or more"
+abbrev pub nanosecondsEnd : ℕ
+nanosecondsEnd = 1000000000
+
+-- "P, 1 to 64"
+abbrev pub mostObjects : ℕ
+mostObjects = 64
+
+-- "Q, 0 to 128"
+abbrev pub mostNameRecords : ℕ
+mostNameRecords = 128
+
+-- "R, 0 to 1,024"
+abbrev pub mostBlocks : ℕ
+mostBlocks = 1024
+
+-- "16 two-byte block numbers, unused 65535"
+abbrev pub fileBlocks : ℕ
+fileBlocks = 16
+
+abbrev pub unusedBlock : ℕ
+unusedBlock = 65535
+
+-- "a file's size at most 8,192"
+abbrev pub mostFileBytes : ℕ
+mostFileBytes = 8192
+
+-- "4,294,967,295 is never given out"
+abbrev pub spentGeneration : ℕ
+spentGeneration = 4294967295
+
+-- "modes at most 4,095"
+abbrev pub mostMode : ℕ
+mostMode = 4095
+
+-- "used names 1 to 32 bytes"
+abbrev pub mostNameBytes : ℕ
+mostNameBytes = 32
+
+-- "A handle is 12 bytes"
+abbrev pub handleLength : ℕ
+handleLength = 12
+
+-- "a handle over 64 bytes"
+abbrev pub mostHandleBytes : ℕ
+mostHandleBytes = 64
+
+-- "a credential or verifier over 400 bytes"
+abbrev pub mostCredentialBytes : ℕ
+mostCredentialBytes = 400
+
+-- "n = min(count, 4096)": the most bytes that one READ, WRITE or READDIR moves
+abbrev pub mostTransferBytes : ℕ
+mostTransferBytes = 4096
+
+-- "PATHCONF: 1, 32, true, false, false, true"
+abbrev pub mostLinks : ℕ
+mostLinks = 1
+
+-- "Answers FILE_SYNC"
+abbrev pub fileSync : ℕ
+fileSync = 2
+
+-- "properties 0x18"
+abbrev pub fileSystemProperties : ℕ
+fileSystemProperties = 0x18
+
+-- "The result body after the status costs 104 bytes plus 24 + padded name each"
+abbrev pub listingCost : ℕ
+listingCost = 104
+
+abbrev pub entryFixedCost : ℕ
+entryFixedCost = 24
+
+-- "the request's bits within 0x2D for files, 0x1F for directories"
+abbrev pub fileRights : ℕ
+fileRights = 0x2D
+
+abbrev pub directoryRights : ℕ
+directoryRights = 0x1F
+
+-- all of them, in this order
 abbrev pub limits : List ℕ
 limits =
-    4224 ∷ 8192 ∷ 1000000000 ∷ 64 ∷ 128 ∷ 1024 ∷ 80 ∷ 44 ∷ 512 ∷ 16 ∷ 65535 ∷ 8192 ∷ 4294967295 ∷ 4095 ∷ 32 ∷ 12 ∷ 64 ∷ 400 ∷ 4096 ∷ []
+    leastReplyBytes ∷ mostCallBytes ∷ nanosecondsEnd ∷ mostObjects ∷ mostNameRecords ∷ mostBlocks ∷ fileBlocks ∷ unusedBlock
+    ∷ mostFileBytes ∷ spentGeneration ∷ mostMode ∷ mostNameBytes ∷ handleLength ∷ mostHandleBytes ∷ mostCredentialBytes
+    ∷ mostTransferBytes ∷ mostLinks ∷ fileSync ∷ fileSystemProperties ∷ listingCost ∷ entryFixedCost ∷ fileRights ∷ directoryRights ∷ []
 
 -- the answers: done, store fails its check, reply space, clock, call over 8,192 bytes, no complete call header, format
 abbrev pub answers : List ℕ

@@ -1,7 +1,7 @@
 -- The two object records that need no store: a root as format makes it, and a free record.
 use Prim.Native.Nat.{ℕ}
 use lib.ListN.{replicate}
-use Rattle.kinds.specs.Numbers.{FREE, DIRECTORY}
+use Rattle.kinds.specs.Numbers.{FREE, DIRECTORY, fileBlocks, unusedBlock}
 use Rattle.kinds.specs.declared.object.Time.{Time}
 use Rattle.kinds.specs.declared.object.Object.{Object}
 
@@ -18,7 +18,7 @@ rootObject clock =
       atime = clock;
       mtime = clock;
       ctime = clock;
-      blocks = replicate 16 65535;
+      blocks = replicate fileBlocks unusedBlock;
     }
 
 -- 0 0, the time of a record that is free
@@ -38,5 +38,5 @@ freeObject generation =
       atime = noTime;
       mtime = noTime;
       ctime = noTime;
-      blocks = replicate 16 0;
+      blocks = replicate fileBlocks 0;
     }

@@ -252,80 +252,94 @@ impl Kind {
     }
 }
 
-// The largest and the exact numbers of document 01.
+// The limits, lengths and costs of the rules.
 pub struct Limit(pub u64);
 
 impl Limit {
-    // The least reply space, and the largest call.
-    pub const REPLY_SPACE: usize = 4224;
+    // The least reply space, and the longest call.
+    pub const LEAST_REPLY_BYTES: usize = 4224;
 
-    pub const CALL: usize = 8192;
+    pub const MOST_CALL_BYTES: usize = 8192;
 
     // Nanoseconds are below this.
-    pub const NANOSECONDS: u32 = 1000000000;
+    pub const NANOSECONDS_END: u32 = 1000000000;
 
     // The largest counts of a store.
-    pub const OBJECTS: usize = 64;
+    pub const MOST_OBJECTS: usize = 64;
 
-    pub const NAMES: usize = 128;
+    pub const MOST_NAME_RECORDS: usize = 128;
 
-    pub const BLOCKS: usize = 1024;
+    pub const MOST_BLOCKS: usize = 1024;
 
-    // The bytes of an object record, a name record and a block.
-    pub const OBJECT_BYTES: usize = 80;
-
-    pub const NAME_BYTES: usize = 44;
-
-    pub const BLOCK_BYTES: usize = 512;
-
-    // The blocks of one object, the number of an unused one, and the largest file.
+    // The block numbers of one object, the number of an unused one, and the largest file.
     pub const FILE_BLOCKS: usize = 16;
 
     pub const UNUSED_BLOCK: u16 = 65535;
 
-    pub const FILE: u64 = 8192;
+    pub const MOST_FILE_BYTES: u64 = 8192;
 
     // The generation that is never given out, and the largest mode.
-    pub const GENERATION: u32 = 4294967295;
+    pub const SPENT_GENERATION: u32 = 4294967295;
 
-    pub const MODE: u32 = 4095;
+    pub const MOST_MODE: u32 = 4095;
 
     // The longest name, the bytes of our handles, the longest handle, and the longest credential or verifier.
-    pub const NAME: usize = 32;
+    pub const MOST_NAME_BYTES: usize = 32;
 
-    pub const HANDLE: usize = 12;
+    pub const HANDLE_BYTES: usize = 12;
 
-    pub const ANY_HANDLE: usize = 64;
+    pub const MOST_HANDLE_BYTES: usize = 64;
 
-    pub const CREDENTIAL: usize = 400;
+    pub const MOST_CREDENTIAL_BYTES: usize = 400;
 
-    // The most bytes that one READ or WRITE moves.
-    pub const TRANSFER: usize = 4096;
+    // The most bytes that one READ, WRITE or READDIR moves.
+    pub const MOST_TRANSFER_BYTES: usize = 4096;
+
+    // What PATHCONF, WRITE and FSINFO say: the names of an object, how stable written bytes are, and what the file system can do.
+    pub const MOST_LINKS: u32 = 1;
+
+    pub const FILE_SYNC: u32 = 2;
+
+    pub const PROPERTIES: u32 = 0x18;
+
+    // What a listing costs, and each entry besides its padded name.
+    pub const LISTING_COST: usize = 104;
+
+    pub const ENTRY_FIXED_COST: usize = 24;
+
+    // The rights that ACCESS grants of a file and of a directory.
+    pub const FILE_RIGHTS: u32 = 0x2D;
+
+    pub const DIRECTORY_RIGHTS: u32 = 0x1F;
 
     // The numbers of the constants above, in their order.
-    pub fn numbers() -> [u64; 19]
+    pub fn numbers() -> [u64; 23]
         ensures { λ r. ⌜ r ≡ limits ⌝ }
     {
         [
-            Limit::REPLY_SPACE as u64,
-            Limit::CALL as u64,
-            Limit::NANOSECONDS as u64,
-            Limit::OBJECTS as u64,
-            Limit::NAMES as u64,
-            Limit::BLOCKS as u64,
-            Limit::OBJECT_BYTES as u64,
-            Limit::NAME_BYTES as u64,
-            Limit::BLOCK_BYTES as u64,
+            Limit::LEAST_REPLY_BYTES as u64,
+            Limit::MOST_CALL_BYTES as u64,
+            Limit::NANOSECONDS_END as u64,
+            Limit::MOST_OBJECTS as u64,
+            Limit::MOST_NAME_RECORDS as u64,
+            Limit::MOST_BLOCKS as u64,
             Limit::FILE_BLOCKS as u64,
             Limit::UNUSED_BLOCK as u64,
-            Limit::FILE,
-            Limit::GENERATION as u64,
-            Limit::MODE as u64,
-            Limit::NAME as u64,
-            Limit::HANDLE as u64,
-            Limit::ANY_HANDLE as u64,
-            Limit::CREDENTIAL as u64,
-            Limit::TRANSFER as u64,
+            Limit::MOST_FILE_BYTES,
+            Limit::SPENT_GENERATION as u64,
+            Limit::MOST_MODE as u64,
+            Limit::MOST_NAME_BYTES as u64,
+            Limit::HANDLE_BYTES as u64,
+            Limit::MOST_HANDLE_BYTES as u64,
+            Limit::MOST_CREDENTIAL_BYTES as u64,
+            Limit::MOST_TRANSFER_BYTES as u64,
+            Limit::MOST_LINKS as u64,
+            Limit::FILE_SYNC as u64,
+            Limit::PROPERTIES as u64,
+            Limit::LISTING_COST as u64,
+            Limit::ENTRY_FIXED_COST as u64,
+            Limit::FILE_RIGHTS as u64,
+            Limit::DIRECTORY_RIGHTS as u64,
         ]
     }
 }

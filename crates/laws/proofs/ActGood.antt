@@ -8,7 +8,7 @@ use native.Mathlib.Omega.{arith}
 use lib.Dec.{eqb, lit<}
 use lib.ListN.{length, take, length-take}
 use borrow.Author.Tests.{eqb-false}
-use Rattle.kinds.specs.Numbers.{REGULAR, DIRECTORY}
+use Rattle.kinds.specs.Numbers.{REGULAR, DIRECTORY, mostTransferBytes}
 use Rattle.kinds.specs.declared.object.Object.{Object}
 use Rattle.kinds.specs.declared.object.Context.{Context}
 use Rattle.kinds.specs.declared.call.Part.{Part}
@@ -25,7 +25,7 @@ use Rattle.spec.specs.Edits.{withAttributes, setAttributes, onlyCtime, mtimeAnd
 use Rattle.spec.specs.Image.{Store, objects, names, blocks, objectAt, nameAt}
 use Rattle.spec.specs.Procedures.{cut, act}
 use Rattle.spec.specs.Procedures.Attributes.{isGiven, sizeSet, sizeTouches, resizeTo, checkSetattr, setattrEdit, edited, setattr}
-use Rattle.spec.specs.Procedures.Data.{mostBytes, grown, checkWrite, writeEdit, writeStore, writeDone, write}
+use Rattle.spec.specs.Procedures.Data.{grown, checkWrite, writeEdit, writeStore, writeDone, write}
 use Rattle.spec.specs.Procedures.Names.{newObject, touchDirectory, newEdit, createdIn, Target, new, existing, settableOf, existingEdit, createEdit, checkCreate, create, checkMkdir, mkdir}
 use Rattle.spec.specs.Procedures.Removal.{checkRemove, checkRmdir, removeFrom, remove, rmdir, checkRename, renameEdit, failRenaming, renamedTo, rename}
 use Rattle.spec.specs.Results.{Result, Done, failChanging, settle}
@@ -150,21 +150,21 @@ module _ (s : Store) (c : Context) (v : Valid s) (b : Below 256 s) (k : GoodCloc
 
   -- ---- WRITE
   write-store : (h : List ℕ) (offset count : ℕ) (bytes : List ℕ) (o : ℕ) → Below 256 bytes → WritePassed s h offset count bytes o
-      → StillGood s (writeStore s c o offset (take (min count mostBytes) bytes))
+      → StillGood s (writeStore s c o offset (take (min count mostTransferBytes) bytes))
   unfolding writeStore
   write-store h offset count bytes o w p =
-      let xs = take (min count mostBytes) bytes in
-      let n : length xs ≡ min count mostBytes = length-take (min count mostBytes) bytes ∙ omega (arith, p .counted) in
+      let xs = take (min count mostTransferBytes) bytes in
+      let n : length xs ≡ min count mostTransferBytes = length-take (min count mostTransferBytes) bytes ∙ omega (arith, p .counted) in
       by-bool (eqb (length xs) 0)
       (λ t. rw t (still-refl s records))
       (λ t. let some : 0 < count = omega (arith, eqb-false (length xs) 0 t) in
-      rw t (write-edit s records c k o offset xs (p .reached .below) (p .regular) (below-take 256 bytes (min count mostBytes) (lit< tt) w)
+      rw t (write-edit s records c k o offset xs (p .reached .below) (p .regular) (below-take 256 bytes (min count mostTransferBytes) (lit< tt) w)
       (rw n (p .fits some)) (rw n (p .room some))))
 
   write-good : (h : List ℕ) (offset count : ℕ) (bytes : List ℕ) → Below 256 bytes → StillGood s (write s c h offset count bytes .store)
   unfolding write writeDone
   write-good h offset count bytes w =
-      settle-good (failChanging s h) (checkWrite s h offset count bytes) (λ o. writeDone s c o offset (take (min count mostBytes) bytes))
+      settle-good (failChanging s h) (checkWrite s h offset count bytes) (λ o. writeDone s c o offset (take (min count mostTransferBytes) bytes))
       (λ o e. write-store h offset count bytes o w (write-passed s h offset count bytes o e))
 
   -- ---- CREATE and MKDIR

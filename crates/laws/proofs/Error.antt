@@ -7,7 +7,7 @@ use Prim.Native.Nat.{ℕ, _*_, min}
 use native.Mathlib.Omega.{arith}
 use lib.Dec.{eqb}
 use lib.ListN.{length, take}
-use Rattle.kinds.specs.Numbers.{OK, DIRECTORY}
+use Rattle.kinds.specs.Numbers.{OK, DIRECTORY, mostTransferBytes}
 use Rattle.kinds.specs.declared.object.Attributes.{Attributes}
 use Rattle.kinds.specs.declared.object.Change.{Change}
 use Rattle.kinds.specs.declared.object.Context.{Context}
@@ -23,7 +23,7 @@ use Rattle.spec.specs.Handles.{reach, handleOf, attributes, change}
 use Rattle.spec.specs.Image.{Store, objects, blocks}
 use Rattle.spec.specs.Procedures.{cut, act}
 use Rattle.spec.specs.Procedures.Attributes.{getattr, checkSetattr, setattrEdit, edited, setattr, grantedBits, access}
-use Rattle.spec.specs.Procedures.Data.{reachRegular, mostBytes, readResult, read, checkWrite, writeDone, write, commit}
+use Rattle.spec.specs.Procedures.Data.{reachRegular, readResult, read, checkWrite, writeDone, write, commit}
 use Rattle.spec.specs.Procedures.Listing.{entries, entriesAbove, checkReaddir, readdir}
 use Rattle.spec.specs.Procedures.Names.{checkLookup, lookup, touchDirectory, newEdit, createdIn, Target, new, existing, settableOf, checkCreate, createEdit, create, checkMkdir, mkdir}
 use Rattle.spec.specs.Procedures.Removal.{checkRemove, checkRmdir, removeFrom, remove, rmdir, checkRename, renameEdit, failRenaming, renamedTo, rename}
@@ -103,7 +103,7 @@ module _ (s : Store) (c : Context) where
   write-error : (h : List ℕ) (offset count : ℕ) (bytes : List ℕ) → KeptUnlessOK s (write s c h offset count bytes)
   unfolding write writeDone
   write-error h offset count bytes =
-      settle-ok s (failChanging s h) (checkWrite s h offset count bytes) (λ o. writeDone s c o offset (take (min count mostBytes) bytes)) (λ o. wrote-ok _ _ _)
+      settle-ok s (failChanging s h) (checkWrite s h offset count bytes) (λ o. writeDone s c o offset (take (min count mostTransferBytes) bytes)) (λ o. wrote-ok _ _ _)
 
   create-error : (h text : List ℕ) (manner : How) → KeptUnlessOK s (create s c h text manner)
   unfolding create

@@ -9,6 +9,7 @@ use native.Mathlib.Nat.{add-zero}
 use native.Mathlib.Decide.{ℕ-discrete}
 use lib.Dec.{lit<, lit≤}
 use lib.ListN.{length, length-append, length-replicate}
+use Rattle.kinds.specs.Layout.{objectsHead, namesHead, blocksHead, objectLength, nameRecordLength}
 use Rattle.kinds.specs.Objects.{rootObject, freeObject}
 use Rattle.kinds.specs.declared.object.Time.{Time}
 use Rattle.kinds.specs.declared.object.Object.{Object}
@@ -49,13 +50,13 @@ module _ (mark p q r : ℕ) (clock : Time) (h : FormatAsked mark p q r clock) wh
   front = counted ++ objectBytes (rootObject clock)
 
   objects-end : List ℕ
-  objects-end = front ++ zeros (80 * (p - 1))
+  objects-end = front ++ zeros (objectLength * (p - 1))
 
   names-begin : List ℕ
   names-begin = objects-end ++ words (q ∷ [])
 
   names-end : List ℕ
-  names-end = names-begin ++ zeros (44 * q)
+  names-end = names-begin ++ zeros (nameRecordLength * q)
 
   blocks-begin : List ℕ
   blocks-begin = names-end ++ words (r ∷ [])
@@ -64,47 +65,47 @@ module _ (mark p q r : ℕ) (clock : Time) (h : FormatAsked mark p q r clock) wh
   unfolding counted words bytesOf
   counted-length = refl
 
-  front-length : length front ≡ 92
+  front-length : length front ≡ objectsHead + objectLength
   unfolding front
   front-length = rw (length-append, counted-length, object-length)
 
-  objects-end-length : length objects-end ≡ 12 + 80 * p
+  objects-end-length : length objects-end ≡ objectsHead + objectLength * p
   unfolding objects-end
   objects-end-length = rw (length-append, front-length, length-replicate) (omega arith)
 
-  names-begin-length : length names-begin ≡ 16 + 80 * p
+  names-begin-length : length names-begin ≡ namesHead + objectLength * p
   unfolding names-begin
   names-begin-length = rw (length-append, objects-end-length, words-length) (omega arith)
 
-  names-end-length : length names-end ≡ 16 + 80 * p + 44 * q
+  names-end-length : length names-end ≡ namesHead + objectLength * p + nameRecordLength * q
   unfolding names-end
   names-end-length = rw (length-append, names-begin-length, length-replicate)
 
-  blocks-begin-length : length blocks-begin ≡ 20 + 80 * p + 44 * q
+  blocks-begin-length : length blocks-begin ≡ blocksHead + objectLength * p + nameRecordLength * q
   unfolding blocks-begin
   blocks-begin-length = rw (length-append, names-end-length, words-length) (omega arith)
 
   -- a part of the front is a part of the whole
-  in-blocks-begin : (i w : ℕ) → i + w ≤ 20 + 80 * p + 44 * q → part (formatted mark p q r clock) i w ≡ part blocks-begin i w
+  in-blocks-begin : (i w : ℕ) → i + w ≤ blocksHead + objectLength * p + nameRecordLength * q → part (formatted mark p q r clock) i w ≡ part blocks-begin i w
   unfolding formatted counted front objects-end names-begin names-end blocks-begin
   in-blocks-begin i w l = part-left blocks-begin (zeros (512 * r)) i w (omega (arith, blocks-begin-length))
 
-  in-names-end : (i w : ℕ) → i + w ≤ 16 + 80 * p + 44 * q → part (formatted mark p q r clock) i w ≡ part names-end i w
+  in-names-end : (i w : ℕ) → i + w ≤ namesHead + objectLength * p + nameRecordLength * q → part (formatted mark p q r clock) i w ≡ part names-end i w
   unfolding blocks-begin
   in-names-end i w l = in-blocks-begin i w (omega arith) ∙ part-left names-end (words (r ∷ [])) i w (omega (arith, names-end-length))
 
-  in-names-begin : (i w : ℕ) → i + w ≤ 16 + 80 * p → part (formatted mark p q r clock) i w ≡ part names-begin i w
+  in-names-begin : (i w : ℕ) → i + w ≤ namesHead + objectLength * p → part (formatted mark p q r clock) i w ≡ part names-begin i w
   unfolding names-end
-  in-names-begin i w l = in-names-end i w (omega arith) ∙ part-left names-begin (zeros (44 * q)) i w (omega (arith, names-begin-length))
+  in-names-begin i w l = in-names-end i w (omega arith) ∙ part-left names-begin (zeros (nameRecordLength * q)) i w (omega (arith, names-begin-length))
 
-  in-objects-end : (i w : ℕ) → i + w ≤ 12 + 80 * p → part (formatted mark p q r clock) i w ≡ part objects-end i w
+  in-objects-end : (i w : ℕ) → i + w ≤ objectsHead + objectLength * p → part (formatted mark p q r clock) i w ≡ part objects-end i w
   unfolding names-begin
   in-objects-end i w l = in-names-begin i w (omega arith) ∙ part-left objects-end (words (q ∷ [])) i w (omega (arith, objects-end-length))
 
-  in-front : (i w : ℕ) → i + w ≤ 92 → part (formatted mark p q r clock) i w ≡ part front i w
+  in-front : (i w : ℕ) → i + w ≤ objectsHead + objectLength → part (formatted mark p q r clock) i w ≡ part front i w
   unfolding objects-end
   in-front i w l =
-      in-objects-end i w (omega (arith, h .some-object)) ∙ part-left front (zeros (80 * (p - 1))) i w (omega (arith, front-length))
+      in-objects-end i w (omega (arith, h .some-object)) ∙ part-left front (zeros (objectLength * (p - 1))) i w (omega (arith, front-length))
 
   in-counted : (i w : ℕ) → i + w ≤ 12 → part (formatted mark p q r clock) i w ≡ part counted i w
   unfolding front
@@ -136,13 +137,13 @@ module _ (mark p q r : ℕ) (clock : Time) (h : FormatAsked mark p q r clock) wh
   pub formatted-names : names (formatted mark p q r clock) ≡ q
   unfolding names beAt names-begin
   formatted-names =
-      rw formatted-objects (ap beOf (in-names-begin (12 + 80 * p) 4 (omega arith)) ∙ count-behind objects-end (12 + 80 * p) q objects-end-length (omega (arith, h .few-names)))
+      rw formatted-objects (ap beOf (in-names-begin (objectsHead + objectLength * p) 4 (omega arith)) ∙ count-behind objects-end (objectsHead + objectLength * p) q objects-end-length (omega (arith, h .few-names)))
 
   pub formatted-blocks : blocks (formatted mark p q r clock) ≡ r
   unfolding blocks beAt blocks-begin
   formatted-blocks =
       rw (formatted-objects, formatted-names)
-      (ap beOf (in-blocks-begin (16 + 80 * p + 44 * q) 4 (omega arith)) ∙ count-behind names-end (16 + 80 * p + 44 * q) r names-end-length (omega (arith, h .few-blocks)))
+      (ap beOf (in-blocks-begin (namesHead + objectLength * p + nameRecordLength * q) 4 (omega arith)) ∙ count-behind names-end (namesHead + objectLength * p + nameRecordLength * q) r names-end-length (omega (arith, h .few-blocks)))
 
   pub formatted-shaped : Shaped (formatted mark p q r clock)
   formatted-shaped =
@@ -166,24 +167,24 @@ module _ (mark p q r : ℕ) (clock : Time) (h : FormatAsked mark p q r clock) wh
   formatted-root =
       object-part (formatted mark p q r clock) 12
       ∙ ap (λ (x : List ℕ). objectFrom x 0)
-      (in-front 12 80 (lit≤ tt) ∙ part-right counted (objectBytes (rootObject clock)) 12 0 80 counted-length ∙ part-whole (objectBytes (rootObject clock)) 80 (object-length (rootObject clock)))
+      (in-front objectsHead objectLength (lit≤ tt) ∙ part-right counted (objectBytes (rootObject clock)) objectsHead 0 objectLength counted-length ∙ part-whole (objectBytes (rootObject clock)) objectLength (object-length (rootObject clock)))
       ∙ object-again (rootObject clock) (plain-fits 2 493 clock (lit< tt) (lit< tt) (record { seconds = h .seconds; nanoseconds = omega (arith, h .nanoseconds) }))
 
   pub formatted-free : (o : ℕ) → 1 ≤ o → o < p → objectAt (formatted mark p q r clock) o ≡ freeObject 0
   unfolding objects-end
   formatted-free o a b =
-      let e : objectStart o ≡ 92 + 80 * (o - 1) = omega arith in
+      let e : objectStart o ≡ objectsHead + objectLength + objectLength * (o - 1) = omega arith in
       free-zeros (formatted mark p q r clock) o
-      (in-objects-end (objectStart o) 80 (omega arith) ∙ ap (λ (i : ℕ). part objects-end i 80) e
-      ∙ part-right front (zeros (80 * (p - 1))) 92 (80 * (o - 1)) 80 front-length ∙ part-zeros (80 * (p - 1)) (80 * (o - 1)) 80 (omega arith))
+      (in-objects-end (objectStart o) objectLength (omega arith) ∙ ap (λ (i : ℕ). part objects-end i objectLength) e
+      ∙ part-right front (zeros (objectLength * (p - 1))) (objectsHead + objectLength) (objectLength * (o - 1)) objectLength front-length ∙ part-zeros (objectLength * (p - 1)) (objectLength * (o - 1)) objectLength (omega arith))
 
   pub formatted-name : (n : ℕ) → n < q → FreeName (formatted mark p q r clock) n
   unfolding names-end
   formatted-name n l =
       free-name (formatted mark p q r clock) n
       (rw formatted-objects
-      (in-names-end (16 + 80 * p + 44 * n) 44 (omega arith)
-      ∙ part-right names-begin (zeros (44 * q)) (16 + 80 * p) (44 * n) 44 names-begin-length ∙ part-zeros (44 * q) (44 * n) 44 (omega arith)))
+      (in-names-end (namesHead + objectLength * p + nameRecordLength * n) nameRecordLength (omega arith)
+      ∙ part-right names-begin (zeros (nameRecordLength * q)) (namesHead + objectLength * p) (nameRecordLength * n) nameRecordLength names-begin-length ∙ part-zeros (nameRecordLength * q) (nameRecordLength * n) nameRecordLength (omega arith)))
 
   -- ---- it passes the check
   live-is-root : (o : ℕ) → o < p → Live (formatted mark p q r clock) o → o ≡ 0

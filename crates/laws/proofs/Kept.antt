@@ -7,6 +7,7 @@ use native.Mathlib.Omega.{arith}
 use native.Mathlib.Nat.{add-zero, add-assoc}
 use native.Mathlib.Decide.{ℕ-discrete}
 use lib.ListN.{length, length-append, length-replicate}
+use Rattle.kinds.specs.Layout.{nameRecordLength}
 use Rattle.kinds.specs.declared.object.Object.{Object}
 use Rattle.spec.specs.Bytes.{part, overlay, beAt, bytesOf, zeros}
 use Rattle.spec.specs.Image.{Store, objects, names, objectStart, nameStart, blockStart, objectAt, putObject, Name, nameBytes, nameAt, nameLength, putName}
@@ -91,17 +92,17 @@ valid-sound s v b = record { shaped = v .shaped; bytes = b; short = λ n l. shor
 
 -- ---- a name record whose 44 bytes are the same
 pub kept-by-bytes : (s t : Store) (n : ℕ) → objects t ≡ objects s → nameLength s n ≤ 32
-    → part t (nameStart s n) 44 ≡ part s (nameStart s n) 44 → NameKept s t n
+    → part t (nameStart s n) nameRecordLength ≡ part s (nameStart s n) nameRecordLength → NameKept s t n
 unfolding nameAt nameLength
 kept-by-bytes s t n e l b =
     let at = nameStart s n in
-    let w = length-by-part s t at 44 (omega arith) b in
+    let w = length-by-part s t at nameRecordLength (omega arith) b in
     let k = beAt s (at + 8) 4 in
     record {
-      all = rw e (name-by-part s t at 44 (omega arith) b);
+      all = rw e (name-by-part s t at nameRecordLength (omega arith) b);
       long = rw e w;
       padded = λ z. rw (e, w) (rw (add-assoc at 12 k)
-          (sym (part-part t at 44 (12 + k) (32 - k) (omega arith)) ∙ ap (λ (x : List ℕ). part x (12 + k) (32 - k)) b ∙ part-part s at 44 (12 + k) (32 - k) (omega arith) ∙ (rw (add-assoc at 12 k) at z)));
+          (sym (part-part t at nameRecordLength (12 + k) (32 - k) (omega arith)) ∙ ap (λ (x : List ℕ). part x (12 + k) (32 - k)) b ∙ part-part s at nameRecordLength (12 + k) (32 - k) (omega arith) ∙ (rw (add-assoc at 12 k) at z)));
     }
 
 sound-of : (s t : Store) → Sound s → SameShape s t → Below 256 t → ((m : ℕ) → m < names s → nameLength t m ≤ 32) → Sound t
@@ -117,8 +118,8 @@ put-object s o v h l f =
     let k : blockStart s 0 ≤ length s = omega arith in
     let q = object-written s o v k l in
     let z = object-length v in
-    let bytes : (m : ℕ) → m < names s → part t (nameStart s m) 44 ≡ part s (nameStart s m) 44 = λ m (b : m < names s).
-    part-apart s (objectStart o) _ (omega arith) (nameStart s m) 44 (_⊎_.inr (omega arith)) in
+    let bytes : (m : ℕ) → m < names s → part t (nameStart s m) nameRecordLength ≡ part s (nameStart s m) nameRecordLength = λ m (b : m < names s).
+    part-apart s (objectStart o) _ (omega arith) (nameStart s m) nameRecordLength (_⊎_.inr (omega arith)) in
     let kept : (m : ℕ) → m < names s → NameKept s t m = λ m b. kept-by-bytes s t m (q .shape .objects) (h .short m b) (bytes m b) in
     record {
       shape = q .shape;
@@ -145,12 +146,12 @@ put-name s n x h l f g =
     let t = putName s n x in
     let w = h .shaped in
     let k : blockStart s 0 ≤ length s = omega arith in
-    let fits : nameStart s n + 44 ≤ length s = omega arith in
+    let fits : nameStart s n + nameRecordLength ≤ length s = omega arith in
     let q = name-written s n x k l (f .text) in
     let z = name-length x (f .text) in
     let c = length (x .text) in
-    let bytes : (m : ℕ) → m < names s → m ≢ n → part t (nameStart s m) 44 ≡ part s (nameStart s m) 44 = λ m (b : m < names s) (d : m ≢ n).
-    part-apart s (nameStart s n) (nameBytes x) (omega arith) (nameStart s m) 44
+    let bytes : (m : ℕ) → m < names s → m ≢ n → part t (nameStart s m) nameRecordLength ≡ part s (nameStart s m) nameRecordLength = λ m (b : m < names s) (d : m ≢ n).
+    part-apart s (nameStart s n) (nameBytes x) (omega arith) (nameStart s m) nameRecordLength
     (⊎-elim (λ (a : m < n). _⊎_.inl (omega arith)) (λ (a : n ≤ m). _⊎_.inr (omega arith)) (lt-or-le m n)) in
     let kept : (m : ℕ) → m < names s → m ≢ n → NameKept s t m = λ m b d. kept-by-bytes s t m (q .shape .objects) (h .short m b) (bytes m b d) in
     let long = nameLength-same s n x fits f in
@@ -163,7 +164,7 @@ put-name s n x h l f g =
         all = nameAt-same s n x fits f;
         long = long;
         padded = rw (q .shape .objects, long) (rw (add-assoc (nameStart s n) 12 c)
-            (sym (part-part t (nameStart s n) 44 (12 + c) (32 - c) (omega (arith, f .text)))
+            (sym (part-part t (nameStart s n) nameRecordLength (12 + c) (32 - c) (omega (arith, f .text)))
             ∙ ap (λ (y : List ℕ). part y (12 + c) (32 - c)) (bytes-same s n x fits f) ∙ name-padded x (f .text)));
       };
       other-names = kept;
@@ -174,8 +175,8 @@ pub put-bytes : (s : Store) (at : ℕ) (xs : List ℕ) → Sound s → blockStar
 put-bytes s at xs h b k g =
     let t = overlay s at xs in
     let q = blocks-written s at xs b k in
-    let bytes : (m : ℕ) → m < names s → part t (nameStart s m) 44 ≡ part s (nameStart s m) 44 = λ m (c : m < names s).
-    part-apart s at xs k (nameStart s m) 44 (_⊎_.inl (omega arith)) in
+    let bytes : (m : ℕ) → m < names s → part t (nameStart s m) nameRecordLength ≡ part s (nameStart s m) nameRecordLength = λ m (c : m < names s).
+    part-apart s at xs k (nameStart s m) nameRecordLength (_⊎_.inl (omega arith)) in
     let kept : (m : ℕ) → m < names s → NameKept s t m = λ m c. kept-by-bytes s t m (q .shape .objects) (h .short m c) (bytes m c) in
     record {
       shape = q .shape;

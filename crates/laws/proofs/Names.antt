@@ -7,6 +7,7 @@ use native.Mathlib.Omega.{arith}
 use native.Mathlib.Nat.{add-zero}
 use lib.Dec.{lit≤}
 use lib.ListN.{length, replicate, length-append, length-replicate}
+use Rattle.kinds.specs.Layout.{nameRecordLength}
 use Rattle.spec.specs.Bytes.{part, overlay, beAt, bytesOf}
 use Rattle.spec.specs.Image.{Store, objects, nameStart, Name, nameFrom, nameBytes, nameAt, nameLength, putName}
 use Rattle.laws.proofs.Bytes.{bytes-length, be-part, part-part, part-same, part-right, part-left, part-whole, be-bytes}
@@ -23,7 +24,7 @@ pub record SameName (s s′ : Store) (n : ℕ) : Type 0 where
   pub all : nameAt s′ n ≡ nameAt s n
   pub long : nameLength s′ n ≡ nameLength s n
 
-pub name-length : (v : Name) → length (v .text) ≤ 32 → length (nameBytes v) ≡ 44
+pub name-length : (v : Name) → length (v .text) ≤ 32 → length (nameBytes v) ≡ nameRecordLength
 unfolding nameBytes
 name-length v h = simp (length-append, bytes-length, length-replicate) (omega arith)
 
@@ -68,7 +69,7 @@ pub objects-apart : (s : Store) (at : ℕ) (xs : List ℕ) → at + length xs �
 unfolding objects
 objects-apart s at xs h l = be-apart s at xs h 8 4 (_⊎_.inl l)
 
-module _ (s : Store) (n : ℕ) (v : Name) (h : nameStart s n + 44 ≤ length s) (f : FitsName v) where
+module _ (s : Store) (n : ℕ) (v : Name) (h : nameStart s n + nameRecordLength ≤ length s) (f : FitsName v) where
   fits : nameStart s n + length (nameBytes v) ≤ length s
   fits = rw (name-length v (f .text)) h
 
@@ -76,12 +77,12 @@ module _ (s : Store) (n : ℕ) (v : Name) (h : nameStart s n + 44 ≤ length s) 
   unfolding putName
   objects-same = objects-apart s (nameStart s n) (nameBytes v) fits (omega arith)
 
-  pub bytes-same : part (putName s n v) (nameStart s n) 44 ≡ nameBytes v
+  pub bytes-same : part (putName s n v) (nameStart s n) nameRecordLength ≡ nameBytes v
   unfolding putName
-  bytes-same = part-same s (nameStart s n) (nameBytes v) fits 44 (name-length v (f .text))
+  bytes-same = part-same s (nameStart s n) (nameBytes v) fits nameRecordLength (name-length v (f .text))
 
   length-same : beAt (putName s n v) (nameStart s n + 8) 4 ≡ length (v .text)
-  length-same = sym (be-part (putName s n v) (nameStart s n) 44 8 4 (lit≤ tt)) ∙ ap (λ (x : List ℕ). beAt x 8 4) bytes-same ∙ length-again v f
+  length-same = sym (be-part (putName s n v) (nameStart s n) nameRecordLength 8 4 (lit≤ tt)) ∙ ap (λ (x : List ℕ). beAt x 8 4) bytes-same ∙ length-again v f
 
   pub nameLength-same : nameLength (putName s n v) n ≡ length (v .text)
   unfolding nameLength
@@ -91,7 +92,7 @@ module _ (s : Store) (n : ℕ) (v : Name) (h : nameStart s n + 44 ≤ length s) 
   unfolding nameAt
   nameAt-same =
       rw objects-same
-      (name-part (putName s n v) (nameStart s n) 44 (rw length-same (omega (arith, f .text))) ∙ ap (λ (x : List ℕ). nameFrom x 0) bytes-same ∙ name-again v f)
+      (name-part (putName s n v) (nameStart s n) nameRecordLength (rw length-same (omega (arith, f .text))) ∙ ap (λ (x : List ℕ). nameFrom x 0) bytes-same ∙ name-again v f)
 
 -- ---- what is written behind the count of objects and apart from a record leaves it as it was
 pub name-apart : (s : Store) (at : ℕ) (xs : List ℕ) → at + length xs ≤ length s → 12 ≤ at

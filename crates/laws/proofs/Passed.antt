@@ -9,7 +9,7 @@ use native.Mathlib.Omega.{arith}
 use lib.Dec.{eqb, leb, ltb}
 use lib.ListN.{length}
 use borrow.Author.Tests.{leb-true, leb-false, ltb-true, ltb-false, eqb-true, eqb-false, eq-eqb, not-true, not-false}
-use Rattle.kinds.specs.Numbers.{REGULAR, DIRECTORY, NOENT, ACCES, EXIST, NOTDIR, INVAL, FBIG, NOSPC, NAMETOOLONG, NOTEMPTY, STALE, BADHANDLE, NOT-SYNC}
+use Rattle.kinds.specs.Numbers.{REGULAR, DIRECTORY, NOENT, ACCES, EXIST, NOTDIR, INVAL, FBIG, NOSPC, NAMETOOLONG, NOTEMPTY, STALE, BADHANDLE, NOT-SYNC, mostTransferBytes}
 use Rattle.kinds.specs.declared.call.SetSize.the-variants as SetSize
 use Rattle.kinds.specs.declared.call.Settable.{Settable}
 use Rattle.kinds.specs.declared.call.Guard.{Guard}
@@ -21,7 +21,7 @@ use Rattle.spec.specs.Handles.{reach, reachDirectory, checkName}
 use Rattle.spec.specs.Image.{Store, stamp, objects, names, objectAt, nameAt, nameLength}
 use Rattle.spec.specs.Names.{isDots, goodBytes}
 use Rattle.spec.specs.Procedures.Attributes.{isGiven, sizeSet, badAttributes, lacksRoom, differs, checkSetattr}
-use Rattle.spec.specs.Procedures.Data.{reachRegular, mostBytes, grown, checkWrite}
+use Rattle.spec.specs.Procedures.Data.{reachRegular, grown, checkWrite}
 use Rattle.spec.specs.Procedures.Names.{roomForNew, Target, new, existing, isNew, checkExisting, targetOf, checkNew, checkAttributed, checkHow, checkCreate, settableOf, checkMkdir}
 use Rattle.spec.specs.Procedures.Removal.{checkRemove, hasEntries, checkRmdir, isWithin, checkRename}
 use Rattle.spec.specs.Room.{isLive, isRegular, isDirectory, sizeOf, need, freeBlockCount, isAvailable, availableObject, isUsedName, availableName, isIn, isNamed, findName}
@@ -222,8 +222,8 @@ pub record WritePassed (s : Store) (h : List ℕ) (offset count : ℕ) (bytes : 
   pub reached : Reached s h o
   pub regular : objectAt s o .kind ≡ REGULAR
   pub counted : count ≡ length bytes
-  pub fits : 0 < count → offset + min count mostBytes ≤ 8192
-  pub room : 0 < count → need (grown s o offset (min count mostBytes)) - need (sizeOf s o) ≤ freeBlockCount s
+  pub fits : 0 < count → offset + min count mostTransferBytes ≤ 8192
+  pub room : 0 < count → need (grown s o offset (min count mostTransferBytes)) - need (sizeOf s o) ≤ freeBlockCount s
 
 pub write-passed : (s : Store) (h : List ℕ) (offset count : ℕ) (bytes : List ℕ) (o : ℕ) → checkWrite s h offset count bytes ≡ passed o
     → WritePassed s h offset count bytes o
@@ -231,17 +231,17 @@ unfolding checkWrite
 write-passed s h offset count bytes o e =
     bind-passed (reachRegular s h) _ o e (λ i e₁ f₁.
     refuse-passed (not (eqb count (length bytes))) INVAL _ o f₁ (λ t₂ f₂.
-    refuse-passed (not (eqb count 0) && ltb 8192 (offset + min count mostBytes)) FBIG _ o f₂ (λ t₃ f₃.
-    refuse-passed (not (eqb count 0) && lacksRoom s (sizeOf s i) (grown s i offset (min count mostBytes))) NOSPC _ o f₃ (λ t₄ f₄.
+    refuse-passed (not (eqb count 0) && ltb 8192 (offset + min count mostTransferBytes)) FBIG _ o f₂ (λ t₃ f₃.
+    refuse-passed (not (eqb count 0) && lacksRoom s (sizeOf s i) (grown s i offset (min count mostTransferBytes))) NOSPC _ o f₃ (λ t₄ f₄.
     let q : i ≡ o = same-passed i o f₄ in
     let r = regular-passed s h i e₁ in
     let w : WritePassed s h offset count bytes i = record {
       reached = r .0;
       regular = r .1;
       counted = eqb-true count (length bytes) (not-false (eqb count (length bytes)) t₂);
-      fits = λ p. ltb-false 8192 (offset + min count mostBytes) (rest-false (not (eqb count 0)) (ltb 8192 (offset + min count mostBytes)) t₃ (true-nonzero count p));
-      room = λ p. room-passed s (sizeOf s i) (grown s i offset (min count mostBytes))
-          (rest-false (not (eqb count 0)) (lacksRoom s (sizeOf s i) (grown s i offset (min count mostBytes))) t₄ (true-nonzero count p));
+      fits = λ p. ltb-false 8192 (offset + min count mostTransferBytes) (rest-false (not (eqb count 0)) (ltb 8192 (offset + min count mostTransferBytes)) t₃ (true-nonzero count p));
+      room = λ p. room-passed s (sizeOf s i) (grown s i offset (min count mostTransferBytes))
+          (rest-false (not (eqb count 0)) (lacksRoom s (sizeOf s i) (grown s i offset (min count mostTransferBytes))) t₄ (true-nonzero count p));
     } in
     subst (WritePassed s h offset count bytes) q w))))
   where

@@ -8,10 +8,12 @@ use native.Mathlib.Nat.{add-zero, add-assoc, eq-or-lt-of-le, le-of-suc-le-suc}
 use lib.Dec.{lit≤}
 use lib.Seq.{take-suc, take-all, getD-append-seam}
 use lib.ListN.{length, take, getD, length-append, List·getD-append}
+use Rattle.kinds.specs.Numbers.{fileBlocks}
+use Rattle.kinds.specs.Layout.{generationOffset, modeOffset, uidOffset, gidOffset, sizeOffset, atimeOffset, mtimeOffset, ctimeOffset, blocksOffset, objectLength, nanosecondsOffset}
 use Rattle.kinds.specs.declared.object.Time.{Time}
 use Rattle.kinds.specs.declared.object.Object.{Object}
 use Rattle.spec.specs.Bytes.{beOf, part, overlay, beAt, bytesOf}
-use Rattle.spec.specs.Image.{Store, objectLength, objectStart, halvesAt, halvesBytes, timeAt, timeBytes, objectFrom, headBytes, timesBytes, objectBytes, objectAt, putObject}
+use Rattle.spec.specs.Image.{Store, objectStart, halvesAt, halvesBytes, timeAt, timeBytes, objectFrom, headBytes, timesBytes, objectBytes, objectAt, putObject}
 use Rattle.laws.proofs.Bytes.{lt-or-le, bytes-length, be-part, part-same, part-right, part-left, part-whole, be-bytes}
 use Rattle.laws.proofs.Apart.{Apart, part-apart}
 
@@ -44,7 +46,7 @@ unfolding halvesAt
 halves-count b at zero = refl
 halves-count b at (suc k) = simp length-append (omega (arith, halves-count b at k))
 
-pub object-length : (v : Object) → length (objectBytes v) ≡ 80
+pub object-length : (v : Object) → length (objectBytes v) ≡ objectLength
 unfolding objectBytes headBytes timesBytes timeBytes bytesOf halvesBytes
 object-length v = refl
 
@@ -70,29 +72,29 @@ halves-part b at n i (suc k) h =
     ap₂ (λ (l : List ℕ) (x : ℕ). l ++ (x ∷ [])) (halves-part b at n i k (omega arith))
     (be-part b at n (i + 2 * k) 2 (omega arith) ∙ ap (λ (q : ℕ). beAt b q 2) (omega arith))
 
-pub object-part : (b : List ℕ) (at : ℕ) → objectFrom b at ≡ objectFrom (part b at 80) 0
+pub object-part : (b : List ℕ) (at : ℕ) → objectFrom b at ≡ objectFrom (part b at objectLength) 0
 unfolding objectFrom timeAt
 object-part b at = sym (cc (
-  be-part b at 80 0 4 (lit≤ tt),
+  be-part b at objectLength 0 4 (lit≤ tt),
   add-zero at,
-  be-part b at 80 4 4 (lit≤ tt),
-  be-part b at 80 8 4 (lit≤ tt),
-  be-part b at 80 12 4 (lit≤ tt),
-  be-part b at 80 16 4 (lit≤ tt),
-  be-part b at 80 20 4 (lit≤ tt),
-  be-part b at 80 24 4 (lit≤ tt),
-  be-part b at 80 28 4 (lit≤ tt),
-  be-part b at 80 32 4 (lit≤ tt),
-  be-part b at 80 36 4 (lit≤ tt),
-  be-part b at 80 40 4 (lit≤ tt),
-  be-part b at 80 44 4 (lit≤ tt),
+  be-part b at objectLength generationOffset 4 (lit≤ tt),
+  be-part b at objectLength modeOffset 4 (lit≤ tt),
+  be-part b at objectLength uidOffset 4 (lit≤ tt),
+  be-part b at objectLength gidOffset 4 (lit≤ tt),
+  be-part b at objectLength sizeOffset 4 (lit≤ tt),
+  be-part b at objectLength atimeOffset 4 (lit≤ tt),
+  be-part b at objectLength (atimeOffset + nanosecondsOffset) 4 (lit≤ tt),
+  be-part b at objectLength mtimeOffset 4 (lit≤ tt),
+  be-part b at objectLength (mtimeOffset + nanosecondsOffset) 4 (lit≤ tt),
+  be-part b at objectLength ctimeOffset 4 (lit≤ tt),
+  be-part b at objectLength (ctimeOffset + nanosecondsOffset) 4 (lit≤ tt),
   add-assoc at 24 4,
   add-assoc at 32 4,
   add-assoc at 40 4,
-  halves-part b at 80 48 16 (lit≤ tt),
+  halves-part b at objectLength blocksOffset fileBlocks (lit≤ tt),
 ))
 
-pub object-by-part : (b b′ : List ℕ) (at : ℕ) → part b at 80 ≡ part b′ at 80 → objectFrom b at ≡ objectFrom b′ at
+pub object-by-part : (b b′ : List ℕ) (at : ℕ) → part b at objectLength ≡ part b′ at objectLength → objectFrom b at ≡ objectFrom b′ at
 object-by-part b b′ at e = object-part b at ∙ ap (λ (x : List ℕ). objectFrom x 0) e ∙ sym (object-part b′ at)
 
 -- ---- what was written is read again
@@ -141,20 +143,20 @@ object-again v f =
       blocks = blocks-again v f i;
     }
 
-pub objectAt-same : (s : Store) (o : ℕ) (v : Object) → objectStart o + 80 ≤ length s → FitsObject v → objectAt (putObject s o v) o ≡ v
+pub objectAt-same : (s : Store) (o : ℕ) (v : Object) → objectStart o + objectLength ≤ length s → FitsObject v → objectAt (putObject s o v) o ≡ v
 unfolding putObject objectAt
 objectAt-same s o v h f =
     object-part (putObject s o v) (objectStart o)
-    ∙ ap (λ (x : List ℕ). objectFrom x 0) (part-same s (objectStart o) (objectBytes v) (rw object-length h) 80 (object-length v))
+    ∙ ap (λ (x : List ℕ). objectFrom x 0) (part-same s (objectStart o) (objectBytes v) (rw object-length h) objectLength (object-length v))
     ∙ object-again v f
 
 -- ---- what is written apart from a record leaves it as it was
 pub objectAt-apart : (s : Store) (at : ℕ) (xs : List ℕ) → at + length xs ≤ length s
-    → (o : ℕ) → Apart at (length xs) (objectStart o) 80 → objectAt (overlay s at xs) o ≡ objectAt s o
+    → (o : ℕ) → Apart at (length xs) (objectStart o) objectLength → objectAt (overlay s at xs) o ≡ objectAt s o
 unfolding objectAt
-objectAt-apart s at xs h o d = object-by-part (overlay s at xs) s (objectStart o) (part-apart s at xs h (objectStart o) 80 d)
+objectAt-apart s at xs h o d = object-by-part (overlay s at xs) s (objectStart o) (part-apart s at xs h (objectStart o) objectLength d)
 
-pub objectAt-other : (s : Store) (o : ℕ) (v : Object) → objectStart o + 80 ≤ length s
+pub objectAt-other : (s : Store) (o : ℕ) (v : Object) → objectStart o + objectLength ≤ length s
     → (o′ : ℕ) → o′ ≢ o → objectAt (putObject s o v) o′ ≡ objectAt s o′
 unfolding putObject
 objectAt-other s o v h o′ d =

@@ -9,6 +9,7 @@ use native.Mathlib.Nat.{add-zero}
 use lib.Dec.{eqb, leb, ltb, lit≤}
 use lib.ListN.{length, getD, length-take, length-drop}
 use borrow.Author.Tests.{ltb-true, ltb-false, leb-true, eqb-true, eqb-false, lt-ltb, le-ltb, le-leb, eq-eqb, ne-eqb, not-true}
+use Rattle.kinds.specs.Layout.{modeOffset, objectLength, nameRecordLength}
 use Rattle.kinds.specs.Numbers.{REGULAR, DIRECTORY}
 use Rattle.kinds.specs.Objects.{freeObject}
 use Rattle.kinds.specs.declared.object.Object.{Object}
@@ -17,7 +18,7 @@ use Rattle.spec.specs.Count.{count, every}
 use Rattle.spec.specs.Image.{Store, volumes, objects, names, blocks, objectStart, nameStart, timeAt, objectFrom, objectAt, nameFrom, nameAt, nameLength, freeName}
 use Rattle.spec.specs.Room.{isLive, isRegular, isDirectory, need, uses, isUsedName, namings, isNamed, above}
 use Rattle.spec.specs.Names.{isDot, isDotDot, isDots, goodByte, goodBytes, goodName}
-use Rattle.spec.specs.Check.{isZero, goodCounts, imageLength, goodShape, goodTime, goodBlock, goodSize, goodLive, goodFree, goodObject, goodRoot, goodUsed, goodNameRecord, isDistinct, mostNames, isNamedOnce, isUsedOnce, leadsToRoot, passes}
+use Rattle.spec.specs.Check.{mostNames, isZero, goodCounts, imageLength, goodShape, goodTime, goodBlock, goodSize, goodLive, goodFree, goodObject, goodRoot, goodUsed, goodNameRecord, isDistinct, isNamedOnce, isUsedOnce, leadsToRoot, passes}
 use Rattle.laws.proofs.Bytes.{part-length, same-yes, same-no}
 use Rattle.laws.proofs.Count.{true-false, by-bool, and-both, every-at, every-all}
 use Rattle.laws.proofs.RecordRange.{text-length}
@@ -301,7 +302,7 @@ pub live-kind : (r : ℕ) (v : Object) → LiveObject r v → 0 < v .kind
 live-kind r v h = ⊎-elim (λ a. omega (arith, a .0)) (λ a. omega (arith, a .0)) (h .size)
 
 -- the record of a free object, from its bytes
-free-from : (s : Store) (at : ℕ) → beAt s at 4 ≡ 0 → part s (at + 8) 72 ≡ zeros 72 → objectFrom s at ≡ freeObject (beAt s (at + 4) 4)
+free-from : (s : Store) (at : ℕ) → beAt s at 4 ≡ 0 → part s (at + 8) (objectLength - modeOffset) ≡ zeros (objectLength - modeOffset) → objectFrom s at ≡ freeObject (beAt s (at + 4) 4)
 unfolding objectFrom timeAt
 free-from s at e z =
     λ i. record {
@@ -317,22 +318,22 @@ free-from s at e z =
       blocks = halves-zero s (at + 48) 16 (within (at + 48) 40 32 (omega arith) (omega arith)) i;
     }
   where
-    within : (p k w : ℕ) → p ≡ at + 8 + k → k + w ≤ 72 → part s p w ≡ zeros w
-    within p k w q h = rw q (zero-within s (at + 8) 72 k w z h)
+    within : (p k w : ℕ) → p ≡ at + 8 + k → k + w ≤ (objectLength - modeOffset) → part s p w ≡ zeros w
+    within p k w q h = rw q (zero-within s (at + 8) (objectLength - modeOffset) k w z h)
 
-    number : (p k : ℕ) → p ≡ at + 8 + k → k + 4 ≤ 72 → beAt s p 4 ≡ 0
+    number : (p k : ℕ) → p ≡ at + 8 + k → k + 4 ≤ (objectLength - modeOffset) → beAt s p 4 ≡ 0
     number p k q h = be-zero s p 4 (within p k 4 q h)
 
-pub free-zeros : (s : Store) (o : ℕ) → part s (objectStart o) 80 ≡ zeros 80 → objectAt s o ≡ freeObject 0
+pub free-zeros : (s : Store) (o : ℕ) → part s (objectStart o) objectLength ≡ zeros objectLength → objectAt s o ≡ freeObject 0
 unfolding objectAt
 free-zeros s o z =
     let at = objectStart o in
-    let k : part s (at + 0) 4 ≡ zeros 4 = zero-within s at 80 0 4 z (lit≤ tt) in
-    free-from s at (be-zero s at 4 (rw add-zero at k)) (zero-within s at 80 8 72 z (lit≤ tt))
-    ∙ ap freeObject (be-zero s (at + 4) 4 (zero-within s at 80 4 4 z (lit≤ tt)))
+    let k : part s (at + 0) 4 ≡ zeros 4 = zero-within s at objectLength 0 4 z (lit≤ tt) in
+    free-from s at (be-zero s at 4 (rw add-zero at k)) (zero-within s at objectLength 8 (objectLength - modeOffset) z (lit≤ tt))
+    ∙ ap freeObject (be-zero s (at + 4) 4 (zero-within s at objectLength 4 4 z (lit≤ tt)))
 
 -- and its bytes, from the record
-free-zero : (s : Store) (at g : ℕ) → at + 80 ≤ length s → objectFrom s at ≡ freeObject g → part s (at + 8) 72 ≡ zeros 72
+free-zero : (s : Store) (at g : ℕ) → at + objectLength ≤ length s → objectFrom s at ≡ freeObject g → part s (at + 8) (objectLength - modeOffset) ≡ zeros (objectLength - modeOffset)
 unfolding objectFrom timeAt
 free-zero s at g h e =
     let p = at + 8 in
@@ -350,27 +351,27 @@ free-zero s at g h e =
     let q : at + 48 ≡ p + 40 = omega arith in
     zero-join s p 40 32 n (rw q at (zero-halves s (at + 48) 16 (omega arith) (ap (λ (v : Object). v .blocks) e)))
   where
-    word : (p k : ℕ) → p ≡ at + 8 + k → k + 4 ≤ 72 → beAt s p 4 ≡ 0 → part s (at + 8 + k) 4 ≡ zeros 4
+    word : (p k : ℕ) → p ≡ at + 8 + k → k + 4 ≤ (objectLength - modeOffset) → beAt s p 4 ≡ 0 → part s (at + 8 + k) 4 ≡ zeros 4
     word p k q r z = rw q at (zero-part s p 4 (omega arith) z)
 
-pub free-object : (s : Store) (o : ℕ) → objectStart o + 80 ≤ length s → isLive s o ≡ false → goodFree s o ≡ true → FreeObject (objectAt s o)
+pub free-object : (s : Store) (o : ℕ) → objectStart o + objectLength ≤ length s → isLive s o ≡ false → goodFree s o ≡ true → FreeObject (objectAt s o)
 unfolding goodFree objectAt objectFrom
 free-object s o h l e =
     let at = objectStart o in
-    free-from s at (live-false s o l) (zeros-isZero (part s (at + 8) 72) 72 (part-length s (at + 8) 72 (omega arith)) e)
+    free-from s at (live-false s o l) (zeros-isZero (part s (at + 8) (objectLength - modeOffset)) (objectLength - modeOffset) (part-length s (at + 8) (objectLength - modeOffset) (omega arith)) e)
 
-pub free-good : (s : Store) (o : ℕ) → objectStart o + 80 ≤ length s → FreeObject (objectAt s o) → goodFree s o ≡ true
+pub free-good : (s : Store) (o : ℕ) → objectStart o + objectLength ≤ length s → FreeObject (objectAt s o) → goodFree s o ≡ true
 unfolding goodFree objectAt
-free-good s o h e = rw (free-zero s (objectStart o) _ h e) (isZero-zeros 72)
+free-good s o h e = rw (free-zero s (objectStart o) _ h e) (isZero-zeros (objectLength - modeOffset))
 
-pub object-good : (s : Store) (o : ℕ) → objectStart o + 80 ≤ length s → goodObject s o ≡ true → GoodObject (blocks s) (objectAt s o)
+pub object-good : (s : Store) (o : ℕ) → objectStart o + objectLength ≤ length s → goodObject s o ≡ true → GoodObject (blocks s) (objectAt s o)
 unfolding goodObject
 object-good s o h e =
     by-bool (isLive s o)
     (λ t. _⊎_.inr (live-object (blocks s) (objectAt s o) (rw t at e)))
     (λ t. _⊎_.inl (free-object s o h t (rw t at e)))
 
-pub good-object : (s : Store) (o : ℕ) → objectStart o + 80 ≤ length s → GoodObject (blocks s) (objectAt s o) → goodObject s o ≡ true
+pub good-object : (s : Store) (o : ℕ) → objectStart o + objectLength ≤ length s → GoodObject (blocks s) (objectAt s o) → goodObject s o ≡ true
 unfolding goodObject
 good-object s o h (_⊎_.inl f) = rw (false-live s o (ap (λ (v : Object). v .kind) f)) (free-good s o h f)
 good-object s o h (_⊎_.inr f) = rw (true-live s o (live-kind (blocks s) (objectAt s o) f)) (live-good (blocks s) (objectAt s o) f)
@@ -439,23 +440,23 @@ good-name text h =
     rw (le-leb 1 (length text) (h .some-byte), le-leb (length text) 32 (h .short), good-bytes text (h .bytes), no-dots text (h .no-dot) (h .no-dots))
 
 -- a free name record, from its bytes, and its bytes
-pub free-name : (s : Store) (n : ℕ) → part s (nameStart s n) 44 ≡ zeros 44 → FreeName s n
+pub free-name : (s : Store) (n : ℕ) → part s (nameStart s n) nameRecordLength ≡ zeros nameRecordLength → FreeName s n
 unfolding nameAt nameFrom nameLength part
 free-name s n w =
     let at = nameStart s n in
-    let e : beAt s (at + 8) 4 ≡ 0 = be-zero s (at + 8) 4 (zero-within s at 44 8 4 w (lit≤ tt)) in
-    let d : part s (at + 0) 4 ≡ zeros 4 = zero-within s at 44 0 4 w (lit≤ tt) in
+    let e : beAt s (at + 8) 4 ≡ 0 = be-zero s (at + 8) 4 (zero-within s at nameRecordLength 8 4 w (lit≤ tt)) in
+    let d : part s (at + 0) 4 ≡ zeros 4 = zero-within s at nameRecordLength 0 4 w (lit≤ tt) in
     record {
       empty = e;
       all = λ i. record {
         directory = be-zero s at 4 (rw add-zero at d) i;
-        child = be-zero s (at + 4) 4 (zero-within s at 44 4 4 w (lit≤ tt)) i;
+        child = be-zero s (at + 4) 4 (zero-within s at nameRecordLength 4 4 w (lit≤ tt)) i;
         text = ap (λ (k : ℕ). part s (at + 12) k) e i;
       };
-      padded = rw (e, add-zero) (zero-within s at 44 12 32 w (lit≤ tt));
+      padded = rw (e, add-zero) (zero-within s at nameRecordLength 12 32 w (lit≤ tt));
     }
 
-name-zero : (s : Store) (n : ℕ) → nameStart s n + 44 ≤ length s → FreeName s n → isZero (part s (nameStart s n) 44) ≡ true
+name-zero : (s : Store) (n : ℕ) → nameStart s n + nameRecordLength ≤ length s → FreeName s n → isZero (part s (nameStart s n) nameRecordLength) ≡ true
 unfolding nameAt nameFrom nameLength
 name-zero s n h f =
     let at = nameStart s n in
@@ -463,7 +464,7 @@ name-zero s n h f =
     let b = zero-join s at 4 4 a (zero-part s (at + 4) 4 (omega arith) (ap (λ v. v .child) (f .all))) in
     let c = zero-join s at 8 4 b (zero-part s (at + 8) 4 (omega arith) (f .empty)) in
     let d : part s (at + 12) 32 ≡ zeros 32 = rw (f .empty, add-zero) at (f .padded) in
-    rw (zero-join s at 12 32 c d) (isZero-zeros 44)
+    rw (zero-join s at 12 32 c d) (isZero-zeros nameRecordLength)
 
 -- a used name record
 module _ (s : Store) (n : ℕ) (h : nameStart s n + 48 ≤ length s) where
@@ -515,8 +516,8 @@ module _ (s : Store) (n : ℕ) (h : nameStart s n + 48 ≤ length s) where
   name-record e =
       by-bool (isUsedName s n)
       (λ t. _⊎_.inr (used-name (rw t at e)))
-      (λ t. let z = part s (nameStart s n) 44 in
-      _⊎_.inl (free-name s n (zeros-isZero z 44 (part-length s (nameStart s n) 44 (omega arith)) (rw t at e))))
+      (λ t. let z = part s (nameStart s n) nameRecordLength in
+      _⊎_.inl (free-name s n (zeros-isZero z nameRecordLength (part-length s (nameStart s n) nameRecordLength (omega arith)) (rw t at e))))
 
   pub record-good : GoodNameRecord s n → goodNameRecord s n ≡ true
   unfolding goodNameRecord

@@ -17,6 +17,7 @@ use files::handle::reach_directory;
 use image::counts::name_count;
 use image::counts::names_start;
 use kinds::call::Part;
+use kinds::layout::NameRecord;
 use kinds::numbers::Limit;
 use kinds::numbers::ObjectNumber;
 use kinds::numbers::Status;
@@ -41,7 +42,7 @@ fn entry_cost(long: usize) -> usize
     requires { ⌜ long ≤ 32 ⌝ }
     ensures { λ r. ⌜ r ≡ cost long ⌝ }
 {
-    24 + (long + (4 - long % 4) % 4)
+    Limit::ENTRY_FIXED_COST + (long + (4 - long % 4) % 4)
 }
 
 // Adds an entry above the given cookie to a run, by the length of its name; the first that does not fit ends the run.
@@ -81,7 +82,7 @@ fn length_in(store: &[u8], at: usize, d: ObjectNumber) -> usize
     if wire::get_u32(store, at) as usize != d.0 {
         return 0;
     }
-    wire::get_u32(store, at + 8) as usize
+    wire::get_u32(store, at + NameRecord::LENGTH) as usize
 }
 
 // The run of a directory's names above a cookie, in a room, behind `count` entries; the first that does not fit ends it.
@@ -98,7 +99,7 @@ fn name_run(store: &[u8], d: ObjectNumber, given: u64, room: usize, count: usize
     while i < total {
         let long = length_in(store, at, d);
         let number = i as u64 + 3;
-        at += Limit::NAME_BYTES;
+        at += NameRecord::BYTES;
         i += 1;
         if long == 0 {
             continue;
@@ -159,10 +160,10 @@ fn check_listing(store: &[u8], d: ObjectNumber, given: u64, limit: usize) -> Lis
     requires { ⌜ GoodRecords (now store) ⌝ }
     ensures { λ r. ⌜ listingOf (entriesAbove given (entries (now (store .entry)) (d .0))) r ≡ sentRun limit (entriesAbove given (entries (now (store .entry)) (d .0))) ⌝ }
 {
-    if limit < 104 {
+    if limit < Limit::LISTING_COST {
         return Listing::Refused(Status::TOOSMALL);
     }
-    let run = run_of(store, d, given, limit - 104);
+    let run = run_of(store, d, given, limit - Limit::LISTING_COST);
     if nothing_fits(run) {
         return Listing::Refused(Status::TOOSMALL);
     }
@@ -188,7 +189,7 @@ fn readdir_in(
     if verifier != 0 {
         return fail_showing(store, call, h, Status::BAD_COOKIE);
     }
-    let limit = least(count as u64, Limit::TRANSFER as u64);
+    let limit = least(count as u64, Limit::MOST_TRANSFER_BYTES as u64);
     let listing = check_listing(store, d, cookie, limit as usize);
     match listing {
         Listing::Sent(n, all) => Reply::Listed(d, all, cookie, n),

@@ -6,6 +6,7 @@ use Prim.Native.Nat.{ℕ, zero, suc, _+_, _*_, _≤_}
 use native.Mathlib.Omega.{arith}
 use lib.ListN.{length, take, drop, length-append, take-append-drop}
 use lib.Seq.{drop-drop}
+use Rattle.kinds.specs.Layout.{objectLength}
 use Rattle.kinds.specs.declared.object.Object.{Object}
 use Rattle.kinds.specs.declared.object.Time.{Time}
 use Rattle.spec.specs.Bytes.{part, overlay, bytesOf}
@@ -49,7 +50,7 @@ pub time-length : (t : Time) → length (timeBytes t) ≡ 8
 unfolding timeBytes
 time-length t = simp (length-append, bytes-length)
 
-module _ (s : Store) (o : ℕ) (w : Object) (f : Below 256 s) (h : objectStart o + 80 ≤ length s)
+module _ (s : Store) (o : ℕ) (w : Object) (f : Below 256 s) (h : objectStart o + objectLength ≤ length s)
     (kind : w .kind ≡ objectAt s o .kind) (generation : w .generation ≡ objectAt s o .generation) (size : w .size ≡ objectAt s o .size)
     (blocks : w .blocks ≡ objectAt s o .blocks) where
   abbrev at : ℕ
@@ -124,7 +125,7 @@ module _ (s : Store) (o : ℕ) (w : Object) (f : Below 256 s) (h : objectStart o
 joined : (s : List ℕ) (p q n m : ℕ) (xs ys : List ℕ) → q ≡ p + n → xs ≡ part s p n → ys ≡ part s q m → xs ++ ys ≡ part s p (n + m)
 joined s p q n m xs ys e a b = ap₂ (λ (x y : List ℕ). x ++ y) a (b ∙ ap (λ (k : ℕ). part s k m) e) ∙ sym (part-add s p n m)
 
-module _ (s : Store) (o : ℕ) (f : Below 256 s) (h : objectStart o + 80 ≤ length s) where
+module _ (s : Store) (o : ℕ) (f : Below 256 s) (h : objectStart o + objectLength ≤ length s) where
   time-kept : (p : ℕ) → p + 8 ≤ length s → timeBytes (timeAt s p) ≡ part s p 8
   unfolding timeBytes timeAt
   time-kept p k = joined s p (p + 4) 4 4 _ _ refl (bytes-kept s f 4 p (omega arith)) (bytes-kept s f 4 (p + 4) (omega arith))

@@ -3,6 +3,7 @@ ghost use mathlib.Core.Path.{_≡_};
 ghost use Prim.Native.Nat.{_+_, _≤_};
 ghost use mathlib.Core.List.{_++_};
 ghost use lib.ListN.{length};
+ghost use Rattle.kinds.specs.Layout.{objectLength};
 ghost use Rattle.spec.specs.Bytes.{overlay, bytesOf};
 ghost use Rattle.spec.specs.Image.{objectStart};
 ghost use Rattle.spec.specs.Edits.{numberSet, timeSet, withAttributes, setAttributes, onlyCtime, mtimeAndCtime};
@@ -18,6 +19,7 @@ use kinds::call::SetNumber;
 use kinds::call::SetSize;
 use kinds::call::SetTime;
 use kinds::call::Settable;
+use kinds::layout::ObjectRecord;
 use kinds::numbers::ObjectNumber;
 use kinds::object::Object;
 use kinds::object::Time;
@@ -81,7 +83,7 @@ fn save_owner(store: &mut [u8], at: usize, mode: u32, uid: u32, gid: u32)
 
 // Sets attributes, but for the size. The other bytes of the record stay.
 pub fn set_attributes(store: &mut [u8], clock: Time, o: ObjectNumber, a: Settable)
-    requires { ⌜ objectStart (o .0) + 80 ≤ length (now store) ⌝ }
+    requires { ⌜ objectStart (o .0) + objectLength ≤ length (now store) ⌝ }
     ensures { λ _. ⌜ now (store .exit) ≡ setAttributes (now (store .entry)) clock (o .0) a ⌝ }
 {
     let mode_set = a.mode;
@@ -95,18 +97,18 @@ pub fn set_attributes(store: &mut [u8], clock: Time, o: ObjectNumber, a: Settabl
     let atime = time_set(clock, atime_set, atime_of(store, o));
     let mtime = time_set(clock, mtime_set, mtime_of(store, o));
     let at = object_start(store, o);
-    save_owner(store, at + 8, mode, uid, gid);
-    save_times(store, at + 24, atime, mtime, clock);
+    save_owner(store, at + ObjectRecord::MODE, mode, uid, gid);
+    save_times(store, at + ObjectRecord::ATIME, atime, mtime, clock);
 }
 
 // Sets mtime and ctime to the clock. The other bytes of the record stay.
 pub fn touch(store: &mut [u8], clock: Time, o: ObjectNumber)
-    requires { ⌜ objectStart (o .0) + 80 ≤ length (now store) ⌝ }
+    requires { ⌜ objectStart (o .0) + objectLength ≤ length (now store) ⌝ }
     ensures { λ _. ⌜ now (store .exit) ≡ setAttributes (now (store .entry)) clock (o .0) mtimeAndCtime ⌝ }
 {
     let at = object_start(store, o);
-    save_time(store, at + 32, clock);
-    save_time(store, at + 40, clock);
+    save_time(store, at + ObjectRecord::MTIME, clock);
+    save_time(store, at + ObjectRecord::CTIME, clock);
 }
 
 // Sets ctime alone.

@@ -4,6 +4,7 @@ use mathlib.Core.Path.{_≡_, refl, ap, ap₂, _∙_}
 use mathlib.Core.List.{List, _++_}
 use native.Mathlib.Omega.{arith}
 use lib.ListN.{take}
+use Rattle.kinds.specs.Layout.{modeOffset, objectLength}
 use Rattle.kinds.specs.Objects.{freeObject}
 use Rattle.kinds.specs.declared.object.Object.{Object}
 use Rattle.spec.specs.Bytes.{part, bytesOf, zeros}
@@ -62,6 +63,6 @@ module _ {s : Store} {n o : ℕ} (r : Removing s n o) where
         (d ∙ ap₂ (λ (y : Store) (k : ℕ). putObject y o (freeObject (k + 1))) (a ∙ ap (clearBlocks s) child-held) f))
 
 -- the bytes of a free object
-pub free-bytes : (g : ℕ) → bytesOf 4 0 ++ bytesOf 4 g ++ zeros 72 ≡ objectBytes (freeObject g)
+pub free-bytes : (g : ℕ) → bytesOf 4 0 ++ bytesOf 4 g ++ zeros (objectLength - modeOffset) ≡ objectBytes (freeObject g)
 unfolding objectBytes headBytes timesBytes timeBytes halvesBytes bytesOf
 free-bytes g = refl

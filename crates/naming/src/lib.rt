@@ -2,6 +2,7 @@
 ghost use mathlib.Core.Path.{_≡_};
 ghost use Prim.Native.Nat.{_+_, _≤_, _<_};
 ghost use lib.ListN.{length};
+ghost use Rattle.kinds.specs.Layout.{objectLength};
 ghost use Rattle.kinds.specs.Objects.{freeObject};
 ghost use Rattle.spec.specs.Image.{objectStart, objects, names, nameAt, putObject};
 ghost use Rattle.spec.specs.Edits.{withGeneration, createObject, removeObject, moveName};
@@ -18,6 +19,7 @@ use image::object::generation_of;
 use image::object::save_object;
 use image::object::size_of;
 use kinds::call::Part;
+use kinds::layout::ObjectRecord;
 use kinds::numbers::Kind;
 use kinds::numbers::NameNumber;
 use kinds::numbers::ObjectNumber;
@@ -56,15 +58,18 @@ pub fn create_object(
     save_name(store, n, directory, o, call, name);
 }
 
+// The bytes of an object record after its generation.
+const AFTER_GENERATION: usize = ObjectRecord::BYTES - ObjectRecord::MODE;
+
 // Frees an object's record, which keeps a generation.
 fn clear_object(store: &mut [u8], o: ObjectNumber, generation: u32)
-    requires { ⌜ objectStart (o .0) + 80 ≤ length (now store) ⌝ }
+    requires { ⌜ objectStart (o .0) + objectLength ≤ length (now store) ⌝ }
     ensures { λ _. ⌜ now (store .exit) ≡ putObject (now (store .entry)) (o .0) (freeObject generation) ⌝ }
 {
     let at = object_start(store, o);
     wire::put_u32(store, at, Kind::FREE);
-    wire::put_u32(store, at + 4, generation);
-    wire::clear_bytes(store, at + 8, 72);
+    wire::put_u32(store, at + ObjectRecord::GENERATION, generation);
+    wire::clear_bytes(store, at + ObjectRecord::MODE, AFTER_GENERATION);
 }
 
 // The object that a used name record names, its blocks and the name record are free.

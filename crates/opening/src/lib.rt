@@ -31,13 +31,13 @@ pub fn open(
     ensures { λ r. ⌜ Opens (now (call .entry)) (now (store .entry)) (now (reply .entry)) context (now (used .exit)) r ⌝ }
 {
     let clock = context.clock;
-    if reply.len() < Limit::REPLY_SPACE {
+    if reply.len() < Limit::LEAST_REPLY_BYTES {
         return Opened::Refused(Answer::REPLY_SPACE);
     }
-    if clock.nanoseconds >= Limit::NANOSECONDS {
+    if clock.nanoseconds >= Limit::NANOSECONDS_END {
         return Opened::Refused(Answer::CLOCK);
     }
-    if call.len() > Limit::CALL {
+    if call.len() > Limit::MOST_CALL_BYTES {
         return Opened::Refused(Answer::CALL);
     }
     let mut parents = [0u8; 64];

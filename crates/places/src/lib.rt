@@ -1,10 +1,14 @@
 // Where records and blocks start, by the counts of a store, and how many blocks a size needs.
 ghost use mathlib.Core.Path.{_≡_};
 ghost use Prim.Native.Nat.{_+_, _*_, _≤_, _<_};
-ghost use Rattle.spec.specs.Image.{objectLength, nameRecordLength, blockLength, objectStart};
+ghost use Rattle.kinds.specs.Layout.{namesHead, blocksHead, objectLength, nameRecordLength, blockLength};
+ghost use Rattle.spec.specs.Image.{objectStart};
 ghost use Rattle.spec.specs.Room.{need};
+use kinds::layout::Block;
+use kinds::layout::Image;
+use kinds::layout::NameRecord;
+use kinds::layout::ObjectRecord;
 use kinds::numbers::BlockNumber;
-use kinds::numbers::Limit;
 use kinds::numbers::NameNumber;
 use kinds::numbers::ObjectNumber;
 
@@ -14,25 +18,25 @@ pub fn object_place(o: ObjectNumber) -> usize
     ensures { λ r. ⌜ r ≡ objectStart (o .0) ⌝ }
 {
     let i = o.0;
-    12 + Limit::OBJECT_BYTES * i
+    Image::OBJECTS_HEAD + ObjectRecord::BYTES * i
 }
 
 // Where a name record starts, behind p object records.
 pub fn name_place(p: usize, n: NameNumber) -> usize
-    requires { ⌜ 16 + objectLength * p + nameRecordLength * n .0 < 18446744073709551616 ⌝ }
-    ensures { λ r. ⌜ r ≡ 16 + objectLength * p + nameRecordLength * n .0 ⌝ }
+    requires { ⌜ namesHead + objectLength * p + nameRecordLength * n .0 < 18446744073709551616 ⌝ }
+    ensures { λ r. ⌜ r ≡ namesHead + objectLength * p + nameRecordLength * n .0 ⌝ }
 {
     let i = n.0;
-    16 + Limit::OBJECT_BYTES * p + Limit::NAME_BYTES * i
+    Image::NAMES_HEAD + ObjectRecord::BYTES * p + NameRecord::BYTES * i
 }
 
 // Where a block starts, behind p object records and q name records.
 pub fn block_place(p: usize, q: usize, r: BlockNumber) -> usize
-    requires { ⌜ 20 + objectLength * p + nameRecordLength * q + blockLength * r .0 < 18446744073709551616 ⌝ }
-    ensures { λ at. ⌜ at ≡ 20 + objectLength * p + nameRecordLength * q + blockLength * r .0 ⌝ }
+    requires { ⌜ blocksHead + objectLength * p + nameRecordLength * q + blockLength * r .0 < 18446744073709551616 ⌝ }
+    ensures { λ at. ⌜ at ≡ blocksHead + objectLength * p + nameRecordLength * q + blockLength * r .0 ⌝ }
 {
     let i = r.0;
-    20 + Limit::OBJECT_BYTES * p + Limit::NAME_BYTES * q + Limit::BLOCK_BYTES * i
+    Image::BLOCKS_HEAD + ObjectRecord::BYTES * p + NameRecord::BYTES * q + Block::BYTES * i
 }
 
 // How many blocks a size needs.

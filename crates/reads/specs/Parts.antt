@@ -1,9 +1,10 @@
 -- Parts of the procedures' definitions, and what an answer of the code stands for.
 use Prim.Native.Nat.{ℕ, _*_}
 use mathlib.Core.List.{List}
+use Rattle.kinds.specs.Layout.{blockLength}
 use Rattle.spec.specs.Checked.{Checked, _>>=_, _>>_, refused, passed}
 use Rattle.spec.specs.Handles.{checkName, attributes}
-use Rattle.spec.specs.Image.{Store, blockLength, objects, blocks}
+use Rattle.spec.specs.Image.{Store, objects, blocks}
 use Rattle.spec.specs.Procedures.Names.{lookIn}
 use Rattle.spec.specs.Results.{Result, gotRoom}
 use Rattle.spec.specs.Room.{freeBlockCount, availableCount}

@@ -36,7 +36,7 @@ fn read_length(store: &[u8], o: ObjectNumber, offset: u64, count: u32) -> u64
     if size <= offset {
         return 0;
     }
-    let most = least(count as u64, Limit::TRANSFER as u64);
+    let most = least(count as u64, Limit::MOST_TRANSFER_BYTES as u64);
     least(most, size - offset)
 }
 

@@ -13,6 +13,7 @@ use files::handle::Reached;
 use files::handle::reach;
 use image::object::is_directory;
 use kinds::call::Part;
+use kinds::numbers::Limit;
 use kinds::numbers::ObjectNumber;
 use results::Reply;
 
@@ -36,9 +37,9 @@ fn granted_bits(store: &[u8], o: ObjectNumber, bits: u32) -> u32
     ensures { λ r. ⌜ r ≡ grantedBits (now (store .entry)) (o .0) bits ⌝ }
 {
     if is_directory(store, o) {
-        return bits & 0x1F;
+        return bits & Limit::DIRECTORY_RIGHTS;
     }
-    bits & 0x2D
+    bits & Limit::FILE_RIGHTS
 }
 
 pub fn access(store: &[u8], call: &[u8], h: Part, bits: u32) -> Reply

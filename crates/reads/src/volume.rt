@@ -17,7 +17,7 @@ use find::object::available_count;
 use image::counts::block_count;
 use image::counts::object_count;
 use kinds::call::Part;
-use kinds::numbers::Limit;
+use kinds::layout::Block;
 use kinds::numbers::ObjectNumber;
 use results::Reply;
 
@@ -29,8 +29,8 @@ fn room(store: &[u8], o: ObjectNumber, free: usize) -> Reply
     ensures { λ r. ⌜ resultOf (now (store .entry)) r ≡ roomOf (now (store .entry)) (o .0) ⌝ }
     ensures { λ r. ⌜ Writable (now (store .entry)) r ⌝ }
 {
-    let total = Limit::BLOCK_BYTES * block_count(store);
-    let unused = Limit::BLOCK_BYTES * free;
+    let total = Block::BYTES * block_count(store);
+    let unused = Block::BYTES * free;
     let all = object_count(store);
     let available = available_count(store);
     Reply::GotRoom(o, total as u32, unused as u32, all as u32, available as u32)

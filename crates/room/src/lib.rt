@@ -2,10 +2,11 @@
 ghost use mathlib.Core.Path.{_≡_};
 ghost use Prim.Native.Nat.{_+_, _-_, _<_, _≤_, min};
 ghost use lib.Dec.{ltb};
+ghost use Rattle.kinds.specs.Numbers.{mostTransferBytes};
 ghost use Rattle.spec.specs.Image.{objects};
 ghost use Rattle.spec.specs.Room.{need, sizeOf, freeBlockCount};
 ghost use Rattle.spec.specs.Procedures.Attributes.{sizeSet, lacksRoom};
-ghost use Rattle.spec.specs.Procedures.Data.{mostBytes, grown};
+ghost use Rattle.spec.specs.Procedures.Data.{grown};
 ghost use Rattle.spec.specs.Procedures.Names.{roomForNew};
 ghost use Rattle.laws.proofs.GoodRecords.{GoodRecords};
 ghost use Rattle.free_space.specs.Blocks.{UsedMap};
@@ -59,12 +60,12 @@ pub fn lacks_room_for_size(store: &[u8], free: usize, o: ObjectNumber, size: Set
 
 // The bytes that a WRITE moves.
 pub fn transferred(count: usize) -> usize
-    ensures { λ r. ⌜ r ≡ min count mostBytes ⌝ }
+    ensures { λ r. ⌜ r ≡ min count mostTransferBytes ⌝ }
 {
-    if count <= Limit::TRANSFER {
+    if count <= Limit::MOST_TRANSFER_BYTES {
         return count;
     }
-    Limit::TRANSFER
+    Limit::MOST_TRANSFER_BYTES
 }
 
 // Whether bytes at an offset reach past the end of the largest file. The offset is compared first, so that the sum fits.
@@ -72,10 +73,10 @@ pub fn is_past_end(offset: u64, n: usize) -> bool
     requires { ⌜ n ≤ 4096 ⌝ }
     ensures { λ r. ⌜ r ≡ ltb 8192 (offset + n) ⌝ }
 {
-    if Limit::FILE < offset {
+    if Limit::MOST_FILE_BYTES < offset {
         return true;
     }
-    Limit::FILE < offset + n as u64
+    Limit::MOST_FILE_BYTES < offset + n as u64
 }
 
 // Whether a file grows past the free blocks where bytes are written at an offset. The map says which blocks are used.

@@ -75,7 +75,7 @@ pub fn credential(s: &[u8], c: Cursor) -> CredentialRead
     let WordRead::Got(flavor, c1) = answer else {
         return CredentialRead::Bad(answer.place());
     };
-    let answer = opaque(s, c1, Limit::CREDENTIAL);
+    let answer = opaque(s, c1, Limit::MOST_CREDENTIAL_BYTES);
     let PartRead::Got(body, c2) = answer else {
         return CredentialRead::Bad(answer.place());
     };

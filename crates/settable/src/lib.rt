@@ -48,7 +48,7 @@ fn bad_time(time: SetTime) -> bool
     match time {
         SetTime::Keep => false,
         SetTime::ToServer => false,
-        SetTime::ToClient(t) => Limit::NANOSECONDS <= t.nanoseconds,
+        SetTime::ToClient(t) => Limit::NANOSECONDS_END <= t.nanoseconds,
     }
 }
 
@@ -57,7 +57,7 @@ pub fn bad_attributes(a: Settable) -> bool
     ensures { λ r. ⌜ r ≡ badAttributes a ⌝ }
 {
     let mode = a.mode;
-    if number_over(Limit::MODE, mode) {
+    if number_over(Limit::MOST_MODE, mode) {
         return true;
     }
     let atime = a.atime;
@@ -69,7 +69,7 @@ pub fn bad_attributes(a: Settable) -> bool
         return true;
     }
     let size = a.size;
-    Limit::FILE < size_set(size, 0)
+    Limit::MOST_FILE_BYTES < size_set(size, 0)
 }
 
 // Whether two times are the same.

@@ -2,6 +2,7 @@
 use Prim.Native.Nat.{ℕ}
 use mathlib.Core.Bool.{cond}
 use lib.Dec.{eqb}
+use Rattle.kinds.specs.Numbers.{mostHandleBytes}
 use Rattle.kinds.specs.Reading.{Read}
 use Rattle.kinds.specs.declared.object.Time.{Time}
 use Rattle.kinds.specs.declared.call.Part.{Part}
@@ -23,7 +24,7 @@ use Rattle.spec.specs.Xdr.{Reader, _>>=_, _>>_, done, word, long, flag, 
 
 -- nfs_fh3: "a handle over 64 bytes" is refused
 unfoldable pub handle : Reader Part
-handle = opaque 64
+handle = opaque mostHandleBytes
 
 -- filename3, and the data of WRITE: no maximum
 unfoldable pub unbounded : Reader Part

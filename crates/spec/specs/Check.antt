@@ -4,25 +4,26 @@ use mathlib.Core.List.{List}
 use mathlib.Core.Bool.{Bool, _&&_, _||_, not, cond}
 use lib.Dec.{eqb, leb, ltb}
 use lib.ListN.{length, getD}
-use Rattle.kinds.specs.Numbers.{REGULAR, DIRECTORY}
+use Rattle.kinds.specs.Layout.{blocksHead, modeOffset, objectLength, textOffset, nameRecordLength, blockLength}
+use Rattle.kinds.specs.Numbers.{REGULAR, DIRECTORY, nanosecondsEnd, mostObjects, mostNameRecords, mostBlocks, fileBlocks, unusedBlock, mostFileBytes, spentGeneration, mostMode, mostNameBytes}
 use Rattle.kinds.specs.declared.object.Time.{Time}
 use Rattle.kinds.specs.declared.object.Object.{Object}
 use Rattle.spec.specs.Bytes.{part, allBytes}
 use Rattle.spec.specs.Count.{count, every}
-use Rattle.spec.specs.Image.{Store, objectLength, nameRecordLength, blockLength, volumes, objects, names, blocks, objectStart, nameStart, objectAt, nameAt, nameLength}
+use Rattle.spec.specs.Image.{Store, volumes, objects, names, blocks, objectStart, nameStart, objectAt, nameAt, nameLength}
 use Rattle.spec.specs.Room.{isLive, isDirectory, need, uses, isUsedName, namings, isNamed, above}
-use Rattle.spec.specs.Names.{longestName, goodName}
+use Rattle.spec.specs.Names.{goodName}
 
 unfoldable pub isZero : List ℕ → Bool
 isZero bytes = allBytes (λ x. eqb x 0) bytes
 
 -- "volume: count 1"; "P, 1 to 64"; "Q, 0 to 128"; "R, 0 to 1,024"
 unfoldable pub goodCounts : ℕ → ℕ → ℕ → Bool
-goodCounts p q r = leb 1 p && leb p 64 && leb q 128 && leb r 1024
+goodCounts p q r = leb 1 p && leb p mostObjects && leb q mostNameRecords && leb r mostBlocks
 
 -- "Length exactly 20 + 80P + 44Q + 512R"
 abbrev pub imageLength : ℕ → ℕ → ℕ → ℕ
-imageLength p q r = 20 + objectLength * p + nameRecordLength * q + blockLength * r
+imageLength p q r = blocksHead + objectLength * p + nameRecordLength * q + blockLength * r
 
 unfoldable pub goodShape : Store → Bool
 goodShape s =
@@ -30,25 +31,25 @@ goodShape s =
 
 -- "valid nanoseconds"
 unfoldable pub goodTime : Time → Bool
-goodTime t = ltb (t .nanoseconds) 1000000000
+goodTime t = ltb (t .nanoseconds) nanosecondsEnd
 
 -- "its first ceil(size/512) block numbers in range and the rest 65535"
 unfoldable pub goodBlock : ℕ → Object → ℕ → Bool
-goodBlock r v k = cond (ltb k (need (v .size))) (ltb (getD (v .blocks) k 0) r) (eqb (getD (v .blocks) k 0) 65535)
+goodBlock r v k = cond (ltb k (need (v .size))) (ltb (getD (v .blocks) k 0) r) (eqb (getD (v .blocks) k 0) unusedBlock)
 
 -- "a directory's size 0 with no blocks"; "a file's size at most 8,192"
 unfoldable pub goodSize : Object → Bool
-goodSize v = eqb (v .kind) REGULAR && leb (v .size) 8192 || eqb (v .kind) DIRECTORY && eqb (v .size) 0
+goodSize v = eqb (v .kind) REGULAR && leb (v .size) mostFileBytes || eqb (v .kind) DIRECTORY && eqb (v .size) 0
 
 -- "live generations below 4,294,967,295; modes at most 4,095; valid nanoseconds"
 unfoldable pub goodLive : ℕ → Object → Bool
 goodLive r v =
-    ltb (v .generation) 4294967295 && leb (v .mode) 4095 && goodTime (v .atime) && goodTime (v .mtime) && goodTime (v .ctime)
-    && goodSize v && every 16 (goodBlock r v)
+    ltb (v .generation) spentGeneration && leb (v .mode) mostMode && goodTime (v .atime) && goodTime (v .mtime) && goodTime (v .ctime)
+    && goodSize v && every fileBlocks (goodBlock r v)
 
 -- "a free object zero but for its generation"
 unfoldable pub goodFree : Store → ℕ → Bool
-goodFree s o = isZero (part s (objectStart o + 8) (objectLength - 8))
+goodFree s o = isZero (part s (objectStart o + modeOffset) (objectLength - modeOffset))
 
 unfoldable pub goodObject : Store → ℕ → Bool
 goodObject s o = cond (isLive s o) (goodLive (blocks s) (objectAt s o)) (goodFree s o)
@@ -61,7 +62,7 @@ goodRoot s = isDirectory s 0
 unfoldable pub goodUsed : Store → ℕ → Bool
 goodUsed s n =
     goodName (nameAt s n .text)
-    && isZero (part s (nameStart s n + 12 + nameLength s n) (longestName - nameLength s n))
+    && isZero (part s (nameStart s n + textOffset + nameLength s n) (mostNameBytes - nameLength s n))
     && (ltb (nameAt s n .directory) (objects s) && isDirectory s (nameAt s n .directory))
     && (ltb (nameAt s n .child) (objects s) && isLive s (nameAt s n .child))
 

@@ -4,6 +4,8 @@ use mathlib.Core.List.{List, [], _∷_, _++_}
 use mathlib.Core.Bool.{cond}
 use lib.Dec.{eqb}
 use lib.ListN.{getD, take, drop, replicate}
+use Rattle.kinds.specs.Numbers.{fileBlocks, unusedBlock}
+use Rattle.kinds.specs.Layout.{blockLength}
 use Rattle.kinds.specs.Objects.{freeObject}
 use Rattle.kinds.specs.declared.object.Time.{Time}
 use Rattle.kinds.specs.declared.object.Object.{Object}
@@ -15,7 +17,7 @@ use Rattle.kinds.specs.declared.call.SetTime.{SetTime}
 use Rattle.kinds.specs.declared.call.SetTime.the-variants as SetTime
 use Rattle.kinds.specs.declared.call.Settable.{Settable}
 use Rattle.spec.specs.Bytes.{overlay, zeros}
-use Rattle.spec.specs.Image.{Store, blockLength, blockStart, objectAt, putObject, nameAt, putName, freeName}
+use Rattle.spec.specs.Image.{Store, blockStart, objectAt, putObject, nameAt, putName, freeName}
 use Rattle.spec.specs.Room.{sizeOf, need, held, freeBlocks, byteAt}
 
 -- a number that a call may set
@@ -71,7 +73,7 @@ clearTail s o start end =
 
 -- 16 block numbers, "unused 65535"
 unfoldable pub blockNumbers : List ℕ → List ℕ
-blockNumbers rs = take 16 (rs ++ replicate 16 65535)
+blockNumbers rs = take fileBlocks (rs ++ replicate fileBlocks unusedBlock)
 
 -- an object of another size, with its blocks
 unfoldable pub withSize : ℕ → List ℕ → Object → Object

@@ -5,14 +5,15 @@ use mathlib.Core.Bool.{not, cond}
 use mathlib.Core.Option.{Option, some, none}
 use lib.Dec.{eqb, leb}
 use lib.ListN.{length}
-use Rattle.kinds.specs.Numbers.{NOTDIR, ACCES, NAMETOOLONG, STALE, BADHANDLE}
+use Rattle.kinds.specs.Layout.{blockLength}
+use Rattle.kinds.specs.Numbers.{NOTDIR, ACCES, NAMETOOLONG, STALE, BADHANDLE, mostNameBytes, handleLength}
 use Rattle.kinds.specs.declared.object.Attributes.{Attributes}
 use Rattle.kinds.specs.declared.object.Before.{Before}
 use Rattle.kinds.specs.declared.object.Change.{Change}
 use Rattle.spec.specs.Bytes.{words, beAt}
-use Rattle.spec.specs.Image.{Store, blockLength, stamp, objects, objectAt}
+use Rattle.spec.specs.Image.{Store, stamp, objects, objectAt}
 use Rattle.spec.specs.Room.{isLive, isDirectory, sizeOf, need, subdirectories}
-use Rattle.spec.specs.Names.{longestName, goodBytes}
+use Rattle.spec.specs.Names.{goodBytes}
 use Rattle.spec.specs.Checked.{Checked, refused, passed, _>>=_, _>>_, refuseIf}
 
 -- "A handle is 12 bytes: stamp, object, generation."
@@ -22,7 +23,7 @@ handleOf s o = words (stamp s ∷ o ∷ objectAt s o .generation ∷ [])
 -- "Other length, or object not below P: BADHANDLE. Other stamp, free, or other generation: STALE."
 unfoldable pub reach : Store → List ℕ → Checked ℕ
 reach s h = do
-  refuseIf (not (eqb (length h) 12)) BADHANDLE
+  refuseIf (not (eqb (length h) handleLength)) BADHANDLE
   refuseIf (leb (objects s) (beAt h 4 4)) BADHANDLE
   refuseIf (not (eqb (beAt h 0 4) (stamp s))) STALE
   refuseIf (not (isLive s (beAt h 4 4))) STALE
@@ -40,7 +41,7 @@ reachDirectory s h = do
 unfoldable pub checkName : List ℕ → Checked (Unit {0})
 checkName text = do
   refuseIf (eqb (length text) 0) ACCES
-  refuseIf (not (leb (length text) longestName)) NAMETOOLONG
+  refuseIf (not (leb (length text) mostNameBytes)) NAMETOOLONG
   refuseIf (not (goodBytes text)) ACCES
 
 -- "Directory size 512"

@@ -2,6 +2,7 @@
 use Prim.Native.Nat.{ℕ}
 use mathlib.Core.Bool.{cond}
 use lib.Dec.{eqb}
+use Rattle.kinds.specs.Numbers.{mostCredentialBytes}
 use Rattle.kinds.specs.declared.call.Credential.{Credential}
 use Rattle.kinds.specs.declared.call.Header.{Header}
 use Rattle.kinds.specs.declared.call.Header.the-variants as Header
@@ -11,7 +12,7 @@ use Rattle.spec.specs.Xdr.{Reader, _>>=_, _>>_, done, word, choice, opaq
 unfoldable pub credential : Reader Credential
 credential = do
   flavor ← word
-  body ← opaque 400
+  body ← opaque mostCredentialBytes
   done (record { flavor = flavor; body = body })
 
 -- what follows the RPC version 2

@@ -2,6 +2,8 @@
 use Prim.Native.Nat.{ℕ, zero, suc, _+_, _*_, _-_}
 use mathlib.Core.List.{List, [], _∷_, _++_}
 use lib.ListN.{length, getD}
+use Rattle.kinds.specs.Numbers.{fileBlocks, mostNameBytes}
+use Rattle.kinds.specs.Layout.{stampOffset, objectCountOffset, objectsHead, namesHead, blocksHead, generationOffset, modeOffset, uidOffset, gidOffset, sizeOffset, atimeOffset, mtimeOffset, ctimeOffset, blocksOffset, objectLength, nanosecondsOffset, childOffset, lengthOffset, textOffset, nameRecordLength, blockLength}
 use Rattle.kinds.specs.declared.object.Time.{Time}
 use Rattle.kinds.specs.declared.object.Object.{Object}
 use Rattle.spec.specs.Bytes.{part, overlay, zeros, beAt, bytesOf}
@@ -10,42 +12,32 @@ use Rattle.spec.specs.Bytes.{part, overlay, zeros, beAt, bytesOf}
 abbrev pub Store : Type 0
 Store = List ℕ
 
--- "80 bytes each"; "44 bytes each"; "512 bytes each"
-abbrev pub objectLength : ℕ
-objectLength = 80
-
-abbrev pub nameRecordLength : ℕ
-nameRecordLength = 44
-
-abbrev pub blockLength : ℕ
-blockLength = 512
-
 -- "sections in a fixed order, each after its 4-byte count"; "volume: count 1; a 4-byte stamp"
 unfoldable pub volumes : Store → ℕ
 volumes s = beAt s 0 4
 
 unfoldable pub stamp : Store → ℕ
-stamp s = beAt s 4 4
+stamp s = beAt s stampOffset 4
 
 -- P, Q and R
 unfoldable pub objects : Store → ℕ
-objects s = beAt s 8 4
+objects s = beAt s objectCountOffset 4
 
 unfoldable pub names : Store → ℕ
-names s = beAt s (12 + objectLength * objects s) 4
+names s = beAt s (objectsHead + objectLength * objects s) 4
 
 unfoldable pub blocks : Store → ℕ
-blocks s = beAt s (16 + objectLength * objects s + nameRecordLength * names s) 4
+blocks s = beAt s (namesHead + objectLength * objects s + nameRecordLength * names s) 4
 
 -- where object o, name record n and block r start
 abbrev pub objectStart : ℕ → ℕ
-objectStart o = 12 + objectLength * o
+objectStart o = objectsHead + objectLength * o
 
 abbrev pub nameStart : Store → ℕ → ℕ
-nameStart s n = 16 + objectLength * objects s + nameRecordLength * n
+nameStart s n = namesHead + objectLength * objects s + nameRecordLength * n
 
 abbrev pub blockStart : Store → ℕ → ℕ
-blockStart s r = 20 + objectLength * objects s + nameRecordLength * names s + blockLength * r
+blockStart s r = blocksHead + objectLength * objects s + nameRecordLength * names s + blockLength * r
 
 -- k numbers of two bytes each, from index at
 unfoldable pub halvesAt : List ℕ → ℕ → ℕ → List ℕ
@@ -58,7 +50,7 @@ halvesBytes zero xs = []
 halvesBytes (suc k) xs = halvesBytes k xs ++ bytesOf 2 (getD xs k 0)
 
 unfoldable pub timeAt : List ℕ → ℕ → Time
-timeAt b at = record { seconds = beAt b at 4; nanoseconds = beAt b (at + 4) 4 }
+timeAt b at = record { seconds = beAt b at 4; nanoseconds = beAt b (at + nanosecondsOffset) 4 }
 
 unfoldable pub timeBytes : Time → List ℕ
 timeBytes t = bytesOf 4 (t .seconds) ++ bytesOf 4 (t .nanoseconds)
@@ -68,15 +60,15 @@ unfoldable pub objectFrom : List ℕ → ℕ → Object
 objectFrom b at =
     record {
       kind = beAt b at 4;
-      generation = beAt b (at + 4) 4;
-      mode = beAt b (at + 8) 4;
-      uid = beAt b (at + 12) 4;
-      gid = beAt b (at + 16) 4;
-      size = beAt b (at + 20) 4;
-      atime = timeAt b (at + 24);
-      mtime = timeAt b (at + 32);
-      ctime = timeAt b (at + 40);
-      blocks = halvesAt b (at + 48) 16;
+      generation = beAt b (at + generationOffset) 4;
+      mode = beAt b (at + modeOffset) 4;
+      uid = beAt b (at + uidOffset) 4;
+      gid = beAt b (at + gidOffset) 4;
+      size = beAt b (at + sizeOffset) 4;
+      atime = timeAt b (at + atimeOffset);
+      mtime = timeAt b (at + mtimeOffset);
+      ctime = timeAt b (at + ctimeOffset);
+      blocks = halvesAt b (at + blocksOffset) fileBlocks;
     }
 
 -- the numbers, the times and then the blocks of an object
@@ -88,7 +80,7 @@ unfoldable pub timesBytes : Object → List ℕ
 timesBytes v = timeBytes (v .atime) ++ timeBytes (v .mtime) ++ timeBytes (v .ctime)
 
 unfoldable pub objectBytes : Object → List ℕ
-objectBytes v = headBytes v ++ timesBytes v ++ halvesBytes 16 (v .blocks)
+objectBytes v = headBytes v ++ timesBytes v ++ halvesBytes fileBlocks (v .blocks)
 
 unfoldable pub objectAt : Store → ℕ → Object
 objectAt s o = objectFrom s (objectStart o)
@@ -104,18 +96,18 @@ pub record Name : Type 0 where
 
 -- "directory, child, length (4 each), 32 name bytes, zero-padded"
 unfoldable pub nameFrom : List ℕ → ℕ → Name
-nameFrom b at = record { directory = beAt b at 4; child = beAt b (at + 4) 4; text = part b (at + 12) (beAt b (at + 8) 4) }
+nameFrom b at = record { directory = beAt b at 4; child = beAt b (at + childOffset) 4; text = part b (at + textOffset) (beAt b (at + lengthOffset) 4) }
 
 unfoldable pub nameBytes : Name → List ℕ
 nameBytes v =
-    bytesOf 4 (v .directory) ++ bytesOf 4 (v .child) ++ bytesOf 4 (length (v .text)) ++ v .text ++ zeros (32 - length (v .text))
+    bytesOf 4 (v .directory) ++ bytesOf 4 (v .child) ++ bytesOf 4 (length (v .text)) ++ v .text ++ zeros (mostNameBytes - length (v .text))
 
 unfoldable pub nameAt : Store → ℕ → Name
 nameAt s n = nameFrom s (nameStart s n)
 
 -- the length that name record n states
 unfoldable pub nameLength : Store → ℕ → ℕ
-nameLength s n = beAt s (nameStart s n + 8) 4
+nameLength s n = beAt s (nameStart s n + lengthOffset) 4
 
 unfoldable pub putName : Store → ℕ → Name → Store
 putName s n v = overlay s (nameStart s n) (nameBytes v)

@@ -4,6 +4,7 @@ use mathlib.Core.List.{List, [], _∷_}
 use mathlib.Core.Bool.{Bool, _&&_, _||_, not}
 use lib.Dec.{eqb, leb}
 use lib.ListN.{length}
+use Rattle.kinds.specs.Numbers.{mostNameBytes}
 use Rattle.spec.specs.Bytes.{sameBytes, allBytes}
 
 -- "." and ".."
@@ -23,10 +24,6 @@ goodByte x = not (eqb x 0) && not (eqb x 0x2F)
 unfoldable pub goodBytes : List ℕ → Bool
 goodBytes text = allBytes goodByte text
 
--- "names 1 to 32 bytes"
-abbrev pub longestName : ℕ
-longestName = 32
-
 -- "used names 1 to 32 bytes, .. without 0 or 0x2F, not "." or "..""
 unfoldable pub goodName : List ℕ → Bool
-goodName text = leb 1 (length text) && leb (length text) longestName && goodBytes text && not (isDots text)
+goodName text = leb 1 (length text) && leb (length text) mostNameBytes && goodBytes text && not (isDots text)

@@ -3,7 +3,7 @@ use Prim.Native.Nat.{ℕ, _/_, _%_}
 use mathlib.Core.List.{List, [], _∷_, _++_}
 use mathlib.Core.Option.{Option, some, none}
 use lib.ListN.{length, getD, replicate}
-use Rattle.kinds.specs.Numbers.{OK, zeroWords}
+use Rattle.kinds.specs.Numbers.{OK, zeroWords, mostFileBytes, mostNameBytes, mostTransferBytes, mostLinks, fileSync, fileSystemProperties}
 use Rattle.kinds.specs.declared.object.Time.{Time}
 use Rattle.kinds.specs.declared.object.Attributes.{Attributes}
 use Rattle.kinds.specs.declared.object.Before.{Before}
@@ -63,7 +63,7 @@ resultBytes p (found h a d) = words (OK ∷ []) ++ opaqueBytes h ++ words (postO
 resultBytes p (granted a bits) = words (OK ∷ postOp a ++ (bits ∷ []))
 resultBytes p (gotBytes a eof bytes) = words (OK ∷ postOp a ++ (length bytes ∷ bit eof ∷ [])) ++ opaqueBytes bytes
 -- committed: FILE_SYNC, 2
-resultBytes p (wrote c count verifier) = words (OK ∷ wccData c ++ (count ∷ 2 ∷ hyper verifier))
+resultBytes p (wrote c count verifier) = words (OK ∷ wccData c ++ (count ∷ fileSync ∷ hyper verifier))
 resultBytes p (created h a d) = words (OK ∷ 1 ∷ []) ++ opaqueBytes h ++ words (postOp a ++ wccData d)
 -- the reply's cookie verifier is zero
 resultBytes p (listed a es eof) = words (OK ∷ postOp a ++ hyper 0) ++ entriesBytes es ++ words (0 ∷ bit eof ∷ [])
@@ -71,7 +71,8 @@ resultBytes p (gotRoom a total free objects available) =
     words (OK ∷ postOp a ++ hyper total ++ hyper free ++ hyper free ++ hyper objects ++ hyper available ++ hyper available ++ (0 ∷ []))
 -- "FSINFO: 4096, 4096, 1 for read and write, 4096, 8192, delta 0 s 1 ns, properties 0x18."
 resultBytes p (gotLimits a) =
-    words (OK ∷ postOp a ++ (4096 ∷ 4096 ∷ 1 ∷ 4096 ∷ 4096 ∷ 1 ∷ 4096 ∷ hyper 8192) ++ (0 ∷ 1 ∷ 0x18 ∷ []))
+    words (OK ∷ postOp a ++ (mostTransferBytes ∷ mostTransferBytes ∷ 1 ∷ mostTransferBytes ∷ mostTransferBytes ∷ 1 ∷ mostTransferBytes ∷ hyper mostFileBytes)
+    ++ (0 ∷ 1 ∷ fileSystemProperties ∷ []))
 -- "PATHCONF: 1, 32, true, false, false, true."
-resultBytes p (gotNaming a) = words (OK ∷ postOp a ++ (1 ∷ 32 ∷ 1 ∷ 0 ∷ 0 ∷ 1 ∷ []))
+resultBytes p (gotNaming a) = words (OK ∷ postOp a ++ (mostLinks ∷ mostNameBytes ∷ 1 ∷ 0 ∷ 0 ∷ 1 ∷ []))
 resultBytes p (committed c verifier) = words (OK ∷ wccData c ++ hyper verifier)

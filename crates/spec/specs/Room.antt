@@ -5,10 +5,11 @@ use mathlib.Core.Bool.{Bool, _&&_, not}
 use mathlib.Core.Option.{Option, some, none}
 use lib.Dec.{eqb, ltb}
 use lib.ListN.{length, getD, take}
-use Rattle.kinds.specs.Numbers.{FREE, REGULAR, DIRECTORY}
+use Rattle.kinds.specs.Layout.{blockLength}
+use Rattle.kinds.specs.Numbers.{FREE, REGULAR, DIRECTORY, spentGeneration}
 use Rattle.spec.specs.Bytes.{sameBytes}
 use Rattle.spec.specs.Count.{sum, count, passing, lowest, times, iterate}
-use Rattle.spec.specs.Image.{Store, blockLength, objects, names, blocks, blockStart, objectAt, nameAt, nameLength}
+use Rattle.spec.specs.Image.{Store, objects, names, blocks, blockStart, objectAt, nameAt, nameLength}
 
 -- "Types: 0 free, 1 regular, 2 directory."
 unfoldable pub isLive : Store → ℕ → Bool
@@ -48,7 +49,7 @@ freeBlockCount s = count (blocks s) (isFreeBlock s)
 
 -- "A free object below that is available.": below the generation 4,294,967,295
 unfoldable pub isAvailable : Store → ℕ → Bool
-isAvailable s o = not (isLive s o) && ltb (objectAt s o .generation) 4294967295
+isAvailable s o = not (isLive s o) && ltb (objectAt s o .generation) spentGeneration
 
 unfoldable pub availableCount : Store → ℕ
 availableCount s = count (objects s) (isAvailable s)

@@ -4,6 +4,8 @@ use mathlib.Core.List.{List, [], _∷_, _++_}
 use mathlib.Core.Bool.{not, cond}
 use lib.Dec.{eqb, ltb}
 use lib.ListN.{length}
+use Rattle.kinds.specs.Numbers.{leastReplyBytes, mostCallBytes}
+use Rattle.kinds.specs.Layout.{objectLength, nameRecordLength, blockLength}
 use Rattle.kinds.specs.Reading.{Read, got, bad}
 use Rattle.kinds.specs.Objects.{rootObject}
 use Rattle.kinds.specs.declared.object.Time.{Time}
@@ -13,7 +15,7 @@ use Rattle.kinds.specs.declared.call.Header.{Header}
 use Rattle.kinds.specs.declared.call.Header.the-variants as Header
 use Rattle.kinds.specs.declared.call.Arguments.{Arguments}
 use Rattle.spec.specs.Bytes.{overlay, zeros, words}
-use Rattle.spec.specs.Image.{Store, objectLength, nameRecordLength, blockLength, objectBytes}
+use Rattle.spec.specs.Image.{Store, objectBytes}
 use Rattle.spec.specs.Check.{goodCounts, imageLength, goodTime, passes}
 use Rattle.spec.specs.Arguments.{arguments}
 use Rattle.spec.specs.Procedures.{act}
@@ -72,9 +74,9 @@ outcome space s (passed t) = send space t
 -- the call entry: its tests in the table's order, 2, 3, 4, 1, 5
 unfoldable pub serve : List ℕ → Store → List ℕ → Context → Outcome
 serve call s space c = outcome space s (do
-  refuseIf (ltb (length space) 4224) 2
+  refuseIf (ltb (length space) leastReplyBytes) 2
   refuseIf (not (goodTime (c .clock))) 3
-  refuseIf (ltb 8192 (length call)) 4
+  refuseIf (ltb mostCallBytes (length call)) 4
   refuseIf (not (passes s)) 1
   complete s c call (header call 0))
 

@@ -7,6 +7,7 @@ use native.Mathlib.Omega.{arith}
 use native.Mathlib.Nat.{add-zero}
 use borrow.Author.Tests.{ne-eqb}
 use lib.ListN.{length, take}
+use Rattle.kinds.specs.Layout.{objectLength}
 use Rattle.kinds.specs.declared.object.Context.{Context}
 use Rattle.kinds.specs.declared.call.Part.{Part}
 use Rattle.spec.specs.Bytes.{part}
@@ -32,7 +33,7 @@ pub left-showable : (s t u : Store) (o : ℕ) → StillGood s u → t ≡ u → 
 left-showable s t u o h e l = rw e (record { good = h .good; object = rw (h .shape .objects) l })
 
 -- the record of an object lies in a store of the same shape
-pub record-inside : (s t : Store) (o : ℕ) → GoodRecords s → SameShape s t → o < objects s → objectStart o + 80 ≤ length t
+pub record-inside : (s t : Store) (o : ℕ) → GoodRecords s → SameShape s t → o < objects s → objectStart o + objectLength ≤ length t
 record-inside s t o g h l = let w = g .sound .shaped in omega arith
 
 -- ---- the bytes that WRITE moves

@@ -2,10 +2,10 @@
 use Prim.Native.Nat.{ℕ, _+_, _-_, _≤_, _<_, min}
 use mathlib.Core.Path.{_≡_}
 use mathlib.Core.Logic.{_≢_}
-use Rattle.kinds.specs.Numbers.{REGULAR}
+use Rattle.kinds.specs.Numbers.{REGULAR, mostTransferBytes}
 use Rattle.spec.specs.Image.{Store, objects, objectAt}
 use Rattle.spec.specs.Room.{sizeOf, need, freeBlockCount}
-use Rattle.spec.specs.Procedures.Data.{mostBytes, grown}
+use Rattle.spec.specs.Procedures.Data.{grown}
 
 -- a file that may get n bytes at an offset
 pub record Writable (s : Store) (o offset n : ℕ) : Type 0 where
@@ -16,4 +16,4 @@ pub record Writable (s : Store) (o offset n : ℕ) : Type 0 where
 
 -- a file that may get as many bytes at an offset as a count asks for and one call moves, where that is not 0
 pub record WritableSome (s : Store) (o offset count : ℕ) : Type 0 where
-  pub some : (n : ℕ) → n ≡ min count mostBytes → n ≢ 0 → Writable s o offset n
+  pub some : (n : ℕ) → n ≡ min count mostTransferBytes → n ≢ 0 → Writable s o offset n

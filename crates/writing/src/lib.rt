@@ -2,10 +2,11 @@
 ghost use mathlib.Core.Path.{_≡_};
 ghost use Prim.Native.Nat.{_+_, _<_, _≤_, max, min};
 ghost use lib.ListN.{length, take};
+ghost use Rattle.kinds.specs.Numbers.{mostTransferBytes};
 ghost use Rattle.spec.specs.Bytes.{part};
 ghost use Rattle.spec.specs.Image.{objects};
 ghost use Rattle.spec.specs.Procedures.{cut};
-ghost use Rattle.spec.specs.Procedures.Data.{mostBytes, writeEdit, writeStore, writeDone};
+ghost use Rattle.spec.specs.Procedures.Data.{writeEdit, writeStore, writeDone};
 ghost use Rattle.laws.proofs.GoodRecords.{GoodRecords, StillGood};
 ghost use Rattle.free_space.specs.Blocks.{UsedMap};
 ghost use Rattle.results.specs.Does.{Does};
@@ -73,9 +74,9 @@ pub fn write_checked(
     requires { ⌜ o .0 < objects (now store) ⌝ }
     requires { ⌜ WritableSome (now store) (o .0) offset count ⌝ }
     requires { ⌜ bytes .start + bytes .length ≤ length (now call) ⌝ }
-    requires { ⌜ min count mostBytes ≤ bytes .length ⌝ }
-    requires { ⌜ StillGood (now store) (writeStore (now store) context (o .0) offset (take (min count mostBytes) (cut (now call) bytes))) ⌝ }
-    ensures { λ r. ⌜ Does (writeDone (now (store .entry)) context (o .0) offset (take (min count mostBytes) (cut (now (call .entry)) bytes))) r (now (store .exit)) ⌝ }
+    requires { ⌜ min count mostTransferBytes ≤ bytes .length ⌝ }
+    requires { ⌜ StillGood (now store) (writeStore (now store) context (o .0) offset (take (min count mostTransferBytes) (cut (now call) bytes))) ⌝ }
+    ensures { λ r. ⌜ Does (writeDone (now (store .entry)) context (o .0) offset (take (min count mostTransferBytes) (cut (now (call .entry)) bytes))) r (now (store .exit)) ⌝ }
 {
     let wanted = count as usize;
     let n = transferred(wanted);

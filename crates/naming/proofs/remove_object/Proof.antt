@@ -2,8 +2,9 @@ use Prim.Native.Nat.{_+_, _≤_, zero-le}
 use native.Mathlib.Omega.{arith}
 use lib.ListN.{length}
 use borrow.Author.Needs.{needs}
+use Rattle.kinds.specs.Layout.{objectLength}
 use Rattle.kinds.specs.Objects.{freeObject}
-use Rattle.spec.specs.Image.{objectStart, objectLength}
+use Rattle.spec.specs.Image.{objectStart}
 use Rattle.naming.proofs.RemovedObject.{Removing, child-below, child-record, child-size, child-range, freed-shape, removed}
 use Rattle.naming.proofs.remove_object.Statement.{statement}
 use Rattle.naming.proofs.remove_object.Tie as tie

@@ -4,7 +4,7 @@ use lib.Bits.{bitAnd}
 use lib.Dec.{eqb, leb, ltb}
 use mathlib.Core.Bool.{Bool, true, false, _&&_, _||_, not, cond}
 use mathlib.Core.List.{List}
-use Rattle.kinds.specs.Numbers.{OK, INVAL, NOSPC, NOT-SYNC}
+use Rattle.kinds.specs.Numbers.{OK, INVAL, NOSPC, NOT-SYNC, nanosecondsEnd, mostFileBytes, mostMode, fileRights, directoryRights}
 use Rattle.kinds.specs.declared.object.Time.{Time}
 use Rattle.kinds.specs.declared.object.Context.{Context}
 use Rattle.kinds.specs.declared.call.SetNumber.{SetNumber}
@@ -40,11 +40,11 @@ numberOver most (SetNumber.To n) = ltb most n
 abbrev pub badTime : SetTime → Bool
 badTime SetTime.Keep = false
 badTime SetTime.ToServer = false
-badTime (SetTime.ToClient t) = leb 1000000000 (t .nanoseconds)
+badTime (SetTime.ToClient t) = leb nanosecondsEnd (t .nanoseconds)
 
 -- "INVAL for mode over 4,095, client nanoseconds of 1,000,000,000 or more, .. size over 8,192"
 unfoldable pub badAttributes : Settable → Bool
-badAttributes a = numberOver 4095 (a .mode) || badTime (a .atime) || badTime (a .mtime) || ltb 8192 (sizeSet (a .size) 0)
+badAttributes a = numberOver mostMode (a .mode) || badTime (a .atime) || badTime (a .mtime) || ltb mostFileBytes (sizeSet (a .size) 0)
 
 -- "NOSPC for growth past the free blocks": the blocks to be added for a file that grows from one size to another
 unfoldable pub lacksRoom : Store → ℕ → ℕ → Bool
@@ -104,7 +104,7 @@ setattr s c h a g = settle s (failChanging s h) (checkSetattr s h a g) (λ o. ed
 
 -- "the request's bits within 0x2D for files, 0x1F for directories"
 unfoldable pub grantedBits : Store → ℕ → ℕ → ℕ
-grantedBits s o bits = bitAnd bits (cond (isDirectory s o) 0x1F 0x2D)
+grantedBits s o bits = bitAnd bits (cond (isDirectory s o) directoryRights fileRights)
 
 unfoldable pub access : Store → List ℕ → ℕ → Done
 access s h bits = settle s (failShowing s h) (reach s h) (λ o. unchanged s (granted (attributes s o) (grantedBits s o bits)))

@@ -4,7 +4,7 @@ use lib.Dec.{eqb, leb, ltb}
 use lib.ListN.{length, take}
 use mathlib.Core.Bool.{_&&_, not, cond}
 use mathlib.Core.List.{List}
-use Rattle.kinds.specs.Numbers.{INVAL, FBIG, NOSPC}
+use Rattle.kinds.specs.Numbers.{INVAL, FBIG, NOSPC, mostFileBytes, mostTransferBytes}
 use Rattle.kinds.specs.declared.object.Context.{Context}
 use Rattle.spec.specs.Checked.{Checked, _>>=_, _>>_, refuseIf, passed}
 use Rattle.spec.specs.Edits.{setAttributes, mtimeAndCtime, resize, writeFile, readFile}
@@ -21,13 +21,9 @@ reachRegular s h = do
   refuseIf (not (isRegular s o)) INVAL
   passed o
 
--- the most bytes that one READ or WRITE moves
-abbrev pub mostBytes : ℕ
-mostBytes = 4096
-
 -- "n = min(count, 4096, bytes left); eof when offset + n is at least size. Nothing changes; atime stays."
 unfoldable pub readLength : Store → ℕ → ℕ → ℕ → ℕ
-readLength s o offset count = min (min count mostBytes) (sizeOf s o - offset)
+readLength s o offset count = min (min count mostTransferBytes) (sizeOf s o - offset)
 
 unfoldable pub readResult : Store → ℕ → ℕ → ℕ → Result
 readResult s o offset count =
@@ -46,8 +42,8 @@ unfoldable pub checkWrite : Store → List ℕ → ℕ → ℕ → List ℕ → 
 checkWrite s h offset count bytes = do
   o ← reachRegular s h
   refuseIf (not (eqb count (length bytes))) INVAL
-  refuseIf (not (eqb count 0) && ltb 8192 (offset + min count mostBytes)) FBIG
-  refuseIf (not (eqb count 0) && lacksRoom s (sizeOf s o) (grown s o offset (min count mostBytes))) NOSPC
+  refuseIf (not (eqb count 0) && ltb mostFileBytes (offset + min count mostTransferBytes)) FBIG
+  refuseIf (not (eqb count 0) && lacksRoom s (sizeOf s o) (grown s o offset (min count mostTransferBytes))) NOSPC
   passed o
 
 -- "Size becomes max(size, offset + n), a gap reads zero; mtime and ctime set."
@@ -66,7 +62,7 @@ writeDone s c o offset bytes =
 
 unfoldable pub write : Store → Context → List ℕ → ℕ → ℕ → List ℕ → Done
 write s c h offset count bytes =
-    settle s (failChanging s h) (checkWrite s h offset count bytes) (λ o. writeDone s c o offset (take (min count mostBytes) bytes))
+    settle s (failChanging s h) (checkWrite s h offset count bytes) (λ o. writeDone s c o offset (take (min count mostTransferBytes) bytes))
 
 -- "COMMIT (not regular: INVAL)"
 unfoldable pub commit : Store → Context → List ℕ → Done

@@ -4,7 +4,7 @@ use lib.Dec.{eqb, leb, ltb}
 use lib.ListN.{length}
 use mathlib.Core.Bool.{Bool, true, false, _&&_, not, cond}
 use mathlib.Core.List.{List, [], _∷_, _++_, map}
-use Rattle.kinds.specs.Numbers.{BAD-COOKIE, TOOSMALL}
+use Rattle.kinds.specs.Numbers.{BAD-COOKIE, TOOSMALL, mostTransferBytes, listingCost, entryFixedCost}
 use Rattle.spec.specs.Bytes.{padding}
 use Rattle.spec.specs.Checked.{Checked, _>>=_, _>>_, refuseIf, passed}
 use Rattle.spec.specs.Count.{passing}
@@ -56,7 +56,7 @@ unfoldable pub checkReaddir : Store → List ℕ → ℕ → ℕ → ℕ → Che
 checkReaddir s h cookie verifier count = do
   d ← reachDirectory s h
   refuseIf (not (eqb verifier 0)) BAD-COOKIE
-  run ← checkListing 104 24 (min count 4096) (entriesAbove cookie (entries s d))
+  run ← checkListing listingCost entryFixedCost (min count mostTransferBytes) (entriesAbove cookie (entries s d))
   passed (d, run)
 
 -- "eof when nothing remains"

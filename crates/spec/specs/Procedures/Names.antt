@@ -4,7 +4,7 @@ use lib.ListN.{replicate}
 use mathlib.Core.Bool.{Bool, true, false, _&&_, _||_, not, cond}
 use mathlib.Core.List.{List}
 use mathlib.Core.Option.{Option, some, none}
-use Rattle.kinds.specs.Numbers.{NOENT, EXIST, INVAL, NOSPC, NOTSUPP, REGULAR, DIRECTORY}
+use Rattle.kinds.specs.Numbers.{NOENT, EXIST, INVAL, NOSPC, NOTSUPP, REGULAR, DIRECTORY, fileBlocks, unusedBlock}
 use Rattle.kinds.specs.declared.object.Time.{Time}
 use Rattle.kinds.specs.declared.object.Object.{Object}
 use Rattle.kinds.specs.declared.object.Context.{Context}
@@ -54,7 +54,7 @@ roomForNew s size = do
 unfoldable pub newObject : Time → ℕ → Settable → Object
 newObject clock kind a =
     withAttributes clock a
-    (record { kind = kind; generation = 0; mode = 0; uid = 0; gid = 0; size = 0; atime = clock; mtime = clock; ctime = clock; blocks = replicate 16 65535 })
+    (record { kind = kind; generation = 0; mode = 0; uid = 0; gid = 0; size = 0; atime = clock; mtime = clock; ctime = clock; blocks = replicate fileBlocks unusedBlock })
 
 -- "Added or removed names set the directory's mtime and ctime."
 abbrev pub touchDirectory : Store → Context → ℕ → Store

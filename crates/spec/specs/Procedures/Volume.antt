@@ -1,8 +1,9 @@
 -- FSSTAT, FSINFO and PATHCONF.
 use Prim.Native.Nat.{ℕ, _*_}
 use mathlib.Core.List.{List}
+use Rattle.kinds.specs.Layout.{blockLength}
 use Rattle.spec.specs.Handles.{reach, attributes}
-use Rattle.spec.specs.Image.{Store, blockLength, objects, blocks}
+use Rattle.spec.specs.Image.{Store, objects, blocks}
 use Rattle.spec.specs.Results.{Done, unchanged, failShowing, settle, gotRoom, gotLimits, gotNaming}
 use Rattle.spec.specs.Room.{freeBlockCount, availableCount}
 

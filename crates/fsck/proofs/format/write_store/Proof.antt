@@ -1,6 +1,7 @@
 use mathlib.Core.Path.{refl}
 use native.Mathlib.Omega.{arith}
 use Prim.Native.Nat.{_+_, _*_}
+use Rattle.kinds.specs.Layout.{objectsHead, objectLength, nameRecordLength}
 use Rattle.fsck.proofs.Laid.{format-run}
 use borrow.Author.Needs.{needs}
 use Rattle.fsck.proofs.format.write_store.Statement.{statement}
@@ -37,7 +38,7 @@ returns : tie.Need-returns
 returns c =
     let st = c .before .before .before .before .before .before .before .before .before .before .before .before .before in
     let a = st .args in
-    format-run (a .store .now) (c .before .before .before .before .before .before .before .before .before .before .write-front .last .0) (c .before .before .before .before .before .before .put-u32 .last .0) (c .before .before .put-u322 .last .0) (a .stamp) (a .p) (a .q) (a .r) (12 + 80 * a .p) (12 + 80 * a .p + 4 + 44 * a .q) (a .clock)
+    format-run (a .store .now) (c .before .before .before .before .before .before .before .before .before .before .write-front .last .0) (c .before .before .before .before .before .before .put-u32 .last .0) (c .before .before .put-u322 .last .0) (a .stamp) (a .p) (a .q) (a .r) (objectsHead + objectLength * a .p) (objectsHead + objectLength * a .p + 4 + nameRecordLength * a .q) (a .clock)
     (st .pre .0) (st .pre .1 .1 .1) (c .before .before .before .before .before .before .before .before .before .before .write-front .ensures) refl (omega arith) (c .before .before .before .before .before .before .put-u32 .ensures) (c .before .before .put-u322 .ensures)
 
 pub write-store-spec : {M : Type 1} → statement M

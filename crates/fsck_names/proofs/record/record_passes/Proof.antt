@@ -1,6 +1,7 @@
 use native.Mathlib.Omega.{arith}
 use mathlib.Core.Path.{sym, ap, _∙_}
 use Prim.Native.Nat.{ℕ, _+_, _*_}
+use Rattle.kinds.specs.Layout.{namesHead, objectLength, nameRecordLength}
 use Rattle.spec.specs.Bytes.{part}
 use Rattle.spec.specs.Check.{isZero, goodNameRecord}
 use Rattle.fsck_names.proofs.Joins.{used-yes, used-no, length-at}
@@ -22,7 +23,7 @@ unfolding goodNameRecord
 returns c =
     let st = c .before .before .before .before in
     let a = st .args in
-    c .is-free .ensures ∙ ap (λ (k : ℕ). isZero (part (a .store .now) k 44)) (c .before .name-start .ensures ∙ ap (λ (k : ℕ). 16 + 80 * k + 44 * a .n) (st .pre .1 .0))
+    c .is-free .ensures ∙ ap (λ (k : ℕ). isZero (part (a .store .now) k nameRecordLength)) (c .before .name-start .ensures ∙ ap (λ (k : ℕ). namesHead + objectLength * k + nameRecordLength * a .n) (st .pre .1 .0))
     ∙ sym (rw (used-no (a .store .now) (a .n) (sym (st .pre .1 .1 .1 .0) ∙ c .before .before .if1 .taken)))
 
 good-used-requires : tie.Need-good-used-requires

@@ -1,6 +1,7 @@
 use mathlib.Core.Path.{ap, _∙_}
 use Prim.Native.Nat.{ℕ}
 use lib.ListN.{replicate}
+use Rattle.kinds.specs.Layout.{nameRecordLength}
 use Rattle.spec.specs.Bytes.{overlay, bytesOf}
 use Rattle.spec.specs.Image.{nameBytes, putName}
 use borrow.Author.Needs.{needs}
@@ -21,7 +22,7 @@ unfolding putName nameBytes bytesOf
 returns c =
     let at = c .before .before .before .before .name-start .ensures in
     let a = c .before .before .before .before .before .before .before .args in
-    c .before .before .clear-bytes .ensures ∙ ap (λ (q : ℕ). overlay (a .store .now) q (replicate 44 0)) at
+    c .before .before .clear-bytes .ensures ∙ ap (λ (q : ℕ). overlay (a .store .now) q (replicate nameRecordLength 0)) at
 
 pub clear-name-spec : {M : Type 1} → statement M
 clear-name-spec = tie.close (tie.spec name-start-requires clear-bytes-requires same-length returns)
