@@ -4,7 +4,6 @@ use mathlib.Core.Path.{_≡_}
 use mathlib.Core.Bool.{false}
 use native.Mathlib.Omega.{arith}
 use borrow.Author.Tests.{le-ltb}
-use lib.Dec.{ltb}
 use Rattle.kinds.specs.declared.call.SetSize.{SetSize}
 use Rattle.kinds.specs.declared.call.SetSize.the-variants as SetSize
 use Rattle.spec.specs.Image.{Store}
@@ -26,8 +25,5 @@ module _ (s : Store) (o offset n : ℕ) where
       let e : max (sizeOf s o) (offset + n) ≡ sizeOf s o = omega arith in
       rw e (le-ltb (freeBlockCount s) (need (sizeOf s o) - need (sizeOf s o)) (omega arith))
 
-  pub growth : sizeOf s o < offset + n → lacksRoom s (sizeOf s o) (grown s o offset n) ≡ ltb (freeBlockCount s) (need (offset + n) - need (sizeOf s o))
-  unfolding lacksRoom
-  growth h =
-      let e : max (sizeOf s o) (offset + n) ≡ offset + n = omega arith in
-      rw e
+  pub growth : sizeOf s o < offset + n → grown s o offset n ≡ offset + n
+  growth h = omega arith

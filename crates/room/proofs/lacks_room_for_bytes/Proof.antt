@@ -19,23 +19,21 @@ returns c =
     let st = c .before .before .before in
     sym (no-growth (st .args .store .now) (st .args .o .0) (st .args .offset) (st .args .n) (omega arith))
 
-free-block-count-requires : tie.Need-free-block-count-requires
-free-block-count-requires c κs = search needs
-
 add-lacks-room : tie.Need-add-lacks-room
 add-lacks-room c = search needs
 
 lacks-room-requires : tie.Need-lacks-room-requires
-lacks-room-requires c κs = search needs
+lacks-room-requires c κs =
+    let st = c .before .before .before in
+    (st .pre .0, (st .pre .1 .0, (omega arith, omega arith)))
 
 returns-2 : tie.Need-returns-2
 returns-2 c =
-    let st = c .before .before .before .before .before in
+    let st = c .before .before .before .before in
     rw (
       growth (st .args .store .now) (st .args .o .0) (st .args .offset) (st .args .n) (omega arith),
       c .lacks-room .ensures,
-      c .before .before .before .size-of .ensures,
-      c .before .free-block-count .ensures,
+      c .before .before .size-of .ensures,
     )
 
 pub lacks-room-for-bytes-spec : {M : Type 1} → statement M
@@ -46,7 +44,6 @@ lacks-room-for-bytes-spec =
     cast-old
     add-if1
     returns
-    free-block-count-requires
     add-lacks-room
     lacks-room-requires
     returns-2)
