@@ -1,9 +1,16 @@
-/* Calls the check and format from C, and compares each answer and each byte with literals from document 01. Exits 1 on a difference. */
+/*
+ * Calls the check and format from C, prints a line for each answer, and compares it and the bytes with those written out here from the rules of the
+ * store. Exits 1 on a difference.
+ */
 #include "same.h"
 
 #include <string.h>
 
+static int steps;
+
 static void same_number(const char *what, struct nfs3_answer a, uint32_t number) {
+    steps++;
+    printf("answer %u  %s\n", (unsigned)a.number, what);
     same_answer(what, a, number, 0);
 }
 
@@ -23,7 +30,7 @@ static const uint8_t smallest[100] = {
 };
 
 /* The records of a store with P=3, Q=2, R=2: in the root the directory "d", and in that the file "f" of 600 bytes in the blocks 1 and 0. */
-enum { LENGTH = 20 + 80 * 3 + 44 * 2 + 512 * 2, DIRECTORY = 92, FILE_RECORD = 172, NAME_D = 256, NAME_F = 300 };
+enum { LENGTH = NFS3_STORE_LENGTH(3, 2, 2), DIRECTORY = 92, FILE_RECORD = 172, NAME_D = 256, NAME_F = 300 };
 
 static const uint8_t directory_record[80] = {
     0, 0, 0, 2, 0xFF, 0xFF, 0xFF, 0xFE, 0, 0, 0x0F, 0xFF, 0, 0, 0, 7, 0, 0, 0, 8, 0, 0, 0, 0,  /* generation 4,294,967,294, mode 4,095 */
@@ -45,7 +52,7 @@ static const uint8_t name_f[44] = { 0, 0, 0, 1, 0, 0, 0, 2, 0, 0, 0, 1, 'f' }; /
 static uint8_t store[LENGTH];
 
 static void make_store(void) {
-    same_number("format of three objects", nfs3_format(store, LENGTH, 9, 3, 2, 2, 0, 0), 0);
+    same_answer("format of three objects", nfs3_format(store, LENGTH, 9, 3, 2, 2, 0, 0), NFS3_DONE, 0);
     memcpy(store + DIRECTORY, directory_record, 80);
     memcpy(store + FILE_RECORD, file_record, 80);
     memcpy(store + NAME_D, name_d, 44);
@@ -74,8 +81,9 @@ static void formats(void) {
     same_number("format", nfs3_format(buffer, 100, 0x01020304, 1, 0, 0, 0x0A0B0C0D, 999999999), 0);
     same_bytes("format", buffer, smallest, 100);
     same_number("what format left", nfs3_check(buffer, 100), 0);
-    for (size_t len = 0; len < 100; len++)
-        same_number("a shorter store", nfs3_check(buffer, len), 1);
+    for (size_t len = 0; len < 99; len++)
+        same_answer("a shorter store", nfs3_check(buffer, len), NFS3_BAD_STORE, 0);
+    same_number("a shorter store, of any length", nfs3_check(buffer, 99), 1);
 }
 
 static void checks(void) {
@@ -139,5 +147,5 @@ int main(void) {
     checks();
     cycle();
     names();
-    return end();
+    return end("check", steps);
 }

@@ -1,11 +1,13 @@
 /*
- * Sends calls to a store from C, prints what each reply says and its bytes, and compares answers, replies and the store with bytes written out
- * here from document 01 and RFC 1813. Exits 1 on a difference.
+ * Sends calls to a store from C, prints a line for each (procedure, what it is about, status, length of the reply, what came back; with -v also the
+ * words of call and reply), and compares answers, replies and the store with bytes written out here from the rules and RFC 1813. Exits 1 on a
+ * difference.
  *
  * Two bag tags are files of the root: 0123456789 and 123456789. The first is removed; its handle is stale then, and the second is as it was.
  */
 #include "same.h"
 
+#include <stdbool.h>
 #include <string.h>
 
 /* A word of XDR, most significant byte first. */
@@ -59,7 +61,7 @@ enum { OK = 0, STALE = 70 };
 #define FILE_SYNC 2
 
 /* Three objects, two names, two blocks. */
-enum { OBJECTS = 3, NAMES = 2, BLOCKS = 2, LENGTH = 20 + 80 * OBJECTS + 44 * NAMES + 512 * BLOCKS };
+enum { OBJECTS = 3, NAMES = 2, BLOCKS = 2, LENGTH = NFS3_STORE_LENGTH(OBJECTS, NAMES, BLOCKS) };
 enum { NAME_0 = 16 + 80 * OBJECTS, NAME_1 = NAME_0 + 44, BLOCK_0 = NAME_1 + 48, BLOCK_1 = BLOCK_0 + 512 };
 #define NO_BLOCKS_4 255, 255, 255, 255, 255, 255, 255, 255
 
@@ -77,13 +79,16 @@ static const uint8_t last[LENGTH] = {
     [BLOCK_1] = 'T', 'R', 'D', ' ', 'g', 'a', 't', 'e', ' ', '7',
 };
 
-static uint8_t store[LENGTH], reply[4224];
+static uint8_t store[LENGTH], reply[NFS3_REPLY_SPACE];
+static bool verbose;
+static int calls;
 
 static uint32_t word(const uint8_t *bytes, size_t at) {
     return (uint32_t)bytes[at] << 24 | (uint32_t)bytes[at + 1] << 16 | (uint32_t)bytes[at + 2] << 8 | bytes[at + 3];
 }
 
-static void print_words(const uint8_t *bytes, size_t len) {
+static void print_words(const char *what, const uint8_t *bytes, size_t len) {
+    printf("    %s, %u bytes:", what, (unsigned)len);
     for (size_t i = 0; i + 4 <= len; i += 4)
         printf("%s%08X", i % 32 == 0 ? "\n      " : " ", (unsigned)word(bytes, i));
     printf("\n");
@@ -93,11 +98,23 @@ static void print_text(const uint8_t *bytes, size_t len) {
     printf("\"%.*s\"", (int)len, (const char *)bytes);
 }
 
+static const char *procedure_name(uint32_t procedure) {
+    switch (procedure) {
+    case GETATTR: return "GETATTR";
+    case READ: return "READ";
+    case WRITE: return "WRITE";
+    case CREATE: return "CREATE";
+    case REMOVE: return "REMOVE";
+    case READDIR: return "READDIR";
+    default: return "another";
+    }
+}
+
 static const char *status_name(uint32_t status) {
     switch (status) {
     case OK: return "OK";
-    case STALE: return "STALE, the handle of an object that is no more";
-    default: return "another status";
+    case STALE: return "STALE";
+    default: return "another";
     }
 }
 
@@ -106,61 +123,71 @@ static void tell_entries(size_t len) {
     size_t at = 124;
     while (at + 16 <= len && word(reply, at) == 1) {
         uint32_t name = word(reply, at + 12);
-        if (name > 32 || at + 24 + name > len)
+        if (name > NFS3_NAME_MOST || at + 24 + name > len)
             return;
-        printf(", ");
         print_text(reply + at + 16, name);
-        printf(" with fileid %u", (unsigned)word(reply, at + 8));
+        printf(" with fileid %u, ", (unsigned)word(reply, at + 8));
         at += 24 + (name + 3) / 4 * 4;
     }
     if (at + 8 <= len)
-        printf(word(reply, at + 4) ? ", and no more" : ", and more to come");
+        printf(word(reply, at + 4) ? "no more" : "more to come");
 }
 
 /* What an OK reply says in plain words. */
 static void tell_result(uint32_t procedure, size_t len) {
     if (procedure == GETATTR && len == 112)
-        printf(", size %u", (unsigned)word(reply, 52));
+        printf("size %u", (unsigned)word(reply, 52));
     if (procedure == CREATE && len == 252)
-        printf(", handle: stamp %08X, object %u, generation %u", (unsigned)word(reply, 36), (unsigned)word(reply, 40), (unsigned)word(reply, 44));
+        printf("handle: stamp %08X, object %u, generation %u", (unsigned)word(reply, 36), (unsigned)word(reply, 40), (unsigned)word(reply, 44));
     if (procedure == WRITE && len == 160)
-        printf(", %u bytes written", (unsigned)word(reply, 144));
+        printf("%u bytes written", (unsigned)word(reply, 144));
     if (procedure == READ && len >= 128 && word(reply, 124) <= len - 128) {
-        printf(", %u bytes: ", (unsigned)word(reply, 124));
+        printf("%u bytes: ", (unsigned)word(reply, 124));
         print_text(reply + 128, word(reply, 124));
     }
+    if (procedure == REMOVE && len == 144)
+        printf("the name is free again");
     if (procedure == READDIR)
         tell_entries(len);
 }
 
+/* One line on what came back: with answer 0 a reply with a status. */
+static void tell(const char *about, uint32_t procedure, struct nfs3_answer a) {
+    printf("%-8s %-11s ", procedure_name(procedure), about);
+    if (a.number != NFS3_DONE || a.length < 28 || a.length > sizeof reply) {
+        printf("answer %u, length %u\n", (unsigned)a.number, (unsigned)a.length);
+        return;
+    }
+    printf("%-6s %4u bytes  ", status_name(word(reply, 24)), (unsigned)a.length);
+    if (word(reply, 24) == OK)
+        tell_result(procedure, a.length);
+    else if (word(reply, 24) == STALE)
+        printf("the handle of a file that is no more");
+    printf("\n");
+}
+
 /* Sends a call, tells what came back, and compares it with the wanted reply. The reply space past the reply stays as it was. */
-static void send(const char *what, uint32_t seconds, const uint8_t *call, size_t call_len, const uint8_t *wanted, size_t wanted_len) {
+static void send(const char *about, uint32_t seconds, const uint8_t *call, size_t call_len, const uint8_t *wanted, size_t wanted_len) {
     memset(reply, 0x5A, sizeof reply);
     struct nfs3_answer a = nfs3_call(call, call_len, store, LENGTH, reply, sizeof reply, seconds, 0, VERIFIER);
-    printf("\n%s\n  call, %u bytes:", what, (unsigned)call_len);
-    print_words(call, call_len);
-    printf("  answer %u", (unsigned)a.number);
-    if (a.number == 0 && a.length >= 28 && a.length <= sizeof reply) {
-        printf(", status %u: %s", (unsigned)word(reply, 24), status_name(word(reply, 24)));
-        if (word(reply, 24) == OK)
-            tell_result(word(call, 20), a.length);
-        printf("\n  reply, %u bytes:", (unsigned)a.length);
-        print_words(reply, a.length);
-    } else {
-        printf(", length %u\n", (unsigned)a.length);
+    calls++;
+    tell(about, word(call, 20), a);
+    if (verbose) {
+        print_words("call", call, call_len);
+        print_words("reply", reply, a.length <= sizeof reply ? a.length : 0);
     }
-    same_answer(what, a, 0, wanted_len);
-    same_bytes(what, reply, wanted, wanted_len);
+    same_answer(about, a, NFS3_DONE, wanted_len);
+    same_bytes(about, reply, wanted, wanted_len);
     for (size_t i = wanted_len; i < sizeof reply; i++) {
         if (reply[i] != 0x5A) {
-            printf("%s: byte %u, past the reply, is changed\n", what, (unsigned)i);
+            printf("%s: byte %u, past the reply, is changed\n", about, (unsigned)i);
             differences++;
             return;
         }
     }
 }
 
-#define SEND(what, seconds, call, wanted) send(what, seconds, call, sizeof call, wanted, sizeof wanted)
+#define SEND(about, seconds, call, wanted) send(about, seconds, call, sizeof call, wanted, sizeof wanted)
 
 static void make(void) {
     static const uint8_t create_first[] = { CALL(1, CREATE), ROOT, FIRST_NAME, GUARDED_420 };
@@ -175,10 +202,10 @@ static void make(void) {
     static const uint8_t write_second[] = { CALL(4, WRITE), SECOND, HYPER(0), W(10), W(FILE_SYNC), SECOND_DATA };
     static const uint8_t wrote_second[] = { REPLY(4), W(OK), BEFORE(0, 1002), W(1), FILE_ATTRIBUTES(10, 512, 3, 1002, 1004),
                                             W(10), W(FILE_SYNC), W(0x11223344), W(0x55667788) };
-    SEND("CREATE 0123456789", 1001, create_first, created_first);
-    SEND("CREATE 123456789", 1002, create_second, created_second);
-    SEND("WRITE to 0123456789", 1003, write_first, wrote_first);
-    SEND("WRITE to 123456789", 1004, write_second, wrote_second);
+    SEND("0123456789", 1001, create_first, created_first);
+    SEND("123456789", 1002, create_second, created_second);
+    SEND("0123456789", 1003, write_first, wrote_first);
+    SEND("123456789", 1004, write_second, wrote_second);
 }
 
 static void look(void) {
@@ -189,9 +216,9 @@ static void look(void) {
     static const uint8_t got_first[] = { REPLY(6), W(OK), W(1), FILE_ATTRIBUTES(11, 512, 2, 1001, 1003), W(11), W(1), FIRST_DATA };
     static const uint8_t read_second[] = { CALL(7, READ), SECOND, HYPER(0), W(4096) };
     static const uint8_t got_second[] = { REPLY(7), W(OK), W(1), FILE_ATTRIBUTES(10, 512, 3, 1002, 1004), W(10), W(1), SECOND_DATA };
-    SEND("READDIR of the root", 1005, list, listed);
-    SEND("READ of 0123456789", 1005, read_first, got_first);
-    SEND("READ of 123456789", 1005, read_second, got_second);
+    SEND("the root", 1005, list, listed);
+    SEND("0123456789", 1005, read_first, got_first);
+    SEND("123456789", 1005, read_second, got_second);
 }
 
 static void take_away(void) {
@@ -203,10 +230,10 @@ static void take_away(void) {
     static const uint8_t read_stale[] = { REPLY(10), W(STALE), W(0) };
     static const uint8_t write_first[] = { CALL(11, WRITE), FIRST, HYPER(0), W(11), W(FILE_SYNC), FIRST_DATA };
     static const uint8_t write_stale[] = { REPLY(11), W(STALE), W(0), W(0) };
-    SEND("REMOVE 0123456789", 1005, remove_first, removed_first);
-    SEND("GETATTR with the handle of the removed file", 1006, getattr_first, getattr_stale);
-    SEND("READ with the handle of the removed file", 1006, read_first, read_stale);
-    SEND("WRITE with the handle of the removed file", 1006, write_first, write_stale);
+    SEND("0123456789", 1005, remove_first, removed_first);
+    SEND("0123456789", 1006, getattr_first, getattr_stale);
+    SEND("0123456789", 1006, read_first, read_stale);
+    SEND("0123456789", 1006, write_first, write_stale);
 }
 
 static void look_again(void) {
@@ -216,20 +243,25 @@ static void look_again(void) {
     static const uint8_t attributes_second[] = { REPLY(13), W(OK), FILE_ATTRIBUTES(10, 512, 3, 1002, 1004) };
     static const uint8_t read_second[] = { CALL(14, READ), SECOND, HYPER(0), W(4096) };
     static const uint8_t got_second[] = { REPLY(14), W(OK), W(1), FILE_ATTRIBUTES(10, 512, 3, 1002, 1004), W(10), W(1), SECOND_DATA };
-    SEND("READDIR of the root", 1007, list, listed);
-    SEND("GETATTR of 123456789", 1007, getattr_second, attributes_second);
-    SEND("READ of 123456789", 1007, read_second, got_second);
+    SEND("the root", 1007, list, listed);
+    SEND("123456789", 1007, getattr_second, attributes_second);
+    SEND("123456789", 1007, read_second, got_second);
 }
 
-int main(void) {
-    printf("format of a store of %d bytes: %d objects, %d names, %d blocks\n", LENGTH, OBJECTS, NAMES, BLOCKS);
-    same_answer("format", nfs3_format(store, LENGTH, STAMP, OBJECTS, NAMES, BLOCKS, 1000, 0), 0, 0);
+int main(int argc, char **argv) {
+    verbose = argc == 2 && strcmp(argv[1], "-v") == 0;
+    if (argc > 2 || (argc == 2 && !verbose)) {
+        fprintf(stderr, "usage: run [-v]\n");
+        return 2;
+    }
+    printf("format   %d objects, %d names, %d blocks: %d bytes\n", OBJECTS, NAMES, BLOCKS, LENGTH);
+    same_answer("format", nfs3_format(store, LENGTH, STAMP, OBJECTS, NAMES, BLOCKS, 1000, 0), NFS3_DONE, 0);
     make();
     look();
     take_away();
     look_again();
-    printf("\nthe store at the end: its check, and each of its bytes\n");
-    same_answer("the check", nfs3_check(store, LENGTH), 0, 0);
+    printf("check    the store, and each of its %d bytes\n", LENGTH);
+    same_answer("the check", nfs3_check(store, LENGTH), NFS3_DONE, 0);
     same_bytes("the store", store, last, LENGTH);
-    return end();
+    return end("run", calls);
 }

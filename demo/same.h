@@ -25,10 +25,9 @@ static inline void same_bytes(const char *what, const uint8_t *got, const uint8_
     }
 }
 
-/* The last line, and the status to exit with. */
-static inline int end(void) {
-    if (differences == 0)
-        printf("no difference\n");
+/* Prints the last line of a program that took so many steps, and gives the status to exit with. */
+static inline int end(const char *program, int steps) {
+    printf("%s: %d steps, %d differences\n", program, steps, differences);
     return differences != 0;
 }
 

@@ -101,14 +101,16 @@ impl Text {
     }
 
     /// A number that depends on the directory and on every byte. Its high
-    /// bits are well mixed.
+    /// bits are well mixed. The factors of the words are digits of pi, chosen
+    /// so that names spread that differ in one or two bytes: no factor, moved
+    /// by whole bytes, comes near another.
     #[inline(always)]
     pub fn hash(&self, directory: u32) -> u64 {
         u64::from(directory)
             .wrapping_mul(0x9E37_79B9_7F4A_7C15)
-            .wrapping_add(self.0[0].wrapping_mul(0xC2B2_AE3D_27D4_EB4F))
-            .wrapping_add(self.0[1].wrapping_mul(0x1656_67B1_9E37_79F9))
-            .wrapping_add(self.0[2].wrapping_mul(0x85EB_CA77_C2B2_AE63))
-            .wrapping_add(self.0[3].wrapping_mul(0x27D4_EB2F_1656_67C5))
+            .wrapping_add(self.0[0].wrapping_mul(0xD131_0BA6_98DF_B5AD))
+            .wrapping_add(self.0[1].wrapping_mul(0x4528_21E6_38D0_1377))
+            .wrapping_add(self.0[2].wrapping_mul(0x9216_D5D9_8979_FB1B))
+            .wrapping_add(self.0[3].wrapping_mul(0x243F_6A88_85A3_08D3))
     }
 }

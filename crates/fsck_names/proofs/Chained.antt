@@ -18,11 +18,11 @@ use Rattle.spec.specs.Room.{isUsedName, isNamed}
 use Rattle.spec.specs.Check.{goodNameRecord, isDistinct, passes}
 use Rattle.laws.proofs.Bytes.{lt-or-le}
 use Rattle.laws.proofs.Count.{by-bool, true-false, and-both, every-at, sum-more, sum-at, sum-zero}
-use Rattle.fsck_objects.specs.Told.{Shaped}
+use Rattle.fsck_objects.specs.Told.{Shaped, Told}
 use Rattle.fsck_objects.specs.Objects.{Blank}
 use Rattle.fsck_objects.proofs.Marks.{sum-grows}
-use Rattle.fsck_objects.proofs.Passes.{fails-distinct}
-use Rattle.fsck_names.specs.Distinct.{hash, last, isSame, New, Chains}
+use Rattle.fsck_objects.proofs.Passes.{told-true, told-false, fails-distinct}
+use Rattle.fsck_names.specs.Distinct.{hash, last, isSame, Used, New, Chains}
 use Rattle.fsck_names.proofs.Joins.{UsedWell, used-well, record-used}
 use Rattle.fsck_names.proofs.Same.{alike, same-self, same-hash}
 
@@ -72,61 +72,70 @@ one-more : (k : ℕ) → (k ≡ 0 → ⊥) → k ≡ suc (k - 1)
 one-more zero z = absurd (z refl)
 one-more (suc k) z = omega arith
 
+-- ---- one test more, where the store fails if it is true
+told-or : {facts more : Type 0} {s : Store} (t u : Bool) → Told (not t) s facts → (facts → u ≡ false → more) → (u ≡ true → passes s ≡ false) → Told (not (t || u)) s more
+told-or true u a f g = told-false (a .no refl)
+told-or false true a f g = told-false (g refl)
+told-or false false a f g = told-true (f (a .yes refl) refl)
+
 -- ---- the walk from the last record with the hash of record n
-pub record Walked (s : Store) (n h k : ℕ) : Type 0 where
+pub record Walked (s : Store) (n h : ℕ) (found : Bool) (k : ℕ) : Type 0 where
   pub most : k ≤ n
-  pub clear : (m : ℕ) → k ≤ m → m < n → isSame s n m ≡ false
+  pub told : Told (not found) s ((m : ℕ) → k ≤ m → m < n → isSame s n m ≡ false)
   pub at : (k ≡ 0 → ⊥) → (isUsedName s (k - 1) ≡ true) × (hash s (k - 1) ≡ h)
 
-module _ (s : Store) (t : Shaped s) (n h : ℕ) (w : New s n h) where
-  well : (m : ℕ) → m < n → isUsedName s m ≡ true → UsedWell s m
-  well m l u = used-well s m t (omega (arith, w .below)) (record-used s m u (every-at (goodNameRecord s) n m (w .before) l))
+pub used-good : (s : Store) (t : Shaped s) (n : ℕ) → Used s n → UsedWell s n
+used-good s t n w = used-well s n t (w .below) (record-used s n (w .used) (w .good))
 
-  pub well-n : UsedWell s n
-  well-n = used-well s n t (w .below) (record-used s n (w .used) (w .good))
+module _ (s : Store) (t : Shaped s) (n h : ℕ) (w : New s n h) where
+  pub used-before : (m : ℕ) → m < n → isUsedName s m ≡ true → Used s m
+  used-before m l u = record { below = omega (arith, w .itself .below); used = u; good = every-at (goodNameRecord s) n m (w .before) l }
 
   -- a record with another hash, or free, is another one
   other : (m : ℕ) → m < n → (isUsedName s m ≡ true → hash s m ≡ h → ⊥) → isSame s n m ≡ false
   other m l f =
       by-bool (isSame s n m)
       (λ e. by-bool (isUsedName s m)
-      (λ u. absurd (f u (same-hash s t n m (w .below) (omega (arith, w .below)) well-n (well m l u) e ∙ sym (w .hashed))))
+      (λ u. let v = used-before m l u in absurd (f u (same-hash s t n m (w .itself .below) (v .below) (used-good s t n (w .itself)) (used-good s t m v) e ∙ sym (w .hashed))))
       (λ u. true-false (sym (alike s n m e .used) ∙ u)))
       (λ e. e)
 
-  pub walk-start : (k : ℕ) → k ≡ last s n h → Walked s n h k
+  pub walk-start : (k : ℕ) → k ≡ last s n h → Walked s n h false k
   walk-start k e =
       record {
         most = omega (arith, last-most s h n);
-        clear = λ m l q. other m q (λ u v. last-above s h n m (rw e at l) q u v);
+        told = told-true (λ m l q. other m q (λ u v. last-above s h n m (rw e at l) q u v));
         at = λ z. last-at s h n (k - 1) (sym e ∙ one-more k z);
       }
 
   pub walk-less : (i k : ℕ) → (i ≡ 0 → ⊥) → k ≡ last s (i - 1) (hash s (i - 1)) → k < i
   walk-less i k z e = let a = last-most s (hash s (i - 1)) (i - 1) in let b = one-more i z in omega arith
 
-  walk-on : (i j k : ℕ) → i ≡ suc j → hash s j ≡ h → Walked s n h i → isSame s n j ≡ false → k ≡ last s j (hash s j) → Walked s n h k
-  walk-on i j k q g a f e =
+  -- a record before n that is the same
+  walk-same : (m : ℕ) → m < n → isSame s n m ≡ true → passes s ≡ false
+  unfolding isDistinct
+  walk-same m l e =
+      let v = w .itself in
+      let b = count-two (isNamed s (nameAt s n .directory) (nameAt s n .text)) (names s) n m l (v .below) e (same-self s t n (v .below) (used-good s t n v) (v .used)) in
+      fails-distinct s n (v .below) (rw (v .used) (ne-eqb (count (names s) (isNamed s (nameAt s n .directory) (nameAt s n .text))) 1 (λ q. absurd (omega arith))))
+
+  walk-on : (i j k : ℕ) (found : Bool) → i ≡ suc j → hash s j ≡ h → Walked s n h found i → k ≡ last s j (hash s j) → Walked s n h (found || isSame s n j) k
+  walk-on i j k found q g a e =
       let r : k ≡ last s j h = e ∙ ap (last s j) g in
       let b = last-most s h j in
       record {
         most = omega (arith, a .most);
-        clear = λ m l x. ⊎-elim
+        told = told-or found (isSame s n j) (a .told)
+            (λ c f m l x. ⊎-elim
             (λ (v : m < j). other m x (λ u y. last-above s h j m (rw r at l) v u y))
-            (λ (v : j ≤ m). by-cases (ℕ-discrete m j) (λ (y : m ≡ j). rw y f) (λ (y : m ≢ j). a .clear m (omega arith) x))
-            (lt-or-le m j);
+            (λ (v : j ≤ m). by-cases (ℕ-discrete m j) (λ (y : m ≡ j). rw y f) (λ (y : m ≢ j). c m (omega arith) x))
+            (lt-or-le m j))
+            (walk-same j (omega (arith, a .most)));
         at = λ z. last-at s h j (k - 1) (sym r ∙ one-more k z);
       }
 
-  pub walk-step : (i k : ℕ) → (i ≡ 0 → ⊥) → Walked s n h i → isSame s n (i - 1) ≡ false → k ≡ last s (i - 1) (hash s (i - 1)) → Walked s n h k
-  walk-step i k z a f e = walk-on i (i - 1) k (one-more i z) (a .at z .1) a f e
-
-  -- a record before n that is the same
-  pub walk-same : (m : ℕ) → m < n → isSame s n m ≡ true → passes s ≡ false
-  unfolding isDistinct
-  walk-same m l e =
-      let b = count-two (isNamed s (nameAt s n .directory) (nameAt s n .text)) (names s) n m l (w .below) e (same-self s t n (w .below) well-n (w .used)) in
-      fails-distinct s n (w .below) (rw (w .used) (ne-eqb (count (names s) (isNamed s (nameAt s n .directory) (nameAt s n .text))) 1 (λ q. absurd (omega arith))))
+  pub walk-step : (i k : ℕ) (found : Bool) → (i ≡ 0 → ⊥) → Walked s n h found i → k ≡ last s (i - 1) (hash s (i - 1)) → Walked s n h (found || isSame s n (i - 1)) k
+  walk-step i k found z a e = walk-on i (i - 1) k found (one-more i z) (a .at z .1) a e
 
 -- ---- the chains before the first record, after a free one and after a used one
 pub chains-none : (s : Store) (head next : List ℕ) → Blank 256 head → Blank 128 next → Chains s 0 head next

@@ -29,17 +29,18 @@ used-is s p n len at e f g = rw (g, e, f)
 -- what the demands give
 pub record UsedWell (s : Store) (n : ℕ) : Type 0 where
   pub short : nameLength s n ≤ 32
+  pub bytes : goodBytes (nameAt s n .text) ≡ true
   pub padded : isZero (part s (nameStart s n + 12 + nameLength s n) (32 - nameLength s n)) ≡ true
   pub directory : nameAt s n .directory < objects s
   pub child : nameAt s n .child < objects s
   pub live : isLive s (nameAt s n .child) ≡ true
 
-short-text : (xs : List ℕ) → goodName xs ≡ true → length xs ≤ 32
+short-text : (xs : List ℕ) → goodName xs ≡ true → (length xs ≤ 32) × (goodBytes xs ≡ true)
 unfolding goodName
 short-text xs e =
     let a = and-both (leb 1 (length xs) && leb (length xs) 32 && goodBytes xs) (not (isDots xs)) e .0 in
-    let b = and-both (leb 1 (length xs) && leb (length xs) 32) (goodBytes xs) a .0 in
-    leb-true (length xs) 32 (and-both (leb 1 (length xs)) (leb (length xs) 32) b .1)
+    let b = and-both (leb 1 (length xs) && leb (length xs) 32) (goodBytes xs) a in
+    (leb-true (length xs) 32 (and-both (leb 1 (length xs)) (leb (length xs) 32) (b .0) .1), b .1)
 
 -- the stated length is that of the text, unless the text runs out of the store
 long-text : (s : Store) (n : ℕ) → Shaped s → n < names s → length (nameAt s n .text) ≤ 32 → nameLength s n ≤ 32
@@ -55,10 +56,12 @@ used-well s n t h e =
     let a = and-both (goodName (nameAt s n .text) && z && (ltb d (objects s) && isDirectory s d)) (ltb k (objects s) && isLive s k) e in
     let b = and-both (goodName (nameAt s n .text) && z) (ltb d (objects s) && isDirectory s d) (a .0) in
     let f = and-both (goodName (nameAt s n .text)) z (b .0) in
+    let x = short-text (nameAt s n .text) (f .0) in
     let g = and-both (ltb d (objects s)) (isDirectory s d) (b .1) in
     let i = and-both (ltb k (objects s)) (isLive s k) (a .1) in
     record {
-      short = long-text s n t h (short-text (nameAt s n .text) (f .0));
+      short = long-text s n t h (x .0);
+      bytes = x .1;
       padded = f .1;
       directory = ltb-true d (objects s) (g .0);
       child = ltb-true k (objects s) (i .0);

@@ -1,7 +1,7 @@
 -- The 32 bytes of a name record: those of the name, and zero. Assumes nothing.
 use mathlib.Core.Path.{_≡_, refl, sym, ap, ap₂, _∙_}
 use mathlib.Core.Bool.{Bool, true, false, _&&_, _||_, not, cond, Bool·beq}
-use mathlib.Core.List.{List}
+use mathlib.Core.List.{List, [], _∷_, _++_}
 use Prim.Native.Nat.{ℕ, zero, suc, _+_, _-_, _≤_, _<_}
 use native.Mathlib.Nat.{add-zero, add-suc}
 use native.Mathlib.Numerals.{add-one}
@@ -9,13 +9,14 @@ use native.Mathlib.Omega.{arith}
 use lib.Dec.{eqb, ltb}
 use lib.ListN.{length, getD}
 use borrow.Author.Tests.{lt-ltb, le-ltb, eq-eqb, ne-eqb, eqb-true}
-use Rattle.spec.specs.Bytes.{part, beAt, allBytes}
+use Rattle.spec.specs.Bytes.{part, beOf, bytesOf, beAt, sameBytes, allBytes}
 use Rattle.spec.specs.Count.{every}
 use Rattle.spec.specs.Image.{Store}
 use Rattle.spec.specs.Names.{isDots, goodByte, goodBytes, goodName}
 use Rattle.spec.specs.Check.{isZero}
-use Rattle.laws.proofs.Bytes.{part-length}
+use Rattle.laws.proofs.Bytes.{part-add, part-length, same-eq, same-yes}
 use Rattle.laws.proofs.Count.{by-bool, true-false}
+use Rattle.laws.proofs.Range.{Below, bytes-kept}
 use Rattle.fsck_objects.specs.Objects.{Inside}
 use Rattle.fsck_objects.proofs.Zeros.{and-true, and-assoc, all-none, all-next, zero-add, be-zero, zero-be}
 use Rattle.fsck_objects.proofs.Marks.{outside}
@@ -93,6 +94,41 @@ module _ (s : Store) (at n : ℕ) (fits : at + 32 ≤ length s) (least : 1 ≤ n
   pub text-yes : (dots : Bool) → dots ≡ isDots (part s at n) → goodBytes (part s at n) && isZero (part s (at + n) (32 - n)) ≡ true
       → goodName (part s at n) && isZero (part s (at + n) (32 - n)) ≡ not dots
   text-yes dots d e = rw (named, d) (padded-yes (goodBytes (part s at n)) (isZero (part s (at + n) (32 - n))) (not (isDots (part s at n))) e)
+
+-- ---- the bytes of two parts, by their numbers and half by half
+pub same-number : (s : Store) (a b w : ℕ) → Below 256 s → a + w ≤ length s → b + w ≤ length s → eqb (beAt s a w) (beAt s b w) ≡ sameBytes (part s a w) (part s b w)
+unfolding beAt
+same-number s a b w f h l =
+    by-bool (sameBytes (part s a w) (part s b w))
+    (λ e. eq-eqb (beAt s a w) (beAt s b w) (ap beOf (same-eq (part s a w) (part s b w) e)) ∙ sym e)
+    (λ e. ne-eqb (beAt s a w) (beAt s b w)
+    (λ q. true-false (sym (same-yes (part s a w) (part s b w) (sym (bytes-kept s f w a h) ∙ ap (bytesOf w) q ∙ bytes-kept s f w b l)) ∙ e))
+    ∙ sym e)
+
+same-append : (xs ys us vs : List ℕ) → length xs ≡ length ys → sameBytes (xs ++ us) (ys ++ vs) ≡ sameBytes xs ys && sameBytes us vs
+unfolding sameBytes
+same-append [] [] us vs e = refl
+same-append [] (y ∷ ys) us vs e = absurd (omega arith)
+same-append (x ∷ xs) [] us vs e = absurd (omega arith)
+same-append (x ∷ xs) (y ∷ ys) us vs e =
+    ap (λ (t : Bool). eqb x y && t) (same-append xs ys us vs (omega arith)) ∙ and-assoc (eqb x y) (sameBytes xs ys) (sameBytes us vs)
+
+pub same-halves : (s : Store) (a b m n : ℕ) → a + m ≤ length s → b + m ≤ length s
+    → sameBytes (part s a m) (part s b m) && sameBytes (part s (a + m) n) (part s (b + m) n) ≡ sameBytes (part s a (m + n)) (part s b (m + n))
+same-halves s a b m n h l =
+    sym (rw (part-add s a m n, part-add s b m n)
+    (same-append (part s a m) (part s b m) (part s (a + m) n) (part s (b + m) n) (part-length s a m h ∙ sym (part-length s b m l))))
+
+pub same-quarters : (s : Store) (a b : ℕ) → a + 32 ≤ length s → b + 32 ≤ length s → (t u v w : Bool)
+    → t ≡ sameBytes (part s a 8) (part s b 8) → u ≡ sameBytes (part s (a + 8) 8) (part s (b + 8) 8)
+    → v ≡ sameBytes (part s (a + 16) 8) (part s (b + 16) 8) → w ≡ sameBytes (part s (a + 24) 8) (part s (b + 24) 8)
+    → t && u && (v && w) ≡ sameBytes (part s a 32) (part s b 32)
+same-quarters s a b h l t u v w et eu ev ew =
+    let x : a + 16 + 8 ≡ a + 24 = omega arith in
+    let y : b + 16 + 8 ≡ b + 24 = omega arith in
+    let front : t && u ≡ sameBytes (part s a 16) (part s b 16) = rw (et, eu) (same-halves s a b 8 8 (omega arith) (omega arith)) in
+    let back : v && w ≡ sameBytes (part s (a + 16) 16) (part s (b + 16) 16) = rw (ev, ew, ← x, ← y) (same-halves s (a + 16) (b + 16) 8 8 (omega arith) (omega arith)) in
+    ap₂ (λ (i j : Bool). i && j) front back ∙ same-halves s a b 16 16 (omega arith) (omega arith)
 
 -- ---- a free record, whose length is 0
 number-zero : (s : Store) (at w : ℕ) → isZero (part s at w) ≡ eqb (beAt s at w) 0

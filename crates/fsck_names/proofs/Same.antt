@@ -4,30 +4,23 @@ use mathlib.Core.Bool.{Bool, true, false, _&&_}
 use mathlib.Core.List.{List, [], _∷_, _++_}
 use Prim.Native.Nat.{ℕ, zero, suc, _+_, _*_, _-_, _/_, _%_, _^_, _≤_, _<_}
 use native.Mathlib.Nat.{add-zero}
+use native.Mathlib.Numerals.{towards-suc}
 use native.Mathlib.Omega.{arith}
 use lib.Dec.{eqb, lit≤}
-use lib.ListN.{length, replicate}
+use lib.ListN.{length, getD, replicate, drop}
 use borrow.Author.Tests.{eqb-true, eq-eqb}
-use Rattle.spec.specs.Bytes.{part, beAt, sameBytes, allBytes}
+use Rattle.spec.specs.Bytes.{part, digits, beOf, sameBytes, allBytes}
 use Rattle.spec.specs.Image.{Store, objects, names, nameStart, nameFrom, nameAt, nameLength}
 use Rattle.spec.specs.Room.{isUsedName, isIn, isNamed}
+use Rattle.spec.specs.Names.{goodByte, goodBytes}
 use Rattle.spec.specs.Check.{isZero}
-use Rattle.laws.proofs.Bytes.{part-add, part-length, be-part, same-yes}
+use Rattle.laws.proofs.Bytes.{part-cons, part-add, part-length, part-part, same-eq, same-yes}
 use Rattle.laws.proofs.Count.{by-bool, true-false, and-both}
 use Rattle.laws.proofs.RecordRange.{text-length}
+use Rattle.wire.specs.LowFirst.{lowFirst}
 use Rattle.fsck_objects.specs.Told.{Shaped}
-use Rattle.fsck_names.specs.Distinct.{mix, hash, isSame}
+use Rattle.fsck_names.specs.Distinct.{wordAt, joined, mix, hash, isSame}
 use Rattle.fsck_names.proofs.Joins.{UsedWell}
-
--- lists that compare as the same are equal
-same-eq : (xs ys : List ℕ) → sameBytes xs ys ≡ true → xs ≡ ys
-unfolding sameBytes
-same-eq [] [] e = refl
-same-eq [] (y ∷ ys) e = true-false (sym e)
-same-eq (x ∷ xs) [] e = true-false (sym e)
-same-eq (x ∷ xs) (y ∷ ys) e =
-    let p = and-both (eqb x y) (sameBytes xs ys) e in
-    ap₂ (λ (a : ℕ) (l : List ℕ). a ∷ l) (eqb-true x y (p .0)) (same-eq xs ys (p .1))
 
 zero-is : (xs : List ℕ) → isZero xs ≡ true → xs ≡ replicate (length xs) 0
 unfolding isZero allBytes
@@ -35,6 +28,24 @@ zero-is [] e = refl
 zero-is (x ∷ xs) e =
     let p = and-both (eqb x 0) (allBytes (λ y. eqb y 0) xs) e in
     ap₂ (λ (a : ℕ) (l : List ℕ). a ∷ l) (eqb-true x 0 (p .0)) (zero-is xs (p .1))
+
+-- lists of no zero that are equal when zeros are put behind them
+front-zero : (i : ℕ) → _≡_ {A = ℕ} (getD (replicate i 0) 0 0) 0
+front-zero zero = refl
+front-zero (suc i) = refl
+
+no-zero : (y : ℕ) (ys : List ℕ) → goodBytes (y ∷ ys) ≡ true → y ≡ 0 → ⊥
+unfolding goodBytes allBytes goodByte
+no-zero y ys g e = let a : goodByte y ≡ true = and-both (goodByte y) (allBytes goodByte ys) g .0 in true-false (sym a ∙ ap goodByte e)
+
+padded-same : (xs ys : List ℕ) (i j : ℕ) → goodBytes xs ≡ true → goodBytes ys ≡ true → xs ++ replicate i 0 ≡ ys ++ replicate j 0 → xs ≡ ys
+unfolding goodBytes allBytes
+padded-same [] [] i j g k e = refl
+padded-same [] (y ∷ ys) i j g k e = absurd (no-zero y ys k (sym (ap (λ (l : List ℕ). getD l 0 0) e) ∙ front-zero i))
+padded-same (x ∷ xs) [] i j g k e = absurd (no-zero x xs g (ap (λ (l : List ℕ). getD l 0 0) e ∙ front-zero j))
+padded-same (x ∷ xs) (y ∷ ys) i j g k e =
+    ap₂ (λ (a : ℕ) (l : List ℕ). a ∷ l) (ap (λ (l : List ℕ). getD l 0 0) e)
+    (padded-same xs ys i j (and-both (goodByte x) (allBytes goodByte xs) g .1) (and-both (goodByte y) (allBytes goodByte ys) k .1) (ap (drop 1) e))
 
 -- ---- what it is for two records to be the same
 pub record Alike (s : Store) (n m : ℕ) : Type 0 where
@@ -88,59 +99,69 @@ module _ (s : Store) (t : Shaped s) where
       ap (part s at) q ∙ part-add s at len (32 - len)
       ∙ ap (λ (l : List ℕ). part s at len ++ l) (zero-is (part s (at + len) (32 - len)) (w .padded) ∙ ap (λ (k : ℕ). replicate k 0) e)
 
-  -- the hash is one of the directory and of those bytes
-  abbrev mixed : ℕ → List ℕ → ℕ
-  mixed d xs = mix d (beAt xs 0 8) (beAt xs 8 8) (beAt xs 16 8) (beAt xs 24 8)
+  -- two records are the same where their directories and those bytes are
+  module _ (n m : ℕ) (h : n < names s) (l : m < names s) (w : UsedWell s n) (v : UsedWell s m) where
+    bytes-of : Alike s n m → part s (nameStart s m + 12) 32 ≡ part s (nameStart s n + 12) 32
+    bytes-of a =
+        let q : nameLength s m ≡ nameLength s n = a .long ∙ long-of n h w in
+        whole m l v ∙ ap₂ (λ (x : List ℕ) (k : ℕ). x ++ replicate (32 - k) 0) (a .text) q ∙ sym (whole n h w)
 
-  hash-is : (n : ℕ) → hash s n ≡ mixed (nameAt s n .directory) (part s (nameStart s n + 12) 32)
-  unfolding hash nameAt nameFrom
-  hash-is n =
-      let at = nameStart s n + 12 in
-      let b : (i q : ℕ) → i + 8 ≤ 32 → q ≡ at + i → beAt s q 8 ≡ beAt (part s at 32) i 8 = λ i q h e. ap (λ (k : ℕ). beAt s k 8) e ∙ sym (be-part s at 32 i 8 h) in
-      cc (
-        b 0 (nameStart s n + 12) (lit≤ tt) (omega arith),
-        b 8 (nameStart s n + 20) (lit≤ tt) (omega arith),
-        b 16 (nameStart s n + 28) (lit≤ tt) (omega arith),
-        b 24 (nameStart s n + 36) (lit≤ tt) (omega arith),
-      )
+    alike-by : isUsedName s m ≡ true → nameAt s m .directory ≡ nameAt s n .directory → part s (nameStart s m + 12) 32 ≡ part s (nameStart s n + 12) 32 → Alike s n m
+    alike-by u d e =
+        let x = padded-same (nameAt s m .text) (nameAt s n .text) (32 - nameLength s m) (32 - nameLength s n) (v .bytes) (w .bytes) (sym (whole m l v) ∙ e ∙ whole n h w) in
+        record { used = u; directory = d; long = sym (long-of m l v) ∙ ap length x; text = x }
 
-  pub same-hash : (n m : ℕ) → n < names s → m < names s → UsedWell s n → UsedWell s m → isSame s n m ≡ true → hash s m ≡ hash s n
-  same-hash n m h l w v e =
-      let a = alike s n m e in
-      let q : nameLength s m ≡ nameLength s n = a .long ∙ long-of n h w in
-      hash-is m
-      ∙ ap₂ mixed (a .directory) (whole m l v ∙ ap₂ (λ (x : List ℕ) (k : ℕ). x ++ replicate (32 - k) 0) (a .text) q ∙ sym (whole n h w))
-      ∙ sym (hash-is n)
+    pub same-hash : isSame s n m ≡ true → hash s m ≡ hash s n
+    unfolding hash
+    same-hash e = let a = alike s n m e in ap₂ mix (a .directory) (bytes-of a)
 
-text-part : (s : Store) (p len i q : ℕ) → p ≡ objects s → q ≡ 16 + 80 * p + 44 * i → nameLength s i ≡ len → nameAt s i .text ≡ part s (q + 12) len
-unfolding nameAt nameFrom nameLength
-text-part s p len i q e w z = rw (w, e, ← z)
+    same-is : isUsedName s m ≡ true
+        → eqb (nameAt s m .directory) (nameAt s n .directory) && sameBytes (part s (nameStart s m + 12) 32) (part s (nameStart s n + 12) 32) ≡ isSame s n m
+    same-is u =
+        let d = eqb (nameAt s m .directory) (nameAt s n .directory) in
+        let b = sameBytes (part s (nameStart s m + 12) 32) (part s (nameStart s n + 12) 32) in
+        by-bool (isSame s n m)
+        (λ e. let a = alike s n m e in rw (e, eq-eqb (nameAt s m .directory) (nameAt s n .directory) (a .directory)) (same-yes _ _ (bytes-of a)))
+        (λ e. by-bool (d && b)
+        (λ f. let g = and-both d b f in
+        true-false (sym (same-by s n m (alike-by u (eqb-true (nameAt s m .directory) (nameAt s n .directory) (g .0)) (same-eq _ _ (g .1)))) ∙ e))
+        (λ f. f ∙ sym e))
 
--- ---- what the comparison of two records finds
-module _ (s : Store) (t : Shaped s) (n m : ℕ) (h : n < names s) (k : nameLength s n ≤ 32) where
-  pub other-directory : (nameAt s m .directory ≡ nameAt s n .directory → ⊥) → isSame s n m ≡ false
-  other-directory f = by-bool (isSame s n m) (λ e. absurd (f (alike s n m e .directory))) (λ e. e)
-
-  long-n : length (nameAt s n .text) ≡ nameLength s n
-  long-n = text-length s n (omega (arith, t .long))
-
-  pub other-length : (nameLength s m ≡ nameLength s n → ⊥) → isSame s n m ≡ false
-  other-length f = by-bool (isSame s n m) (λ e. absurd (f (alike s n m e .long ∙ long-n))) (λ e. e)
-
-  pub same-text : (p a b len : ℕ) → p ≡ objects s → a ≡ 16 + 80 * p + 44 * m → b ≡ 16 + 80 * p + 44 * n → isUsedName s m ≡ true
-      → nameAt s m .directory ≡ nameAt s n .directory → nameLength s m ≡ len → nameLength s n ≡ len
-      → isSame s n m ≡ sameBytes (part s (a + 12) len) (part s (b + 12) len)
-  unfolding isNamed isIn
-  same-text p a b len e f g u d x y =
-      rw (u, eq-eqb (nameAt s m .directory) (nameAt s n .directory) d, eq-eqb (nameLength s m) (length (nameAt s n .text)) (x ∙ sym y ∙ sym long-n))
-      (ap₂ sameBytes (text-is m a f x) (text-is n b g y))
-    where
-      text-is : (i q : ℕ) → q ≡ 16 + 80 * p + 44 * i → nameLength s i ≡ len → nameAt s i .text ≡ part s (q + 12) len
-      text-is i q w z = text-part s p len i q e w z
+    -- as the code finds it
+    pub same-found : (p a b x y : ℕ) (t : Bool) → p ≡ objects s → a ≡ 16 + 80 * p + 44 * m → b ≡ 16 + 80 * p + 44 * n
+        → x ≡ nameAt s m .directory → y ≡ nameAt s n .directory → t ≡ sameBytes (part s (a + 12) 32) (part s (b + 12) 32) → isUsedName s m ≡ true
+        → eqb x y && t ≡ isSame s n m
+    same-found p a b x y t ep ea eb ex ey et u = rw (et, ex, ey, ea, eb, ep) (same-is u)
 
 -- ---- the hash as the code makes it
-pub hash-by : (s : Store) (p n at d a b e f x y z w : ℕ) → p ≡ objects s → at ≡ 16 + 80 * p + 44 * n → d ≡ beAt s at 4 → a ≡ beAt s (at + 12) 8
-    → b ≡ beAt s (at + 20) 8 → e ≡ beAt s (at + 28) 8 → f ≡ beAt s (at + 36) 8 → x ≡ (a + b) % 2 ^ 64 → y ≡ (e + f) % 2 ^ 64
-    → z ≡ (x + y) % 2 ^ 64 → w ≡ (z + d) % 2 ^ 64 → (w / 4294967296 + w % 4294967296) * 1327217885 / 8388608 % 256 ≡ hash s n
+pub word-low : (b : List ℕ) (at : ℕ) → at + 8 ≤ length b
+    → getD b at 0 + getD b (at + 1) 0 * 256 + getD b (at + 2) 0 * 65536 + getD b (at + 3) 0 * 16777216 + getD b (at + 4) 0 * 4294967296
+    + getD b (at + 5) 0 * 1099511627776 + getD b (at + 6) 0 * 281474976710656 + getD b (at + 7) 0 * 72057594037927936
+    ≡ wordAt b at
+unfolding lowFirst beOf digits part
+word-low b at h =
+    rw (part-cons b at 7 (omega arith), part-cons b (suc at) 6 (omega arith), part-cons b (suc (suc at)) 5 (omega arith), part-cons b (suc (suc (suc at))) 4 (omega arith), part-cons b (suc (suc (suc (suc at)))) 3 (omega arith), part-cons b (suc (suc (suc (suc (suc at))))) 2 (omega arith), part-cons b (suc (suc (suc (suc (suc (suc at)))))) 1 (omega arith), part-cons b (suc (suc (suc (suc (suc (suc (suc at))))))) 0 (omega arith))
+    (simp towards-suc (omega arith))
+
+pub hash-by : (s : Store) (p n at d a b e f u v w x : ℕ) → p ≡ objects s → at ≡ 16 + 80 * p + 44 * n → d ≡ nameAt s n .directory → a ≡ wordAt s (at + 12)
+    → b ≡ wordAt s (at + 20) → e ≡ wordAt s (at + 28) → f ≡ wordAt s (at + 36) → u ≡ joined d a → v ≡ joined u b → w ≡ joined v e
+    → x ≡ joined w f → (x / 2 ^ 32 * 2104504639 + x % 2 ^ 32 * 1511612125) / 2 ^ 27 % 256 ≡ hash s n
 unfolding hash mix
-hash-by s p n at d a b e f x y z w ep eat ed ea eb ee ef ex ey ez ew = rw (ew, ez, ex, ey, ed, ea, eb, ee, ef, eat, ep)
+hash-by s p n at d a b e f u v w x ep eat ed ea eb ee ef eu ev ew ex =
+    let t = nameStart s n + 12 in
+    let word : (i q : ℕ) → i + 8 ≤ 32 → q ≡ t + i → wordAt s q ≡ wordAt (part s t 32) i = λ i q h z. ap (wordAt s) z ∙ ap lowFirst (sym (part-part s t 32 i 8 h)) in
+    rw (
+      ex,
+      ew,
+      ev,
+      eu,
+      ed,
+      ea,
+      eb,
+      ee,
+      ef,
+      word 0 (at + 12) (lit≤ tt) (rw (eat, ep) (omega arith)),
+      word 8 (at + 20) (lit≤ tt) (rw (eat, ep) (omega arith)),
+      word 16 (at + 28) (lit≤ tt) (rw (eat, ep) (omega arith)),
+      word 24 (at + 36) (lit≤ tt) (rw (eat, ep) (omega arith)),
+    )

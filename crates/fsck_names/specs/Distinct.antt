@@ -5,23 +5,32 @@ use mathlib.Core.Bool.{Bool, true, false, _&&_, cond}
 use mathlib.Core.List.{List}
 use lib.Dec.{eqb}
 use lib.ListN.{length, getD}
-use Rattle.spec.specs.Bytes.{beAt}
+use Rattle.spec.specs.Bytes.{part}
 use Rattle.spec.specs.Count.{every}
 use Rattle.spec.specs.Image.{Store, names, nameStart, nameAt}
 use Rattle.spec.specs.Room.{isUsedName, isNamed}
 use Rattle.spec.specs.Check.{goodNameRecord}
+use Rattle.wire.specs.LowFirst.{lowFirst}
 
--- one byte of five numbers
-unfoldable pub mix : ℕ → ℕ → ℕ → ℕ → ℕ → ℕ
-mix d a b e f =
-    let sum = (((a + b) % 2 ^ 64 + (e + f) % 2 ^ 64) % 2 ^ 64 + d) % 2 ^ 64 in
-    (sum / 4294967296 + sum % 4294967296) * 1327217885 / 8388608 % 256
+-- the number in the eight bytes from `at`, least significant first
+abbrev pub wordAt : List ℕ → ℕ → ℕ
+wordAt b at = lowFirst (part b at 8)
 
--- the hash of record n: of its directory and its 32 name bytes
+-- the 64 bits of x turned, the lowest 6 to the top, and w added
+unfoldable pub joined : ℕ → ℕ → ℕ
+joined x w = (x / 64 + x % 64 * 2 ^ 58 + w) % 2 ^ 64
+
+-- one byte of a directory and the four words of 32 name bytes. Each word is turned by another number of bits, so that its place counts, and
+-- the halves of the sum have factors of their own; all these numbers were chosen by trying, so that names spread that differ in one or two
+-- bytes, or in the order of their words
+unfoldable pub mix : ℕ → List ℕ → ℕ
+mix d text =
+    let x = joined (joined (joined (joined d (wordAt text 0)) (wordAt text 8)) (wordAt text 16)) (wordAt text 24) in
+    (x / 2 ^ 32 * 2104504639 + x % 2 ^ 32 * 1511612125) / 2 ^ 27 % 256
+
+-- the hash of record n
 unfoldable pub hash : Store → ℕ → ℕ
-hash s n =
-    let at = nameStart s n in
-    mix (beAt s at 4) (beAt s (at + 12) 8) (beAt s (at + 20) 8) (beAt s (at + 28) 8) (beAt s (at + 36) 8)
+hash s n = mix (nameAt s n .directory) (part s (nameStart s n + 12) 32)
 
 -- 1 more than the greatest used record below n with hash h, or 0 where there is none
 unfoldable pub last : Store → ℕ → ℕ → ℕ
@@ -32,11 +41,15 @@ last s (suc n) h = cond (isUsedName s n && eqb (hash s n) h) (suc n) (last s n h
 abbrev pub isSame : Store → ℕ → ℕ → Bool
 isSame s n m = isNamed s (nameAt s n .directory) (nameAt s n .text) m
 
--- record n is used and passes by itself, as those before it do, and h is its hash
-pub record New (s : Store) (n h : ℕ) : Type 0 where
+-- record n is used and passes by itself
+pub record Used (s : Store) (n : ℕ) : Type 0 where
   pub below : n < names s
   pub used : isUsedName s n ≡ true
   pub good : goodNameRecord s n ≡ true
+
+-- the same, as those before it do, and h is its hash
+pub record New (s : Store) (n h : ℕ) : Type 0 where
+  pub itself : Used s n
   pub before : every n (goodNameRecord s) ≡ true
   pub hashed : h ≡ hash s n
   pub small : h < 256

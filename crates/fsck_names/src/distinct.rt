@@ -3,22 +3,44 @@
 ghost use mathlib.Core.Path.{_≡_};
 ghost use mathlib.Core.Bool.{true, false};
 ghost use Prim.Native.Nat.{ℕ, _+_, _≤_, _<_};
-ghost use lib.ListN.{getD, set};
+ghost use lib.ListN.{length, getD, set};
 ghost use Rattle.spec.specs.Count.{every};
-ghost use Rattle.spec.specs.Image.{objects, names, nameAt, nameLength};
+ghost use Rattle.spec.specs.Image.{objects, names, nameAt};
 ghost use Rattle.spec.specs.Room.{isUsedName, isNamed};
 ghost use Rattle.spec.specs.Check.{goodNameRecord};
 ghost use Rattle.fsck_objects.specs.Told.{Shaped, Told};
-ghost use Rattle.fsck_names.specs.Distinct.{hash, isSame, New, Chains};
+ghost use Rattle.fsck_names.specs.Distinct.{wordAt, joined, hash, isSame, Used, New, Chains};
 use crate::record::directory_of;
-use crate::record::length_of;
 use crate::record::name_start;
+use crate::text::same_text;
 
-// A byte of a map as an index.
+// A byte as a number.
 pub fn index(x: u8) -> usize
     ensures { λ r. ⌜ (r ≡ x) × (r < 256) ⌝ }
 {
     x as usize
+}
+
+// The number in the eight bytes from `at`, least significant first: one load for the compiler.
+fn word_at(s: &[u8], at: usize) -> usize
+    requires { ⌜ at + 8 ≤ length (now s) ⌝ }
+    ensures { λ r. ⌜ r ≡ wordAt (now (s .entry)) at ⌝ }
+{
+    index(s[at])
+        + index(s[at + 1]) * 256
+        + index(s[at + 2]) * 65536
+        + index(s[at + 3]) * 16777216
+        + index(s[at + 4]) * 4294967296
+        + index(s[at + 5]) * 1099511627776
+        + index(s[at + 6]) * 281474976710656
+        + index(s[at + 7]) * 72057594037927936
+}
+
+// The 64 bits of x turned, the lowest 6 to the top, and w added.
+fn join(x: usize, w: usize) -> usize
+    ensures { λ r. ⌜ r ≡ joined x w ⌝ }
+{
+    std::num::wrapping_add_usize(x / 64 + x % 64 * 288230376151711744, w)
 }
 
 // The hash of a name record's directory and name bytes.
@@ -29,46 +51,27 @@ pub fn hash_of(store: &[u8], p: usize, n: usize) -> usize
     ensures { λ r. ⌜ (r ≡ hash (now (store .entry)) n) × (r < 256) ⌝ }
 {
     let at = name_start(p, n);
-    let directory = wire::get_u32(store, at) as u64;
-    let first = std::num::wrapping_add_u64(
-        wire::get_u64(store, at + 12),
-        wire::get_u64(store, at + 20),
-    );
-    let second = std::num::wrapping_add_u64(
-        wire::get_u64(store, at + 28),
-        wire::get_u64(store, at + 36),
-    );
-    let sum = std::num::wrapping_add_u64(std::num::wrapping_add_u64(first, second), directory);
-    ((sum / 4294967296 + sum % 4294967296) * 1327217885 / 8388608 % 256) as usize
+    let first = join(directory_of(store, p, n), word_at(store, at + 12));
+    let second = join(first, word_at(store, at + 20));
+    let third = join(second, word_at(store, at + 28));
+    let x = join(third, word_at(store, at + 36));
+    (x / 4294967296 * 2104504639 + x % 4294967296 * 1511612125) / 134217728 % 256
 }
 
-// Whether record m, which is used, has the directory and the name of record n.
+// Whether record m has the directory and the name of record n, where both are used and pass by themselves.
 fn same_name(store: &[u8], p: usize, m: usize, n: usize) -> bool
     requires { ⌜ Shaped (now store) ⌝ }
     requires { ⌜ p ≡ objects (now store) ⌝ }
-    requires { ⌜ m < names (now store) ⌝ }
-    requires { ⌜ n < names (now store) ⌝ }
-    requires { ⌜ isUsedName (now store) m ≡ true ⌝ }
-    requires { ⌜ nameLength (now store) n ≤ 32 ⌝ }
+    requires { ⌜ Used (now store) m ⌝ }
+    requires { ⌜ Used (now store) n ⌝ }
     ensures { λ r. ⌜ r ≡ isSame (now (store .entry)) n m ⌝ }
 {
-    if directory_of(store, p, m) != directory_of(store, p, n) {
-        return false;
-    }
-    let len = length_of(store, p, n);
-    if length_of(store, p, m) != len {
-        return false;
-    }
-    wire::same_bytes(
-        store,
-        name_start(p, m) + 12,
-        store,
-        name_start(p, n) + 12,
-        len,
-    )
+    let same = directory_of(store, p, m) == directory_of(store, p, n);
+    same & same_text(store, name_start(p, m) + 12, name_start(p, n) + 12)
 }
 
-// Whether no record before n, which is used and has the hash h, has its directory and name.
+// Whether no record before n, which is used and has the hash h, has its directory and name. Goes through the whole chain and branches on no
+// name, so that there are no names for which the processor predicts wrongly.
 pub fn is_new(
     store: &[u8],
     p: usize,
@@ -83,14 +86,13 @@ pub fn is_new(
     requires { ⌜ Chains (now store) n (now head) (now next) ⌝ }
     ensures { λ r. ⌜ Told r (now (store .entry)) ((m : ℕ) → m < n → isSame (now (store .entry)) n m ≡ false) ⌝ }
 {
+    let mut found = false;
     let mut k = index(head[h]);
     while k != 0 {
-        if same_name(store, p, k - 1, n) {
-            return false;
-        }
+        found = found | same_name(store, p, k - 1, n);
         k = index(next[k - 1]);
     }
-    true
+    !found
 }
 
 // Puts record n before the others of its hash.

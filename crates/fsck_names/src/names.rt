@@ -36,10 +36,11 @@ fn name_passes(
     if len == 0 {
         return true;
     }
+    // Before the map is written: else the compiler keeps the name's words in registers for a chain that is mostly empty.
+    let h = hash_of(store, p, n);
     if !mark_child(store, p, n, parents) {
         return false;
     }
-    let h = hash_of(store, p, n);
     if !is_new(store, p, n, h, head, next) {
         return false;
     }

@@ -3,7 +3,7 @@ ghost use mathlib.Core.Path.{_≡_};
 ghost use mathlib.Core.Bool.{_&&_};
 ghost use Prim.Native.Nat.{_+_, _-_, _≤_};
 ghost use lib.ListN.{length};
-ghost use Rattle.spec.specs.Bytes.{part};
+ghost use Rattle.spec.specs.Bytes.{part, sameBytes};
 ghost use Rattle.spec.specs.Check.{isZero};
 ghost use Rattle.spec.specs.Names.{goodBytes, isDots, goodName};
 ghost use Rattle.fsck_objects.specs.Objects.{Inside};
@@ -53,4 +53,24 @@ pub fn good_text(s: &[u8], inside: &[u8; 64], at: usize, n: usize) -> bool
         return false;
     }
     !is_dots(s, at, n)
+}
+
+// Whether the eight bytes from a are those from b.
+fn same_word(s: &[u8], a: usize, b: usize) -> bool
+    requires { ⌜ a + 8 ≤ length (now s) ⌝ }
+    requires { ⌜ b + 8 ≤ length (now s) ⌝ }
+    ensures { λ r. ⌜ r ≡ sameBytes (part (now (s .entry)) a 8) (part (now (s .entry)) b 8) ⌝ }
+{
+    wire::get_u64(s, a) == wire::get_u64(s, b)
+}
+
+// Whether the 32 bytes from a are those from b.
+pub fn same_text(s: &[u8], a: usize, b: usize) -> bool
+    requires { ⌜ a + 32 ≤ length (now s) ⌝ }
+    requires { ⌜ b + 32 ≤ length (now s) ⌝ }
+    ensures { λ r. ⌜ r ≡ sameBytes (part (now (s .entry)) a 32) (part (now (s .entry)) b 32) ⌝ }
+{
+    let front = same_word(s, a, b) & same_word(s, a + 8, b + 8);
+    let back = same_word(s, a + 16, b + 16) & same_word(s, a + 24, b + 24);
+    front & back
 }

@@ -1,1 +1,1 @@
-// The specification: definitions in specs/, their laws and the starred examples in proofs/. There is no code here.
+// The specification: definitions in specs/, worked examples in proofs/. Its laws stand in the crate `laws`. There is no code here.

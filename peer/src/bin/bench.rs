@@ -4,6 +4,8 @@
 //!
 //! Both work on warm buffers of their own, in turns; the best of several
 //! repetitions counts. The last line is the largest ratio of the first table.
+//! The second table has the check of full stores whose names could be hard on
+//! a hash table, and a deep tree.
 
 #[cfg(nfs3_library)]
 #[path = "shared/library.rs"]
@@ -126,6 +128,40 @@ mod measuring {
         best
     }
 
+    /// The times of both checks of a store.
+    fn check_times(store: &[u8]) -> (f64, f64) {
+        best_of_both(
+            || {
+                black_box(peer::check(black_box(store)));
+            },
+            || {
+                black_box(library::check(black_box(store)));
+            },
+        )
+    }
+
+    /// How many times as long a check takes for the second store.
+    fn factor(check: fn(&[u8]) -> Answer, first: &[u8], second: &[u8]) -> f64 {
+        let (one, other) = best_of_both(
+            || {
+                black_box(check(black_box(first)));
+            },
+            || {
+                black_box(check(black_box(second)));
+            },
+        );
+        other / one
+    }
+
+    /// The times of both for the calls, made on the store again and again.
+    fn call_times(store: &[u8], calls: &[Vec<u8>]) -> (f64, f64) {
+        let mut own = Side::new("peer", peer_call, store);
+        let mut other = Side::new("library", library::call, store);
+        own.try_round(calls);
+        other.try_round(calls);
+        best_of_both(|| own.round(calls), || other.round(calls))
+    }
+
     fn formatted(shape: Shape) -> Vec<u8> {
         let mut store = vec![0; shape.length()];
         let plan = Format {
@@ -148,22 +184,196 @@ mod measuring {
     }
 
     /// A store with a file of `size` bytes under each name.
-    fn with_files(shape: Shape, files: usize, size: u64) -> Vec<u8> {
+    fn with_names(shape: Shape, names: &[Vec<u8>], size: u64) -> Vec<u8> {
         let mut store = formatted(shape);
         let root = handle(STAMP, 0, 0);
-        for number in 0..files {
-            apply(
-                &mut store,
-                &guarded(&root, &file_name(number), Attributes::size(size)),
-            );
+        for name in names {
+            apply(&mut store, &guarded(&root, name, Attributes::size(size)));
         }
         assert_eq!(peer::check(&store).number, 0);
         assert_eq!(library::check(&store).number, 0);
         store
     }
 
+    /// The same with that many plain names.
+    fn with_files(shape: Shape, files: usize, size: u64) -> Vec<u8> {
+        let names: Vec<Vec<u8>> = (0..files).map(file_name).collect();
+        with_names(shape, &names, size)
+    }
+
     fn file_name(number: usize) -> Vec<u8> {
         format!("file-number-{number}").into_bytes()
+    }
+
+    /// A full store's count of names.
+    const FULL: usize = 63;
+    /// The description of the names that are dearest for the library.
+    const ALIKE: &str = "picked, words alike";
+
+    /// Numbers that look random, always the same.
+    struct Random(u64);
+
+    impl Random {
+        fn below(&mut self, bound: u64) -> u64 {
+            self.0 ^= self.0 << 13;
+            self.0 ^= self.0 >> 7;
+            self.0 ^= self.0 << 17;
+            self.0 % bound
+        }
+
+        /// That many small letters.
+        fn letters(&mut self, count: usize) -> Vec<u8> {
+            (0..count).map(|_| b'a' + self.below(26) as u8).collect()
+        }
+    }
+
+    /// The first permutations of the groups of `size` bytes in a name.
+    fn exchanged(name: &[u8], size: usize, count: usize) -> Vec<Vec<u8>> {
+        let mut found = vec![Vec::new()];
+        let groups: Vec<&[u8]> = name.chunks(size).collect();
+        while found[0].len() < groups.len() {
+            let mut longer = Vec::new();
+            for order in &found {
+                for number in (0..groups.len()).filter(|number| !order.contains(number)) {
+                    longer.push([&order[..], &[number]].concat());
+                }
+            }
+            longer.truncate(count);
+            found = longer;
+        }
+        let name_of = |order: &Vec<usize>| -> Vec<u8> {
+            order.iter().flat_map(|&at| groups[at].to_vec()).collect()
+        };
+        found.iter().map(name_of).collect()
+    }
+
+    /// The hash of `crates/fsck_names/specs/Distinct.antt` for a name of 32
+    /// bytes in the root. It picks names, and nothing else.
+    fn library_hash(name: &[u8]) -> u64 {
+        let sum = name.as_chunks::<8>().0.iter().fold(0u64, |sum, word| {
+            sum.rotate_right(6).wrapping_add(u64::from_le_bytes(*word))
+        });
+        ((sum >> 32) * 2_104_504_639 + (sum & 0xFFFF_FFFF) * 1_511_612_125) >> 27 & 255
+    }
+
+    /// Names that the library's hash puts into one chain, found by trying.
+    /// With `parts` each of the four words of a name is one of two, so that
+    /// two names have some words in common, now these and now those.
+    fn picked(random: &mut Random, parts: bool) -> Vec<Vec<u8>> {
+        let words: Vec<Vec<u8>> = (0..8).map(|_| random.letters(8)).collect();
+        let mut names: Vec<Vec<u8>> = Vec::new();
+        while names.len() < FULL {
+            let mut name = random.letters(32);
+            if parts {
+                let changed = random.below(4) as usize;
+                for at in (0..4).filter(|&at| at != changed) {
+                    let word = &words[2 * at + random.below(2) as usize];
+                    name[8 * at..8 * at + 8].copy_from_slice(word);
+                }
+            }
+            if library_hash(&name) == 7 && !names.contains(&name) {
+                names.push(name);
+            }
+        }
+        names
+    }
+
+    /// The names of the numbers 0 to 62.
+    fn numbered(name_of: &mut dyn FnMut(usize) -> Vec<u8>) -> Vec<Vec<u8>> {
+        (0..FULL).map(name_of).collect()
+    }
+
+    /// The name with other bytes at some places.
+    fn changed(name: &[u8; 32], places: &[(usize, usize)]) -> Vec<u8> {
+        let mut name = name.to_vec();
+        for &(at, byte) in places {
+            name[at] = byte as u8;
+        }
+        name
+    }
+
+    /// Of many sets of names the one with the most pairs that the library's
+    /// hash puts into one chain.
+    fn worst(sets: impl Iterator<Item = Vec<Vec<u8>>>) -> Vec<Vec<u8>> {
+        let pairs = |names: &Vec<Vec<u8>>| -> usize {
+            let mut counts = [0; 256];
+            let mut pairs = 0;
+            for name in names {
+                let count = &mut counts[library_hash(name) as usize];
+                pairs += *count;
+                *count += 1;
+            }
+            pairs
+        };
+        sets.max_by_key(pairs).unwrap_or_default()
+    }
+
+    /// Full stores' names: a description, and the names. Of each kind it is
+    /// the worst of many, over all places in the name or many texts.
+    fn families() -> Vec<(&'static str, Vec<Vec<u8>>)> {
+        let base = b"name-of-a-file-with-32-bytes-abc";
+        let digits = &[b'0'; 32];
+        let random = &mut Random(88_172_645_463_325_252);
+        let places = || (0..32).flat_map(|at| (0..32).map(move |to| (at, to)));
+        let number = |number: usize| format!("{number:08}").into_bytes();
+        let steps = [1, 2, 3, 7, 10, 11, 37, 64, 100, 256, 1000, 10_000, 100_000];
+        let commons: Vec<(Vec<u8>, usize)> = (0..200)
+            .map(|at| (random.letters(24), steps[at % steps.len()]))
+            .collect();
+        let letters = worst((0..200).map(|_| numbered(&mut |_| random.letters(32))));
+        let plus_minus = places()
+            .filter(|(at, to)| at / 8 != to / 8)
+            .map(|(at, to)| numbered(&mut |k| changed(base, &[(at, 0x40 + k), (to, 0x7E - k)])));
+        let halves = places()
+            .filter(|(at, to)| at / 8 == to / 8 && at != to)
+            .map(|(at, to)| numbered(&mut |k| changed(base, &[(at, 0x40 + k), (to, 0x7E - k)])));
+        let one_digit =
+            (0..26).map(|at| numbered(&mut |k| changed(digits, &[(at + k / 9, 0x31 + k % 9)])));
+        let two_digits = places().filter(|(at, to)| at != to).map(|(at, to)| {
+            numbered(&mut |k| changed(digits, &[(at, 0x30 + k / 10), (to, 0x30 + k % 10)]))
+        });
+        let prefix = commons.iter().map(|(common, step)| {
+            numbered(&mut |k| [&common[..], &number(4_711 + k * step)].concat())
+        });
+        let suffix = commons.iter().map(|(common, step)| {
+            numbered(&mut |k| [&number(4_711 + k * step), &common[..]].concat())
+        });
+        vec![
+            ("32 letters", letters),
+            ("plus and minus one, two words", worst(plus_minus)),
+            ("plus and minus one, one word", worst(halves)),
+            ("one decimal digit", worst(one_digit)),
+            ("two decimal digits", worst(two_digits)),
+            ("common prefix of 24 bytes", worst(prefix)),
+            ("common suffix of 24 bytes", worst(suffix)),
+            (
+                "words of 8 bytes exchanged",
+                worst((0..200).map(|_| {
+                    let names = (0..3).flat_map(|_| exchanged(&random.letters(32), 8, 24));
+                    names.take(FULL).collect()
+                })),
+            ),
+            (
+                "words of 4 bytes exchanged",
+                worst((0..200).map(|_| exchanged(&random.letters(32), 4, FULL))),
+            ),
+            ("picked", picked(random, false)),
+            (ALIKE, picked(random, true)),
+        ]
+    }
+
+    /// Directories one in another, as many as there is room for beside one
+    /// more in the root, and the handle of the innermost.
+    fn deep(shape: Shape) -> (Vec<u8>, Vec<u8>) {
+        let mut store = formatted(shape);
+        let mut inner = handle(STAMP, 0, 0);
+        apply(&mut store, &mkdir(&inner, b"moved", Attributes::default()));
+        for number in 2..shape.objects {
+            apply(&mut store, &mkdir(&inner, b"inner", Attributes::default()));
+            inner = handle(STAMP, number as u32, 0);
+        }
+        assert_eq!(library::check(&store).number, 0);
+        (store, inner)
     }
 
     /// The measured operations: a name, and the calls of one turn.
@@ -248,25 +458,42 @@ mod measuring {
         println!("Nanoseconds for one turn, the best of {REPETITIONS}; ratio is library / peer.");
         println!("store  operation              peer      library    ratio");
         for (label, store, is_full) in &stores {
-            let (peer, other) = best_of_both(
-                || {
-                    black_box(peer::check(black_box(store)));
-                },
-                || {
-                    black_box(library::check(black_box(store)));
-                },
-            );
+            let (peer, other) = check_times(store);
             largest = largest.max(line(label, "check", peer, other));
             for (operation, calls) in operations(*is_full) {
-                let mut own = Side::new("peer", peer_call, store);
-                let mut other = Side::new("library", library::call, store);
-                own.try_round(&calls);
-                other.try_round(&calls);
-                let (own_time, other_time) =
-                    best_of_both(|| own.round(&calls), || other.round(&calls));
-                largest = largest.max(line(label, operation, own_time, other_time));
+                let (peer, other) = call_times(store, &calls);
+                largest = largest.max(line(label, operation, peer, other));
             }
         }
+        println!();
+        println!("The check of full stores by their 63 names; factor is to the full store above,");
+        println!("measured in turns with it.");
+        println!("names                               peer  library    ratio  factor of peer  of library");
+        let plain = &stores[1].1;
+        for (label, names) in families() {
+            let store = with_names(full, &names, 8192);
+            let (peer, other) = check_times(&store);
+            let own = factor(peer::check, plain, &store);
+            let factor = factor(library::check, plain, &store);
+            let ratio = other / peer;
+            println!(
+                "{label:<30} {peer:>9.0} {other:>8.0} {ratio:>8.2} {own:>15.2} {factor:>11.2}"
+            );
+            if label == ALIKE && factor < 2.0 {
+                println!("These names were picked with another hash than the library's.");
+            }
+        }
+        let (store, inner) = deep(full);
+        let (peer, other) = check_times(&store);
+        println!();
+        println!("62 directories one in another, and one that is moved into the innermost.");
+        println!("store  operation              peer      library    ratio");
+        line("deep", "check", peer, other);
+        let root = handle(STAMP, 0, 0);
+        let there = rename(&root, b"moved", &inner, b"moved").call(77);
+        let back = rename(&inner, b"moved", &root, b"moved").call(77);
+        let (peer, other) = call_times(&store, &[there, back]);
+        line("deep", "RENAME and back", peer, other);
         println!();
         println!("How the check grows; half of the names are used, every object is live.");
         println!(
@@ -280,14 +507,7 @@ mod measuring {
             };
             let store = with_files(shape, objects - 1, 8192);
             let records = &store[..shape.block_count_at() + 4];
-            let (peer, other) = best_of_both(
-                || {
-                    black_box(peer::check(black_box(&store)));
-                },
-                || {
-                    black_box(library::check(black_box(&store)));
-                },
-            );
+            let (peer, other) = check_times(&store);
             let (again, sum) = best_of_both(
                 || {
                     black_box(peer::check(black_box(&store)));

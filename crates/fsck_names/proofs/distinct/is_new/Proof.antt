@@ -1,17 +1,17 @@
-use Rattle.fsck_objects.proofs.Passes.{told-true, told-false}
-use Rattle.fsck_names.proofs.Chained.{Walked, walk-start, walk-step, walk-less, walk-same, well-n}
+use Rattle.fsck_names.proofs.Chained.{Walked, walk-start, walk-step, walk-less, used-before}
 use borrow.Author.Needs.{needs}
 use native.Mathlib.Omega.{arith}
-use mathlib.Core.Path.{sym, _∙_}
+use mathlib.Core.Bool.{Bool, _||_}
+use mathlib.Core.Path.{ap, sym, _∙_}
 use Prim.Native.Nat.{_-_}
 use Rattle.fsck_names.proofs.distinct.is_new.Statement.{statement}
 use Rattle.fsck_names.proofs.distinct.is_new.Tie as tie
 
 abbrev Inv-loop : tie.InvT-loop
-Inv-loop store p n h head next k₀ k = Walked store n h k
+Inv-loop store p n h head next found₀ k₀ found k = Walked store n h found k
 
 abbrev μ-loop : tie.MeasureT-loop
-μ-loop store p n h head next k₀ k = k
+μ-loop store p n h head next found₀ k₀ found k = k
 
 element-copy-out-index : tie.Need-element-copy-out-index Inv-loop μ-loop
 element-copy-out-index c = search needs
@@ -32,13 +32,7 @@ same-name-requires c κs =
     let l = c .before in
     let st = c .before .before .before .before .before in
     let w = st .pre .1 .1 .0 in
-    (st .pre .0, (st .pre .1 .0, (omega (arith, l .loop .inv .most, w .below), (w .below, (l .loop .inv .at (c .loop-test .taken) .0, well-n (st .args .store .now) (st .pre .0) (st .args .n) (st .args .h) w .short)))))
-
-returns : tie.Need-returns Inv-loop μ-loop
-returns c =
-    let l = c .before .before .before in
-    let st = c .before .before .before .before .before .before .before in
-    told-false (walk-same (st .args .store .now) (st .pre .0) (st .args .n) (st .args .h) (st .pre .1 .1 .0) (l .loop .k - 1) (omega (arith, l .loop .inv .most)) (sym (c .before .same-name .ensures) ∙ c .if1 .taken))
+    (st .pre .0, (st .pre .1 .0, (used-before (st .args .store .now) (st .pre .0) (st .args .n) (st .args .h) w (l .loop .k - 1) (omega (arith, l .loop .inv .most)) (l .loop .inv .at (c .loop-test .taken) .0), w .itself)))
 
 sub-index : tie.Need-sub-index Inv-loop μ-loop
 sub-index c = search needs
@@ -51,25 +45,23 @@ index-requires-2 c κs = search needs
 
 loop-less : tie.Need-loop-less Inv-loop μ-loop
 loop-less c =
-    let l = c .before .before .before .before .before in
-    let st = c .before .before .before .before .before .before .before .before .before in
-    let j = l .loop .k - 1 in
-    walk-less (st .args .store .now) (st .pre .0) (st .args .n) (st .args .h) (st .pre .1 .1 .0) (l .loop .k) (c .index2 .result) (c .before .before .before .before .loop-test .taken)
-    (c .index2 .ensures .0 ∙ st .pre .1 .1 .1 .nexts j (omega (arith, l .loop .inv .most)) (l .loop .inv .at (c .before .before .before .before .loop-test .taken) .0))
+    let l = c .before .before .before .before in
+    let st = c .before .before .before .before .before .before .before .before in
+    walk-less (st .args .store .now) (st .pre .0) (st .args .n) (st .args .h) (st .pre .1 .1 .0) (l .loop .k) (c .index2 .result) (c .before .before .before .loop-test .taken)
+    (c .index2 .ensures .0 ∙ st .pre .1 .1 .1 .nexts (l .loop .k - 1) (omega (arith, l .loop .inv .most)) (l .loop .inv .at (c .before .before .before .loop-test .taken) .0))
 
 loop-again : tie.Need-loop-again Inv-loop μ-loop
 loop-again c =
-    let l = c .before .before .before .before .before in
-    let st = c .before .before .before .before .before .before .before .before .before in
-    let j = l .loop .k - 1 in
-    walk-step (st .args .store .now) (st .pre .0) (st .args .n) (st .args .h) (st .pre .1 .1 .0) (l .loop .k) (c .index2 .result) (c .before .before .before .before .loop-test .taken) (l .loop .inv)
-    (sym (c .before .before .before .same-name .ensures) ∙ c .before .before .if1 .left)
-    (c .index2 .ensures .0 ∙ st .pre .1 .1 .1 .nexts j (omega (arith, l .loop .inv .most)) (l .loop .inv .at (c .before .before .before .before .loop-test .taken) .0))
+    let l = c .before .before .before .before in
+    let st = c .before .before .before .before .before .before .before .before in
+    rw (c .before .before .same-name .ensures)
+    (walk-step (st .args .store .now) (st .pre .0) (st .args .n) (st .args .h) (st .pre .1 .1 .0) (l .loop .k) (c .index2 .result) (l .loop .found) (c .before .before .before .loop-test .taken) (l .loop .inv)
+    (c .index2 .ensures .0 ∙ st .pre .1 .1 .1 .nexts (l .loop .k - 1) (omega (arith, l .loop .inv .most)) (l .loop .inv .at (c .before .before .before .loop-test .taken) .0)))
 
-returns-2 : tie.Need-returns-2 Inv-loop μ-loop
-returns-2 c =
-    let l = c .before in
-    told-true (λ m h. l .loop .inv .clear m (omega (arith, c .loop-test .left)) h)
+returns : tie.Need-returns Inv-loop μ-loop
+returns c =
+    let w = c .before .loop .inv .told in
+    record { yes = λ e m h. w .yes e m (omega (arith, c .loop-test .left)) h; no = w .no }
 
 pub is-new-spec : {M : Type 1} → statement M
 is-new-spec =
@@ -82,10 +74,9 @@ is-new-spec =
     loop-holds
     sub-same-name
     same-name-requires
-    returns
     sub-index
     element-copy-out-index-2
     index-requires-2
     loop-less
     loop-again
-    returns-2)
+    returns)

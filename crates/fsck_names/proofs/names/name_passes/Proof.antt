@@ -33,11 +33,11 @@ returns-2 c =
 
 mark-child-requires : tie.Need-mark-child-requires
 mark-child-requires c κs =
-    let st = c .before .before .before .before .before .before in
+    let st = c .before .before .before .before .before .before .before in
     let a = st .args in
     let s = a .store .now in
-    let g = sym (c .before .before .before .record-passes .ensures) ∙ not-false _ (c .before .before .if1 .left) in
-    let u = used-yes s (a .n) (λ e. c .before .if2 .left (c .before .before .before .before .length-of .ensures ∙ e)) in
+    let g = sym (c .before .before .before .before .record-passes .ensures) ∙ not-false _ (c .before .before .before .if1 .left) in
+    let u = used-yes s (a .n) (λ e. c .before .before .if2 .left (c .before .before .before .before .before .length-of .ensures ∙ e)) in
     (st .pre .0, (st .pre .1 .0, (st .pre .1 .1 .0, (u, (record-used s (a .n) u g, st .pre .1 .1 .1 .0 .named)))))
 
 returns-3 : tie.Need-returns-3
@@ -53,13 +53,11 @@ is-new-requires c κs =
     let s = a .store .now in
     let g = sym (c .before .before .before .before .before .before .before .before .record-passes .ensures) ∙ not-false _ (c .before .before .before .before .before .before .before .if1 .left) in
     let u = used-yes s (a .n) (λ e. c .before .before .before .before .before .before .if2 .left (c .before .before .before .before .before .before .before .before .before .length-of .ensures ∙ e)) in
-    let w : New s (a .n) (c .before .before .hash-of .result) = record {
-      below = st .pre .1 .1 .0;
-      used = u;
-      good = g;
+    let w : New s (a .n) (c .before .before .before .before .before .hash-of .result) = record {
+      itself = record { below = st .pre .1 .1 .0; used = u; good = g };
       before = st .pre .1 .1 .1 .0 .good;
-      hashed = c .before .before .hash-of .ensures .0;
-      small = c .before .before .hash-of .ensures .1;
+      hashed = c .before .before .before .before .before .hash-of .ensures .0;
+      small = c .before .before .before .before .before .hash-of .ensures .1;
     } in
     (st .pre .0, (st .pre .1 .0, (w, st .pre .1 .1 .1 .0 .chains)))
 
@@ -76,8 +74,8 @@ returns-5 c =
     let s = a .store .now in
     let g = sym (c .before .before .before .before .before .before .before .before .before .before .before .before .before .record-passes .ensures) ∙ not-false _ (c .before .before .before .before .before .before .before .before .before .before .before .before .if1 .left) in
     let u = used-yes s (a .n) (λ e. c .before .before .before .before .before .before .before .before .before .before .before .if2 .left (c .before .before .before .before .before .before .before .before .before .before .before .before .before .before .length-of .ensures ∙ e)) in
-    let h = c .before .before .before .before .before .before .before .hash-of in
-    let m = c .before .before .before .before .before .before .before .before .before .mark-child .ensures .yes (not-false _ (c .before .before .before .before .before .before .before .before .if3 .left)) in
+    let h = c .before .before .before .before .before .before .before .before .before .before .hash-of in
+    let m = c .before .before .before .before .before .before .before .before .mark-child .ensures .yes (not-false _ (c .before .before .before .before .before .before .before .if3 .left)) in
     let f = c .before .before .before .before .is-new .ensures .yes (not-false _ (c .before .before .before .if4 .left)) in
     let k = chains-used s (a .n) (a .head .now) (a .next .now) (st .pre .1 .1 .1 .0 .chains) (h .result) (h .ensures .0) (h .ensures .1) (omega (arith, st .pre .0 .few-names, st .pre .1 .1 .0)) u in
     told-true (names-used s (a .n) (a .parents .now) (a .head .now) (a .next .now) _ _ _ (st .pre .1 .1 .1 .0) g f (rw (c .put-first .ensures .0, c .put-first .ensures .1) k) m)
@@ -90,9 +88,9 @@ name-passes-spec =
     record-passes-requires
     returns
     returns-2
+    hash-of-requires
     mark-child-requires
     returns-3
-    hash-of-requires
     is-new-requires
     returns-4
     put-first-requires

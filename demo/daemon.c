@@ -1,0 +1,470 @@
+/*
+ * A reference daemon: serves a store over NFS version 3, with the three procedures of MOUNT that a host needs, over TCP on 127.0.0.1. It shows
+ * one right way to do the caller's part that include/nfs3.h lists; "duty N" below is the number there. Like every daemon it is no part of the
+ * verified library. demo/daemon_test tests it.
+ *
+ *     daemon --format OBJECTS NAMES BLOCKS STORE_FILE    makes a new, empty store; what was in the file is lost
+ *     daemon STORE_FILE PORT                             serves it; with port 0 on any free port. Prints "port N" when hosts can connect
+ *
+ * A Linux host mounts it, with N for the port, by
+ *     mount -t nfs -o vers=3,proto=tcp,port=N,mountproto=tcp,mountport=N,nolock 127.0.0.1:/ FOLDER
+ *
+ * There is one thread and no allocation. A connection has room for one call and one reply, and the next call is read when the reply is sent.
+ */
+#define _DEFAULT_SOURCE
+#include "nfs3.h"
+
+#include <arpa/inet.h>
+#include <errno.h>
+#include <fcntl.h>
+#include <limits.h>
+#include <netinet/in.h>
+#include <netinet/tcp.h>
+#include <poll.h>
+#include <stdbool.h>
+#include <stdio.h>
+#include <stdlib.h>
+#include <string.h>
+#include <sys/file.h>
+#include <sys/random.h>
+#include <sys/socket.h>
+#include <time.h>
+#include <unistd.h>
+
+/* Prints why and ends the process. Nothing is lost by it: what is not saved was not answered either, and hosts send it again. */
+static void stop(const char *what, const char *why) {
+    fprintf(stderr, "daemon: %s: %s\n", what, why);
+    exit(1);
+}
+
+/* The same, where a call to the system failed. */
+static void failed(const char *what) {
+    stop(what, strerror(errno));
+}
+
+/* The same, where the library refused something for no fault of a host. */
+static void stop_at(const char *what, uint32_t number) {
+    fprintf(stderr, "daemon: %s: answer %u\n", what, (unsigned)number);
+    exit(1);
+}
+
+/* ---- Numbers and times ---- */
+
+static uint32_t get_word(const uint8_t *at) {
+    return (uint32_t)at[0] << 24 | (uint32_t)at[1] << 16 | (uint32_t)at[2] << 8 | at[3];
+}
+
+/* Writes a word, most significant byte first, and gives the place behind it. */
+static uint8_t *put_word(uint8_t *at, uint32_t word) {
+    for (int i = 0; i < 4; i++)
+        at[i] = (uint8_t)(word >> (24 - 8 * i));
+    return at + 4;
+}
+
+static void put_random(void *bytes, size_t len) {
+    if (getrandom(bytes, len, 0) != (ssize_t)len)
+        failed("random bytes");
+}
+
+/* Duty 5: the time, in each call later than in the one before, also when the system's clock stands still or is set back. */
+static struct timespec next_time(void) {
+    static struct timespec last;
+    struct timespec now;
+    if (clock_gettime(CLOCK_REALTIME, &now) != 0)
+        failed("clock");
+    if (now.tv_sec < last.tv_sec || (now.tv_sec == last.tv_sec && now.tv_nsec <= last.tv_nsec)) {
+        now = last;
+        if (++now.tv_nsec == NFS3_NANOSECONDS) {
+            now.tv_nsec = 0;
+            now.tv_sec++;
+        }
+    }
+    last = now;
+    return now;
+}
+
+/* ---- The store and its file ---- */
+
+static uint8_t store[NFS3_STORE_MOST], saved[NFS3_STORE_MOST]; /* the store, and its bytes as they are in the file */
+static size_t store_len;
+static uint64_t verifier;
+
+static int directory; /* the folder of the file */
+static char name[NAME_MAX + 1], new_name[NAME_MAX + 1];
+
+/* Finds the folder of the store's file, and makes sure that no other process has the store (duty 2). The lock ends with the process. */
+static void open_place(const char *path) {
+    const char *slash = strrchr(path, '/');
+    const char *last = slash == NULL ? path : slash + 1;
+    char folder[PATH_MAX], lock[NAME_MAX + 1];
+    int len = slash == NULL ? snprintf(folder, sizeof folder, ".") : snprintf(folder, sizeof folder, "%.*s", (int)(last - path), path);
+    if (len >= (int)sizeof folder || *last == 0 || snprintf(name, sizeof name, "%s", last) >= (int)sizeof name ||
+        snprintf(new_name, sizeof new_name, "%s.new", last) >= (int)sizeof new_name ||
+        snprintf(lock, sizeof lock, "%s.lock", last) >= (int)sizeof lock)
+        stop(path, "too long, or names no file");
+    directory = open(folder, O_RDONLY | O_DIRECTORY | O_CLOEXEC);
+    if (directory < 0)
+        failed(folder);
+    int fd = openat(directory, lock, O_RDWR | O_CREAT | O_CLOEXEC, 0600);
+    if (fd < 0 || flock(fd, LOCK_EX | LOCK_NB) != 0)
+        failed(lock);
+}
+
+/* Reads at most so many bytes of the store's file and gives their number, or -1 where there is no file. Brings them to stable storage. */
+static ssize_t read_file(uint8_t *bytes, size_t most) {
+    int fd = openat(directory, name, O_RDONLY | O_CLOEXEC);
+    if (fd < 0)
+        return -1;
+    size_t len = 0;
+    ssize_t n = 1;
+    while (len < most && n > 0) {
+        n = read(fd, bytes + len, most - len);
+        if (n < 0)
+            failed(name);
+        len += (size_t)n;
+    }
+    if (fsync(fd) != 0 || fsync(directory) != 0)
+        failed(name);
+    close(fd);
+    return (ssize_t)len;
+}
+
+/* Duty 6: replaces the file by the store's bytes, all or nothing. They are on stable storage when it returns. */
+static void save(void) {
+    int fd = openat(directory, new_name, O_WRONLY | O_CREAT | O_TRUNC | O_CLOEXEC, 0600);
+    if (fd < 0)
+        failed(new_name);
+    for (size_t done = 0; done < store_len;) {
+        ssize_t n = write(fd, store + done, store_len - done);
+        if (n < 0)
+            failed(new_name);
+        done += (size_t)n;
+    }
+    if (fsync(fd) != 0 || close(fd) != 0)
+        failed(new_name);
+    if (renameat(directory, new_name, directory, name) != 0)
+        failed(new_name);
+    if (fsync(directory) != 0)
+        failed("folder");
+    memcpy(saved, store, store_len);
+}
+
+/* Duty 2. A store that fails its check is left as it is. */
+static void load(void) {
+    static uint8_t bytes[NFS3_STORE_MOST + 1];
+    ssize_t len = read_file(bytes, sizeof bytes);
+    if (len < 0)
+        failed(name);
+    if (nfs3_check(bytes, (size_t)len).number != NFS3_DONE)
+        stop(name, "no store that passes its check");
+    store_len = (size_t)len;
+    memcpy(store, bytes, store_len);
+    memcpy(saved, bytes, store_len);
+    put_random(&verifier, sizeof verifier); /* in a million starts two are the same with a chance below 1 in 30 million */
+}
+
+/* Duty 1. The chance that a random stamp is one of those of n earlier formats, the last one excluded, is n in 4,294,967,296. */
+static void format(uint32_t objects, uint32_t names, uint32_t blocks) {
+    uint8_t old[NFS3_STAMP_OFFSET + NFS3_STAMP_LENGTH];
+    bool is_old = read_file(old, sizeof old) == (ssize_t)sizeof old;
+    uint32_t stamp;
+    do
+        put_random(&stamp, sizeof stamp);
+    while (is_old && stamp == get_word(old + NFS3_STAMP_OFFSET));
+    struct timespec now = next_time();
+    store_len = NFS3_STORE_LENGTH(objects, names, blocks);
+    struct nfs3_answer a = nfs3_format(store, store_len, stamp, objects, names, blocks, (uint32_t)now.tv_sec, (uint32_t)now.tv_nsec);
+    if (a.number != NFS3_DONE)
+        stop_at("format", a.number);
+    save();
+}
+
+/* ---- Replies that are kept (duty 4) ---- */
+
+/* So many, and for so long. Only calls that changed the store are kept: to do any other again does no harm. */
+enum { KEPT = 256, KEPT_SECONDS = 120 };
+
+struct kept {
+    uint32_t address;
+    time_t until;
+    size_t call_len, reply_len; /* the call's first 4 bytes are its xid */
+    uint8_t call[NFS3_CALL_MOST], reply[NFS3_REPLY_SPACE];
+};
+
+static struct kept kept[KEPT];
+static size_t oldest_kept;
+
+static time_t seconds_running(void) {
+    struct timespec now;
+    if (clock_gettime(CLOCK_MONOTONIC, &now) != 0)
+        failed("clock");
+    return now.tv_sec;
+}
+
+static const struct kept *find_kept(uint32_t address, const uint8_t *call, size_t call_len) {
+    time_t now = seconds_running();
+    for (size_t i = 0; i < KEPT; i++) {
+        const struct kept *k = &kept[i];
+        if (k->until > now && k->address == address && k->call_len == call_len && memcmp(k->call, call, call_len) == 0)
+            return k;
+    }
+    return NULL;
+}
+
+static void keep(uint32_t address, const uint8_t *call, size_t call_len, const uint8_t *reply, size_t reply_len) {
+    struct kept *k = &kept[oldest_kept];
+    oldest_kept = (oldest_kept + 1) % KEPT;
+    k->address = address;
+    k->until = seconds_running() + KEPT_SECONDS;
+    k->call_len = call_len;
+    k->reply_len = reply_len;
+    memcpy(k->call, call, call_len);
+    memcpy(k->reply, reply, reply_len);
+}
+
+/* ---- MOUNT version 3 (duty 8): NULL, MNT of "/", UMNT ---- */
+
+enum { RPC_CALL = 0, RPC_REPLY = 1, RPC_VERSION = 2, SUCCESS = 0, PROG_MISMATCH = 2, PROC_UNAVAIL = 3, GARBAGE_ARGS = 4 };
+enum { MOUNT_PROGRAM = 100005, MOUNT_VERSION = 3, MOUNT_NULL = 0, MOUNT_MNT = 1, MOUNT_UMNT = 3, MOUNT_NOENT = 2, PATH_MOST = 1024 };
+enum { AUTH_NONE = 0, AUTH_SYS = 1 };
+
+static bool is_mount(const uint8_t *call, size_t len) {
+    return len >= 24 && get_word(call + 4) == RPC_CALL && get_word(call + 8) == RPC_VERSION && get_word(call + 12) == MOUNT_PROGRAM;
+}
+
+/* The place behind opaque data of at most so many bytes whose length word is at a place in the call; 0 where it is cut or too long. */
+static size_t behind_opaque(const uint8_t *call, size_t len, size_t at, size_t most) {
+    if (at == 0 || at + 4 > len || get_word(call + at) > most)
+        return 0;
+    size_t end = at + 4 + ((size_t)get_word(call + at) + 3) / 4 * 4;
+    return end <= len ? end : 0;
+}
+
+/* The length of the reply to a call of MOUNT; 0 where the call has no complete header. */
+static size_t answer_mount(const uint8_t *call, size_t len, uint8_t *reply) {
+    size_t credential_end = behind_opaque(call, len, 28, NFS3_CREDENTIAL_MOST);
+    size_t header_end = credential_end == 0 ? 0 : behind_opaque(call, len, credential_end + 4, NFS3_CREDENTIAL_MOST);
+    if (header_end == 0)
+        return 0;
+    uint32_t version = get_word(call + 16), procedure = get_word(call + 20);
+    memcpy(reply, call, 4);
+    uint8_t *at = reply + 4;
+    at = put_word(at, RPC_REPLY);
+    at = put_word(at, 0); /* accepted */
+    at = put_word(put_word(at, AUTH_NONE), 0);
+    if (version != MOUNT_VERSION)
+        return (size_t)(put_word(put_word(put_word(at, PROG_MISMATCH), MOUNT_VERSION), MOUNT_VERSION) - reply);
+    if (procedure != MOUNT_NULL && procedure != MOUNT_MNT && procedure != MOUNT_UMNT)
+        return (size_t)(put_word(at, PROC_UNAVAIL) - reply);
+    size_t end = procedure == MOUNT_NULL ? header_end : behind_opaque(call, len, header_end, PATH_MOST);
+    if (end != len)
+        return (size_t)(put_word(at, GARBAGE_ARGS) - reply);
+    at = put_word(at, SUCCESS);
+    if (procedure != MOUNT_MNT)
+        return (size_t)(at - reply);
+    if (get_word(call + header_end) != 1 || call[header_end + 4] != '/')
+        return (size_t)(put_word(at, MOUNT_NOENT) - reply);
+    at = put_word(put_word(at, SUCCESS), NFS3_HANDLE_LENGTH);
+    at = put_word(at, get_word(store + NFS3_STAMP_OFFSET));
+    at = put_word(put_word(at, 0), 0); /* object 0, generation 0 */
+    at = put_word(put_word(put_word(at, 2), AUTH_NONE), AUTH_SYS);
+    return (size_t)(at - reply);
+}
+
+/* ---- Connections ---- */
+
+enum { CONNECTIONS = 32, MARK = 4 };
+#define LAST_FRAGMENT 0x80000000u
+
+struct connection {
+    int fd; /* -1: none */
+    uint32_t address;
+    uint64_t heard; /* when it last sent something, by `turn` */
+    uint8_t mark[MARK];
+    size_t mark_len;        /* of the fragment at hand, as far as it has come */
+    uint32_t fragment_left; /* bytes of it that are still to come */
+    uint8_t call[NFS3_CALL_MOST];
+    size_t call_len;
+    uint8_t reply[MARK + NFS3_REPLY_SPACE];
+    size_t reply_len, reply_sent;
+};
+
+static struct connection connections[CONNECTIONS];
+static uint64_t turn;
+
+static void end_connection(struct connection *c) {
+    close(c->fd);
+    c->fd = -1;
+}
+
+static void report_refused(const struct connection *c, uint32_t number, const char *what, size_t len) {
+    char address[INET_ADDRSTRLEN] = "?";
+    struct in_addr in = { .s_addr = c->address };
+    inet_ntop(AF_INET, &in, address, sizeof address);
+    fprintf(stderr, "daemon: refused: answer %u to %s of %zu bytes from %s\n", (unsigned)number, what, len, address);
+}
+
+/* Duty 7: sends what can be sent of the reply. False where the connection is to be closed. */
+static bool send_reply(struct connection *c) {
+    ssize_t n = send(c->fd, c->reply + c->reply_sent, c->reply_len - c->reply_sent, MSG_DONTWAIT | MSG_NOSIGNAL);
+    if (n < 0)
+        return errno == EAGAIN || errno == EINTR;
+    c->reply_sent += (size_t)n;
+    return true;
+}
+
+/* Answers the call that has come: from the kept replies, or from MOUNT, or from the library. False where the connection is to be closed. */
+static bool answer(struct connection *c) {
+    uint8_t *reply = c->reply + MARK;
+    size_t len;
+    bool changed = false;
+    const struct kept *k = find_kept(c->address, c->call, c->call_len);
+    if (k != NULL) {
+        len = k->reply_len;
+        memcpy(reply, k->reply, len);
+    } else if (is_mount(c->call, c->call_len)) {
+        len = answer_mount(c->call, c->call_len, reply);
+        if (len == 0) {
+            report_refused(c, NFS3_NO_CALL, "a message", c->call_len);
+            return false;
+        }
+    } else {
+        struct timespec now = next_time();
+        struct nfs3_answer a = nfs3_call(c->call, c->call_len, store, store_len, reply, NFS3_REPLY_SPACE, (uint32_t)now.tv_sec,
+                                         (uint32_t)now.tv_nsec, verifier);
+        if (a.number == NFS3_LONG_CALL || a.number == NFS3_NO_CALL) {
+            report_refused(c, a.number, "a message", c->call_len);
+            return false;
+        }
+        if (a.number != NFS3_DONE)
+            stop_at("a call", a.number);
+        len = a.length;
+        changed = memcmp(store, saved, store_len) != 0;
+    }
+    if (changed) {
+        save();
+        keep(c->address, c->call, c->call_len, reply, len);
+    }
+    put_word(c->reply, LAST_FRAGMENT | (uint32_t)len);
+    c->reply_len = MARK + len;
+    c->reply_sent = 0;
+    return send_reply(c);
+}
+
+/* Duty 3: takes one piece of what the host sent, and answers where a record is complete. False where the connection is to be closed. */
+static bool receive(struct connection *c) {
+    bool in_mark = c->mark_len < MARK;
+    ssize_t n = in_mark ? recv(c->fd, c->mark + c->mark_len, MARK - c->mark_len, MSG_DONTWAIT)
+                        : recv(c->fd, c->call + c->call_len, c->fragment_left, MSG_DONTWAIT);
+    if (n < 0)
+        return errno == EAGAIN || errno == EINTR;
+    if (n == 0)
+        return false;
+    c->heard = ++turn;
+    if (in_mark) {
+        c->mark_len += (size_t)n;
+        if (c->mark_len < MARK)
+            return true;
+        c->fragment_left = get_word(c->mark) & ~LAST_FRAGMENT;
+        if (c->fragment_left > NFS3_CALL_MOST - c->call_len) {
+            report_refused(c, NFS3_LONG_CALL, "a record", c->call_len + c->fragment_left);
+            return false;
+        }
+    } else {
+        c->call_len += (size_t)n;
+        c->fragment_left -= (uint32_t)n;
+    }
+    if (c->fragment_left > 0)
+        return true;
+    c->mark_len = 0;
+    if ((get_word(c->mark) & LAST_FRAGMENT) == 0)
+        return true;
+    bool open = answer(c);
+    c->call_len = 0;
+    return open;
+}
+
+/* Takes a new connection in; where all places are taken, in place of the one that has been silent longest. */
+static void accept_connection(int listener) {
+    struct sockaddr_in peer;
+    socklen_t peer_len = sizeof peer;
+    int fd = accept(listener, (struct sockaddr *)&peer, &peer_len);
+    if (fd < 0)
+        return;
+    int on = 1;
+    setsockopt(fd, IPPROTO_TCP, TCP_NODELAY, &on, sizeof on); /* a reply does not wait for others */
+    struct connection *c = &connections[0];
+    for (size_t i = 0; i < CONNECTIONS && c->fd >= 0; i++)
+        if (connections[i].fd < 0 || connections[i].heard < c->heard)
+            c = &connections[i];
+    if (c->fd >= 0)
+        end_connection(c);
+    c->fd = fd;
+    c->address = peer.sin_addr.s_addr;
+    c->heard = ++turn;
+    c->mark_len = c->call_len = c->reply_len = c->reply_sent = 0;
+}
+
+static bool is_sending(const struct connection *c) {
+    return c->reply_sent < c->reply_len;
+}
+
+static void serve(int listener) {
+    for (;;) {
+        struct pollfd polled[CONNECTIONS + 1];
+        for (size_t i = 0; i < CONNECTIONS; i++)
+            polled[i] = (struct pollfd){ .fd = connections[i].fd, .events = is_sending(&connections[i]) ? POLLOUT : POLLIN };
+        polled[CONNECTIONS] = (struct pollfd){ .fd = listener, .events = POLLIN };
+        if (poll(polled, CONNECTIONS + 1, -1) < 0) {
+            if (errno == EINTR)
+                continue;
+            failed("poll");
+        }
+        for (size_t i = 0; i < CONNECTIONS; i++) {
+            struct connection *c = &connections[i];
+            if (c->fd >= 0 && polled[i].revents != 0 && !(is_sending(c) ? send_reply(c) : receive(c)))
+                end_connection(c);
+        }
+        if (polled[CONNECTIONS].revents != 0)
+            accept_connection(listener);
+    }
+}
+
+/* A socket that listens on 127.0.0.1. Rights are not looked at (duty 9), so other machines cannot reach it. */
+static int listen_on(uint32_t port) {
+    int listener = socket(AF_INET, SOCK_STREAM | SOCK_NONBLOCK | SOCK_CLOEXEC, 0);
+    int on = 1;
+    struct sockaddr_in own = { .sin_family = AF_INET, .sin_port = htons((uint16_t)port), .sin_addr = { .s_addr = htonl(INADDR_LOOPBACK) } };
+    socklen_t own_len = sizeof own;
+    if (listener < 0 || setsockopt(listener, SOL_SOCKET, SO_REUSEADDR, &on, sizeof on) != 0 ||
+        bind(listener, (struct sockaddr *)&own, sizeof own) != 0 || listen(listener, CONNECTIONS) != 0 ||
+        getsockname(listener, (struct sockaddr *)&own, &own_len) != 0)
+        failed("socket");
+    printf("port %u\n", (unsigned)ntohs(own.sin_port));
+    fflush(stdout);
+    return listener;
+}
+
+static uint32_t number(const char *text, uint32_t most) {
+    char *end;
+    unsigned long n = strtoul(text, &end, 10);
+    if (*text < '0' || *text > '9' || *end != 0 || n > most)
+        stop(text, "not a number in range");
+    return (uint32_t)n;
+}
+
+int main(int argc, char **argv) {
+    if (argc == 6 && strcmp(argv[1], "--format") == 0) {
+        open_place(argv[5]);
+        format(number(argv[2], NFS3_OBJECTS_MOST), number(argv[3], NFS3_NAMES_MOST), number(argv[4], NFS3_BLOCKS_MOST));
+        return 0;
+    }
+    if (argc != 3)
+        stop("usage", "daemon --format OBJECTS NAMES BLOCKS STORE_FILE, or daemon STORE_FILE PORT");
+    uint32_t port = number(argv[2], 65535);
+    open_place(argv[1]);
+    load();
+    for (size_t i = 0; i < CONNECTIONS; i++)
+        connections[i].fd = -1;
+    serve(listen_on(port));
+}
