@@ -20,12 +20,12 @@ use kinds::call::Guard;
 use kinds::call::Part;
 use kinds::call::SetSize;
 use kinds::call::Settable;
+use kinds::numbers::Limit;
 use kinds::numbers::ObjectNumber;
 use kinds::numbers::Status;
 use room::is_past_end;
 use room::lacks_room_for_bytes;
 use room::lacks_room_for_size;
-use room::transferred;
 use settable::bad_attributes;
 use settable::differs;
 use settable::is_given;
@@ -105,7 +105,7 @@ pub fn check_write(
     if wanted == 0 {
         return Reached::At(o);
     }
-    let n = transferred(wanted);
+    let n = wire::smaller(wanted, Limit::TRANSFER);
     if is_past_end(offset, n) {
         return Reached::Refused(Status::FBIG);
     }

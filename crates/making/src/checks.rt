@@ -20,8 +20,7 @@ use files::handle::Reached;
 use files::handle::reach_directory;
 use files::text::TextChecked;
 use files::text::check_name;
-use files::text::is_dot;
-use files::text::is_dot_dot;
+use files::text::is_dots;
 use find::found::FoundName;
 use find::name::find_name;
 use image::name::name_child;
@@ -65,10 +64,7 @@ fn check_new(call: &[u8], name: Part, invalid: bool) -> TextChecked
     let TextChecked::Good = answer else {
         return answer;
     };
-    if is_dot(call, name) {
-        return TextChecked::Refused(Status::EXIST);
-    }
-    if is_dot_dot(call, name) {
+    if is_dots(call, name) {
         return TextChecked::Refused(Status::EXIST);
     }
     if invalid {

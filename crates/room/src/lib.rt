@@ -1,11 +1,11 @@
 // Free blocks and records for what a call adds.
 ghost use mathlib.Core.Path.{_≡_};
-ghost use Prim.Native.Nat.{_+_, _<_, _≤_, min};
+ghost use Prim.Native.Nat.{_+_, _<_, _≤_};
 ghost use lib.Dec.{ltb};
 ghost use Rattle.spec.specs.Image.{objects};
 ghost use Rattle.spec.specs.Room.{sizeOf};
 ghost use Rattle.spec.specs.Procedures.Attributes.{sizeSet, lacksRoom};
-ghost use Rattle.spec.specs.Procedures.Data.{mostBytes, grown};
+ghost use Rattle.spec.specs.Procedures.Data.{grown};
 ghost use Rattle.spec.specs.Procedures.Names.{roomForNew};
 ghost use Rattle.laws.proofs.GoodRecords.{GoodRecords};
 ghost use Rattle.free_space.specs.Blocks.{UsedMap};
@@ -60,16 +60,6 @@ pub fn lacks_room_for_size(store: &[u8], used: &[u8; 1024], o: ObjectNumber, siz
     lacks_room(store, used, old as usize, wanted as usize)
 }
 
-// The bytes that a WRITE moves.
-pub fn transferred(count: usize) -> usize
-    ensures { λ r. ⌜ r ≡ min count mostBytes ⌝ }
-{
-    if count <= Limit::TRANSFER {
-        return count;
-    }
-    Limit::TRANSFER
-}
-
 // Whether bytes at an offset reach past the end of the largest file. The offset is compared first, so that the sum fits.
 pub fn is_past_end(offset: u64, n: usize) -> bool
     requires { ⌜ n ≤ 4096 ⌝ }
@@ -96,10 +86,7 @@ pub fn lacks_room_for_bytes(
     ensures { λ r. ⌜ r ≡ lacksRoom (now (store .entry)) (sizeOf (now (store .entry)) (o .0)) (grown (now (store .entry)) (o .0) offset n) ⌝ }
 {
     let old = size_of(store, o) as usize;
-    if offset + n <= old {
-        return false;
-    }
-    lacks_room(store, used, old, offset + n)
+    lacks_room(store, used, old, wire::larger(old, offset + n))
 }
 
 // A record for a new object, one for its name, and blocks for its size; else NOSPC.
