@@ -1,6 +1,6 @@
 // The blocks and the bytes of a file: zeroed, and written.
 ghost use mathlib.Core.Path.{_≡_};
-ghost use Prim.Native.Nat.{_+_, _-_, _≤_, _<_, min};
+ghost use Prim.Native.Nat.{_+_, _-_, _≤_, _<_};
 ghost use lib.ListN.{length};
 ghost use Rattle.kinds.specs.Numbers.{REGULAR};
 ghost use Rattle.spec.specs.Bytes.{part};
@@ -55,13 +55,6 @@ pub fn clear_tail(store: &mut [u8], o: ObjectNumber, start: usize, end: usize)
     wire::clear_bytes(store, at, rest);
 }
 
-// The smaller of two numbers.
-fn smaller(a: usize, b: usize) -> usize
-    ensures { λ r. ⌜ r ≡ min a b ⌝ }
-{
-    if a < b { a } else { b }
-}
-
 // Writes bytes of the call at an offset of a file, all within its size, block by block.
 pub fn write_file(
     store: &mut [u8],
@@ -81,7 +74,7 @@ pub fn write_file(
     let mut done = 0;
     while done < n {
         let i = offset + done;
-        let chunk = smaller(Block::BYTES - i % Block::BYTES, n - done);
+        let chunk = wire::smaller(Block::BYTES - i % Block::BYTES, n - done);
         let at = byte_at(store, o, i);
         wire::copy_bytes(store, at, call, start + done, chunk);
         done += chunk;

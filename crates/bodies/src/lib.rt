@@ -30,7 +30,9 @@ use xdr::write::put_words;
 
 // Limits as the words of a reply.
 const TRANSFER: u32 = Limit::MOST_TRANSFER_BYTES as u32;
+
 const LARGEST_FILE: u32 = Limit::MOST_FILE_BYTES as u32;
+
 const LONGEST_NAME: u32 = Limit::MOST_NAME_BYTES as u32;
 
 // The two words of a number of 64 bits.
@@ -264,7 +266,20 @@ pub fn put_got_limits(reply: &mut [u8], at: usize, store: &[u8], o: ObjectNumber
     ensures { λ r. ⌜ Wrote 140 (now (reply .entry)) (now (reply .exit)) at r (words (OK ∷ postOp (attributes (now (store .entry)) (o .0)) ++ (mostTransferBytes ∷ mostTransferBytes ∷ 1 ∷ mostTransferBytes ∷ mostTransferBytes ∷ 1 ∷ mostTransferBytes ∷ hyper mostFileBytes) ++ (0 ∷ 1 ∷ fileSystemProperties ∷ []))) ⌝ }
 {
     let next = put_failed(reply, at, store, Status::OK, o);
-    let ws = [TRANSFER, TRANSFER, 1, TRANSFER, TRANSFER, 1, TRANSFER, 0, LARGEST_FILE, 0, 1, Limit::PROPERTIES];
+    let ws = [
+        TRANSFER,
+        TRANSFER,
+        1,
+        TRANSFER,
+        TRANSFER,
+        1,
+        TRANSFER,
+        0,
+        LARGEST_FILE,
+        0,
+        1,
+        Limit::PROPERTIES,
+    ];
     put_words(reply, next, &ws)
 }
 

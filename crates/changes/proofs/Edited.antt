@@ -27,7 +27,7 @@ use Rattle.laws.proofs.Resize.{resize-tree}
 use Rattle.laws.proofs.SetAttributes.{FitsSettable}
 use Rattle.laws.proofs.Valid.{Valid}
 use Rattle.writing.specs.Writable.{Writable}
-use Rattle.changes.specs.Ready.{Sizable}
+use Rattle.changes.specs.Makable.{Sizable}
 
 -- ---- a size, where one is given
 pub sized-still : (s : Store) (o : ℕ) (x : SetSize) → GoodRecords s → Sizable s o x → StillGood s (resizeTo s o x)

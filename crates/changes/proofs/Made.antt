@@ -22,7 +22,7 @@ use Rattle.laws.proofs.Range.{Below}
 use Rattle.laws.proofs.SameReads.{isFreeBlock-reads, freeBlockCount-reads}
 use Rattle.laws.proofs.SetAttributes.{mtime-and-ctime-fits, mtime-and-ctime-allowed, new-fits, new-live}
 use Rattle.free_space.specs.Blocks.{UsedMap}
-use Rattle.changes.specs.Ready.{Sizable, Makable}
+use Rattle.changes.specs.Makable.{Sizable, Makable}
 use Rattle.changes.proofs.Edited.{sized-still, sized-kind}
 
 module _ (s : Store) (c : Context) (kind o n d : ℕ) (text : List ℕ) (a : Settable) (g : GoodRecords s) (m : Makable s c kind o n d text a) (w : Below 256 text) where

@@ -22,7 +22,7 @@ use Rattle.laws.proofs.GoodRecords.{GoodRecords, GoodClock, used-at}
 use Rattle.laws.proofs.Passed.{CreatePassed, MkdirPassed, found-record}
 use Rattle.laws.proofs.SetAttributes.{FitsSettable, only-ctime-fits}
 use Rattle.making.specs.Meaning.{madeOf}
-use Rattle.changes.specs.Ready.{Sizable, Makable}
+use Rattle.changes.specs.Makable.{Sizable, Makable}
 use Rattle.making.specs.declared.checks.Target.{Target}
 use Rattle.making.specs.declared.checks.Target.the-variants as Target
 

@@ -8,8 +8,9 @@ ghost use Rattle.spec.specs.Procedures.Attributes.{isGiven, orServer, sizeTouch
 ghost use Rattle.laws.proofs.GoodRecords.{GoodRecords};
 ghost use Rattle.laws.proofs.SetAttributes.{FitsSettable};
 ghost use Rattle.free_space.specs.Blocks.{UsedMap};
+ghost use Rattle.free_space.specs.Ready.{Ready};
 ghost use Rattle.results.specs.Does.{Does};
-ghost use Rattle.changes.specs.Ready.{Ready, Sizable};
+ghost use Rattle.changes.specs.Makable.{Sizable};
 use crate::setting::check_setattr;
 use edits::size::resize;
 use files::failure::fail_changing;
@@ -100,19 +101,18 @@ fn setattr_edit(store: &mut [u8], used: &[u8; 1024], context: Context, o: Object
 pub fn setattr(
     store: &mut [u8],
     used: &[u8; 1024],
-    free: usize,
     context: Context,
     call: &[u8],
     h: Part,
     a: Settable,
     g: Guard,
 ) -> Reply
-    requires { ⌜ Ready (now store) (now used) free context ⌝ }
+    requires { ⌜ Ready (now store) (now used) context ⌝ }
     requires { ⌜ FitsSettable a ⌝ }
     requires { ⌜ h .start + h .length ≤ length (now call) ⌝ }
     ensures { λ r. ⌜ Does (setattr (now (store .entry)) context (cut (now (call .entry)) h) a g) r (now (store .exit)) ⌝ }
 {
-    let answer = check_setattr(store, free, call, h, a, g);
+    let answer = check_setattr(store, used, call, h, a, g);
     let Reached::At(o) = answer else {
         return fail_changing(store, call, h, reached_status(answer));
     };

@@ -1,11 +1,10 @@
 // WRITE.
 ghost use Prim.Native.Nat.{_+_, _≤_};
 ghost use lib.ListN.{length};
-ghost use Rattle.spec.specs.Room.{freeBlockCount};
 ghost use Rattle.spec.specs.Procedures.{cut};
 ghost use Rattle.spec.specs.Procedures.Data.{write};
 ghost use Rattle.results.specs.Does.{Does};
-ghost use Rattle.changes.specs.Ready.{Ready};
+ghost use Rattle.free_space.specs.Ready.{Ready};
 use crate::setting::check_write;
 use files::failure::fail_changing;
 use files::handle::Reached;
@@ -26,7 +25,7 @@ pub fn write(
     count: u32,
     bytes: Part,
 ) -> Reply
-    requires { ⌜ Ready (now store) (now used) (freeBlockCount (now store)) context ⌝ }
+    requires { ⌜ Ready (now store) (now used) context ⌝ }
     requires { ⌜ h .start + h .length ≤ length (now call) ⌝ }
     requires { ⌜ bytes .start + bytes .length ≤ length (now call) ⌝ }
     ensures { λ r. ⌜ Does (write (now (store .entry)) context (cut (now (call .entry)) h) offset count (cut (now (call .entry)) bytes)) r (now (store .exit)) ⌝ }

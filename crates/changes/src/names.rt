@@ -9,8 +9,9 @@ ghost use Rattle.laws.proofs.ArgumentRange.{FitsHow};
 ghost use Rattle.laws.proofs.GoodRecords.{GoodRecords, GoodClock};
 ghost use Rattle.laws.proofs.SetAttributes.{FitsSettable};
 ghost use Rattle.free_space.specs.Blocks.{UsedMap};
+ghost use Rattle.free_space.specs.Ready.{Ready};
 ghost use Rattle.results.specs.Does.{Does};
-ghost use Rattle.changes.specs.Ready.{Ready, Sizable, Makable};
+ghost use Rattle.changes.specs.Makable.{Sizable, Makable};
 use crate::attributes::resize_to;
 use creating::CreateChecked;
 use creating::check_create;
@@ -140,19 +141,18 @@ fn make_new(
 pub fn mkdir(
     store: &mut [u8],
     used: &[u8; 1024],
-    free: usize,
     context: Context,
     call: &[u8],
     place: NameIn,
     a: Settable,
 ) -> Reply
-    requires { ⌜ Ready (now store) (now used) free context ⌝ }
+    requires { ⌜ Ready (now store) (now used) context ⌝ }
     requires { ⌜ FitsSettable a ⌝ }
     requires { ⌜ place .directory .start + place .directory .length ≤ length (now call) ⌝ }
     requires { ⌜ place .name .start + place .name .length ≤ length (now call) ⌝ }
     ensures { λ r. ⌜ Does (mkdir (now (store .entry)) context (cut (now (call .entry)) (place .directory)) (cut (now (call .entry)) (place .name)) a) r (now (store .exit)) ⌝ }
 {
-    let answer = check_mkdir(store, free, call, place, a);
+    let answer = check_mkdir(store, used, call, place, a);
     let MkdirChecked::At(d, o, n) = answer else {
         let directory = place.directory;
         return fail_changing(store, call, directory, mkdir_status(answer));
@@ -212,19 +212,18 @@ fn settable_of(manner: How) -> Settable
 pub fn create(
     store: &mut [u8],
     used: &[u8; 1024],
-    free: usize,
     context: Context,
     call: &[u8],
     place: NameIn,
     manner: How,
 ) -> Reply
-    requires { ⌜ Ready (now store) (now used) free context ⌝ }
+    requires { ⌜ Ready (now store) (now used) context ⌝ }
     requires { ⌜ FitsHow manner ⌝ }
     requires { ⌜ place .directory .start + place .directory .length ≤ length (now call) ⌝ }
     requires { ⌜ place .name .start + place .name .length ≤ length (now call) ⌝ }
     ensures { λ r. ⌜ Does (create (now (store .entry)) context (cut (now (call .entry)) (place .directory)) (cut (now (call .entry)) (place .name)) manner) r (now (store .exit)) ⌝ }
 {
-    let answer = check_create(store, free, call, place, manner);
+    let answer = check_create(store, used, call, place, manner);
     let CreateChecked::At(d, t) = answer else {
         let directory = place.directory;
         return fail_changing(store, call, directory, create_status(answer));

@@ -4,7 +4,7 @@ ghost use mathlib.Core.Bool.{_&&_};
 ghost use Prim.Native.Nat.{_+_, _<_, _≤_};
 ghost use lib.ListN.{length};
 ghost use Rattle.spec.specs.Image.{objects};
-ghost use Rattle.spec.specs.Room.{isDirectory, freeBlockCount};
+ghost use Rattle.spec.specs.Room.{isDirectory};
 ghost use Rattle.spec.specs.Procedures.{cut};
 ghost use Rattle.spec.specs.Procedures.Attributes.{isGiven, checkSetattr};
 ghost use Rattle.spec.specs.Procedures.Data.{checkWrite};
@@ -20,12 +20,12 @@ use kinds::call::Guard;
 use kinds::call::Part;
 use kinds::call::SetSize;
 use kinds::call::Settable;
+use kinds::numbers::Limit;
 use kinds::numbers::ObjectNumber;
 use kinds::numbers::Status;
 use room::is_past_end;
 use room::lacks_room_for_bytes;
 use room::lacks_room_for_size;
-use room::transferred;
 use settable::bad_attributes;
 use settable::differs;
 use settable::is_given;
@@ -45,14 +45,14 @@ fn sizes_directory(store: &[u8], o: ObjectNumber, size: SetSize) -> bool
 // The object that SETATTR may change, or the status.
 pub fn check_setattr(
     store: &[u8],
-    free: usize,
+    used: &[u8; 1024],
     call: &[u8],
     h: Part,
     a: Settable,
     g: Guard,
 ) -> Reached
     requires { ⌜ GoodRecords (now store) ⌝ }
-    requires { ⌜ free ≡ freeBlockCount (now store) ⌝ }
+    requires { ⌜ UsedMap (now store) (now used) ⌝ }
     requires { ⌜ h .start + h .length ≤ length (now call) ⌝ }
     ensures { λ r. ⌜ reachedOf r ≡ checkSetattr (now (store .entry)) (cut (now (call .entry)) h) a g ⌝ }
 {
@@ -72,7 +72,7 @@ pub fn check_setattr(
     if sizes_directory(store, o, size) {
         return Reached::Refused(Status::INVAL);
     }
-    if lacks_room_for_size(store, free, o, size) {
+    if lacks_room_for_size(store, used, o, size) {
         return Reached::Refused(Status::NOSPC);
     }
     Reached::At(o)
@@ -105,7 +105,7 @@ pub fn check_write(
     if wanted == 0 {
         return Reached::At(o);
     }
-    let n = transferred(wanted);
+    let n = wire::smaller(wanted, Limit::MOST_TRANSFER_BYTES);
     if is_past_end(offset, n) {
         return Reached::Refused(Status::FBIG);
     }

@@ -2,10 +2,10 @@
 ghost use mathlib.Core.Path.{_≡_};
 ghost use Prim.Native.Nat.{_+_, _≤_};
 ghost use lib.ListN.{length};
-ghost use Rattle.spec.specs.Room.{freeBlockCount};
 ghost use Rattle.spec.specs.Procedures.{cut};
 ghost use Rattle.spec.specs.Procedures.Names.{checkHow, checkCreate};
 ghost use Rattle.laws.proofs.GoodRecords.{GoodRecords};
+ghost use Rattle.free_space.specs.Blocks.{UsedMap};
 ghost use Rattle.making.specs.Meaning.{targetOf, statusOf};
 ghost use Rattle.creating.specs.Meaning.{createOf};
 use files::handle::Reached;
@@ -30,20 +30,20 @@ pub enum CreateChecked {
 // The checks of CREATE in a directory; EXCLUSIVE is refused before the name is looked at.
 fn check_how(
     store: &[u8],
-    free: usize,
+    used: &[u8; 1024],
     d: ObjectNumber,
     call: &[u8],
     name: Part,
     manner: How,
 ) -> TargetChecked
     requires { ⌜ GoodRecords (now store) ⌝ }
-    requires { ⌜ free ≡ freeBlockCount (now store) ⌝ }
+    requires { ⌜ UsedMap (now store) (now used) ⌝ }
     requires { ⌜ name .start + name .length ≤ length (now call) ⌝ }
     ensures { λ r. ⌜ targetOf r ≡ checkHow (now (store .entry)) (d .0) (cut (now (call .entry)) name) manner ⌝ }
 {
     match manner {
-        How::Unchecked(a) => check_attributed(store, free, d, call, name, true, a),
-        How::Guarded(a) => check_attributed(store, free, d, call, name, false, a),
+        How::Unchecked(a) => check_attributed(store, used, d, call, name, true, a),
+        How::Guarded(a) => check_attributed(store, used, d, call, name, false, a),
         How::Exclusive(_) => TargetChecked::Refused(Status::NOTSUPP),
     }
 }
@@ -51,13 +51,13 @@ fn check_how(
 // The directory and the target of CREATE, or the status.
 pub fn check_create(
     store: &[u8],
-    free: usize,
+    used: &[u8; 1024],
     call: &[u8],
     place: NameIn,
     manner: How,
 ) -> CreateChecked
     requires { ⌜ GoodRecords (now store) ⌝ }
-    requires { ⌜ free ≡ freeBlockCount (now store) ⌝ }
+    requires { ⌜ UsedMap (now store) (now used) ⌝ }
     requires { ⌜ place .directory .start + place .directory .length ≤ length (now call) ⌝ }
     requires { ⌜ place .name .start + place .name .length ≤ length (now call) ⌝ }
     ensures { λ r. ⌜ createOf r ≡ checkCreate (now (store .entry)) (cut (now (call .entry)) (place .directory)) (cut (now (call .entry)) (place .name)) manner ⌝ }
@@ -68,7 +68,7 @@ pub fn check_create(
         return CreateChecked::Refused(reached_status(reached));
     };
     let name = place.name;
-    let answer = check_how(store, free, d, call, name, manner);
+    let answer = check_how(store, used, d, call, name, manner);
     let TargetChecked::At(t) = answer else {
         return CreateChecked::Refused(target_status(answer));
     };

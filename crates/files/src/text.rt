@@ -3,7 +3,7 @@ ghost use mathlib.Core.Path.{_≡_};
 ghost use Prim.Native.Nat.{_+_, _≤_};
 ghost use lib.ListN.{length};
 ghost use Rattle.spec.specs.Bytes.{part};
-ghost use Rattle.spec.specs.Names.{goodByte, goodBytes, isDot, isDotDot};
+ghost use Rattle.spec.specs.Names.{goodByte, goodBytes, isDot, isDotDot, isDots};
 ghost use Rattle.spec.specs.Handles.{checkName};
 ghost use Rattle.spec.specs.Procedures.{cut};
 ghost use Rattle.files.specs.Meaning.{textOf};
@@ -87,4 +87,15 @@ pub fn is_dot_dot(call: &[u8], name: Part) -> bool
         return false;
     }
     call[start + 1] == b'.'
+}
+
+// Whether the name is "." or "..".
+pub fn is_dots(call: &[u8], name: Part) -> bool
+    requires { ⌜ name .start + name .length ≤ length (now call) ⌝ }
+    ensures { λ r. ⌜ r ≡ isDots (cut (now (call .entry)) name) ⌝ }
+{
+    if is_dot(call, name) {
+        return true;
+    }
+    is_dot_dot(call, name)
 }

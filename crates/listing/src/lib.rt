@@ -21,7 +21,6 @@ use kinds::layout::NameRecord;
 use kinds::numbers::Limit;
 use kinds::numbers::ObjectNumber;
 use kinds::numbers::Status;
-use reads::data::least;
 use results::Reply;
 
 // A run of entries: the room that is left, how many there are, and whether the next one did not fit.
@@ -189,8 +188,8 @@ fn readdir_in(
     if verifier != 0 {
         return fail_showing(store, call, h, Status::BAD_COOKIE);
     }
-    let limit = least(count as u64, Limit::MOST_TRANSFER_BYTES as u64);
-    let listing = check_listing(store, d, cookie, limit as usize);
+    let limit = wire::smaller(count as usize, Limit::MOST_TRANSFER_BYTES);
+    let listing = check_listing(store, d, cookie, limit);
     match listing {
         Listing::Sent(n, all) => Reply::Listed(d, all, cookie, n),
         Listing::Refused(status) => fail_showing(store, call, h, status),

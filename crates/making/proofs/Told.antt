@@ -1,25 +1,19 @@
--- What the checks of attributes and names tell, and the search for a name. Assumes nothing.
-use Prim.Native.Nat.{ℕ, _≤_, _<_}
-use mathlib.Core.Path.{_≡_, refl, sym, ap, _∙_}
+-- What the checks of attributes and names tell. Assumes nothing.
+use Prim.Native.Nat.{ℕ, _≤_}
+use mathlib.Core.Path.{_≡_, refl}
 use mathlib.Core.Bool.{Bool, true, false}
 use mathlib.Core.List.{List}
 use native.Mathlib.Omega.{arith}
 use Rattle.kinds.specs.Numbers.{EXIST}
-use Rattle.kinds.specs.declared.numbers.NameNumber.{NameNumber}
 use Rattle.kinds.specs.declared.call.Settable.{Settable}
 use Rattle.spec.specs.Checked.{passed}
 use Rattle.spec.specs.Handles.{checkName}
-use Rattle.spec.specs.Image.{Store, objects, names, nameAt}
+use Rattle.spec.specs.Image.{Store}
 use Rattle.spec.specs.Names.{isDots}
 use Rattle.spec.specs.Procedures.Attributes.{sizeSet, badAttributes}
 use Rattle.spec.specs.Procedures.Names.{checkNew}
-use Rattle.spec.specs.Room.{findName}
-use Rattle.laws.proofs.GoodRecords.{GoodRecords, used-at}
-use Rattle.laws.proofs.Passed.{bind-passed, refuse-passed, found-record}
+use Rattle.laws.proofs.Passed.{bind-passed, refuse-passed}
 use Rattle.laws.proofs.SetAttributes.{allowed}
-use Rattle.find.specs.Found.{foundName}
-use Rattle.find.specs.declared.found.FoundName.{FoundName}
-use Rattle.find.specs.declared.found.FoundName.the-variants as FoundName
 
 -- attributes that are valid have such a size
 pub valid-size : (a : Settable) → badAttributes a ≡ false → sizeSet (a .size) 0 ≤ 8192
@@ -33,10 +27,3 @@ new-valid s d text true e =
     bind-passed (checkName text) _ tt e (λ _ e₁ f₁.
     refuse-passed (isDots text) EXIST _ tt f₁ (λ t f₂.
     let z : _≡_ {A = ℕ} 0 1 = cc in absurd (omega arith)))
-
--- a name record that was found, and the object that it names
-pub found-below : (s : Store) (d : ℕ) (text : List ℕ) (r : FoundName) (n : NameNumber) → GoodRecords s → r ≡ FoundName.At n → foundName r ≡ findName s d text
-    → (n .0 < names s) × (nameAt s (n .0) .child < objects s)
-found-below s d text r n g is e =
-    let f = found-record s d text (n .0) (sym e ∙ ap foundName is) in
-    (f .0, used-at s g (n .0) (f .0) (f .1) .0)

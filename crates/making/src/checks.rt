@@ -4,12 +4,13 @@ ghost use mathlib.Core.Bool.{_||_};
 ghost use Prim.Native.Nat.{_+_, _<_, _≤_};
 ghost use lib.ListN.{length};
 ghost use Rattle.spec.specs.Image.{objects};
-ghost use Rattle.spec.specs.Room.{freeBlockCount, findName};
+ghost use Rattle.spec.specs.Room.{findName};
 ghost use Rattle.spec.specs.Procedures.{cut};
 ghost use Rattle.spec.specs.Procedures.Attributes.{isGiven, sizeSet, badAttributes};
 ghost use Rattle.spec.specs.Procedures.Names as names;
 ghost use Rattle.spec.specs.Procedures.Names.{roomForNew, isNew, checkExisting, checkAttributed, checkMkdir};
 ghost use Rattle.laws.proofs.GoodRecords.{GoodRecords};
+ghost use Rattle.free_space.specs.Blocks.{UsedMap};
 ghost use Rattle.files.specs.Meaning.{textOf};
 ghost use Rattle.making.specs.Meaning.{NewName, targetOf, mkdirOf};
 use crate::answers::reached_status;
@@ -19,8 +20,7 @@ use files::handle::Reached;
 use files::handle::reach_directory;
 use files::text::TextChecked;
 use files::text::check_name;
-use files::text::is_dot;
-use files::text::is_dot_dot;
+use files::text::is_dots;
 use find::found::FoundName;
 use find::name::find_name;
 use image::name::name_child;
@@ -64,10 +64,7 @@ fn check_new(call: &[u8], name: Part, invalid: bool) -> TextChecked
     let TextChecked::Good = answer else {
         return answer;
     };
-    if is_dot(call, name) {
-        return TextChecked::Refused(Status::EXIST);
-    }
-    if is_dot_dot(call, name) {
+    if is_dots(call, name) {
         return TextChecked::Refused(Status::EXIST);
     }
     if invalid {
@@ -77,14 +74,14 @@ fn check_new(call: &[u8], name: Part, invalid: bool) -> TextChecked
 }
 
 // Records and blocks for a new file.
-fn check_absent(store: &[u8], free: usize, a: Settable) -> TargetChecked
+fn check_absent(store: &[u8], used: &[u8; 1024], a: Settable) -> TargetChecked
     requires { ⌜ GoodRecords (now store) ⌝ }
-    requires { ⌜ free ≡ freeBlockCount (now store) ⌝ }
+    requires { ⌜ UsedMap (now store) (now used) ⌝ }
     requires { ⌜ sizeSet (a .size) 0 ≤ 8192 ⌝ }
     ensures { λ r. ⌜ targetOf r ≡ isNew (roomForNew (now (store .entry)) (sizeSet (a .size) 0)) ⌝ }
 {
     let size = a.size;
-    let answer = room_for_new(store, free, size_set(size, 0) as usize);
+    let answer = room_for_new(store, used, size_set(size, 0) as usize);
     let RoomChecked::At(o, n) = answer else {
         return TargetChecked::Refused(room_status(answer));
     };
@@ -94,13 +91,13 @@ fn check_absent(store: &[u8], free: usize, a: Settable) -> TargetChecked
 // An object that has the name: EXIST, but for UNCHECKED on a regular file, which obeys the size.
 fn check_existing(
     store: &[u8],
-    free: usize,
+    used: &[u8; 1024],
     unchecked: bool,
     a: Settable,
     o: ObjectNumber,
 ) -> TargetChecked
     requires { ⌜ GoodRecords (now store) ⌝ }
-    requires { ⌜ free ≡ freeBlockCount (now store) ⌝ }
+    requires { ⌜ UsedMap (now store) (now used) ⌝ }
     requires { ⌜ sizeSet (a .size) 0 ≤ 8192 ⌝ }
     requires { ⌜ o .0 < objects (now store) ⌝ }
     ensures { λ r. ⌜ targetOf r ≡ checkExisting (now (store .entry)) unchecked a (o .0) ⌝ }
@@ -112,7 +109,7 @@ fn check_existing(
         return TargetChecked::Refused(Status::EXIST);
     }
     let size = a.size;
-    if lacks_room_for_size(store, free, o, size) {
+    if lacks_room_for_size(store, used, o, size) {
         return TargetChecked::Refused(Status::NOSPC);
     }
     TargetChecked::At(Target::Existing(o))
@@ -121,7 +118,7 @@ fn check_existing(
 // The file that CREATE makes, or the one that has the name.
 fn check_target(
     store: &[u8],
-    free: usize,
+    used: &[u8; 1024],
     d: ObjectNumber,
     call: &[u8],
     name: Part,
@@ -129,23 +126,23 @@ fn check_target(
     a: Settable,
 ) -> TargetChecked
     requires { ⌜ GoodRecords (now store) ⌝ }
-    requires { ⌜ free ≡ freeBlockCount (now store) ⌝ }
+    requires { ⌜ UsedMap (now store) (now used) ⌝ }
     requires { ⌜ name .start + name .length ≤ length (now call) ⌝ }
     requires { ⌜ sizeSet (a .size) 0 ≤ 8192 ⌝ }
     ensures { λ r. ⌜ targetOf r ≡ names.targetOf (now (store .entry)) unchecked a (findName (now (store .entry)) (d .0) (cut (now (call .entry)) name)) ⌝ }
 {
     let found = find_name(store, d, call, name);
     let FoundName::At(n) = found else {
-        return check_absent(store, free, a);
+        return check_absent(store, used, a);
     };
     let o = name_child(store, n);
-    check_existing(store, free, unchecked, a, o)
+    check_existing(store, used, unchecked, a, o)
 }
 
 // The checks of CREATE in a directory, but for EXCLUSIVE.
 pub fn check_attributed(
     store: &[u8],
-    free: usize,
+    used: &[u8; 1024],
     d: ObjectNumber,
     call: &[u8],
     name: Part,
@@ -153,7 +150,7 @@ pub fn check_attributed(
     a: Settable,
 ) -> TargetChecked
     requires { ⌜ GoodRecords (now store) ⌝ }
-    requires { ⌜ free ≡ freeBlockCount (now store) ⌝ }
+    requires { ⌜ UsedMap (now store) (now used) ⌝ }
     requires { ⌜ name .start + name .length ≤ length (now call) ⌝ }
     ensures { λ r. ⌜ targetOf r ≡ checkAttributed (now (store .entry)) (d .0) (cut (now (call .entry)) name) unchecked a ⌝ }
 {
@@ -162,7 +159,7 @@ pub fn check_attributed(
     let TextChecked::Good = answer else {
         return TargetChecked::Refused(text_status(answer));
     };
-    check_target(store, free, d, call, name, unchecked, a)
+    check_target(store, used, d, call, name, unchecked, a)
 }
 
 // Whether MKDIR's attributes are not valid: as for SETATTR, or a size is given.
@@ -179,13 +176,13 @@ fn bad_for_directory(a: Settable) -> bool
 // The directory, the object record and the name record of MKDIR, or the status.
 pub fn check_mkdir(
     store: &[u8],
-    free: usize,
+    used: &[u8; 1024],
     call: &[u8],
     place: NameIn,
     a: Settable,
 ) -> MkdirChecked
     requires { ⌜ GoodRecords (now store) ⌝ }
-    requires { ⌜ free ≡ freeBlockCount (now store) ⌝ }
+    requires { ⌜ UsedMap (now store) (now used) ⌝ }
     requires { ⌜ place .directory .start + place .directory .length ≤ length (now call) ⌝ }
     requires { ⌜ place .name .start + place .name .length ≤ length (now call) ⌝ }
     ensures { λ r. ⌜ mkdirOf r ≡ checkMkdir (now (store .entry)) (cut (now (call .entry)) (place .directory)) (cut (now (call .entry)) (place .name)) a ⌝ }
@@ -205,7 +202,7 @@ pub fn check_mkdir(
     let FoundName::Nothing = found else {
         return MkdirChecked::Refused(Status::EXIST);
     };
-    let room = room_for_new(store, free, 0);
+    let room = room_for_new(store, used, 0);
     let RoomChecked::At(o, n) = room else {
         return MkdirChecked::Refused(room_status(room));
     };

@@ -1,5 +1,5 @@
 -- From what each test found to what serve says. Assumes nothing.
-use mathlib.Core.Path.{_≡_, refl, sym, ap, _∙_}
+use mathlib.Core.Path.{_≡_, sym, ap, _∙_}
 use mathlib.Core.Bool.{Bool, true, false, not}
 use mathlib.Core.List.{List}
 use Prim.Native.Nat.{ℕ, _≤_, _<_}
@@ -90,6 +90,6 @@ module _ (call : List ℕ) (s : Store) (space : List ℕ) (c : Context) where
               record {
                 serves = heard h at q;
                 room = a;
-                ready = record { valid = valid s e; bytes = w; map = used-map s used m; count = refl; clock = k };
+                ready = record { valid = valid s e; bytes = w; map = used-map s used m; clock = k };
                 read = rw q at y;
               }

@@ -7,9 +7,8 @@ use Rattle.kinds.specs.declared.call.Header.{Header}
 use Rattle.kinds.specs.declared.object.Context.{Context}
 use Rattle.spec.specs.Arguments.{arguments}
 use Rattle.spec.specs.Image.{Store}
-use Rattle.spec.specs.Room.{freeBlockCount}
 use Rattle.spec.specs.Serve.{refuse, send, respond, serve}
-use Rattle.changes.specs.Ready.{Ready}
+use Rattle.free_space.specs.Ready.{Ready}
 use Rattle.rpc.specs.Meaning.{namedProcedure}
 use Rattle.args_end.specs.declared.reading.ArgumentsRead.{ArgumentsRead}
 use Rattle.args.specs.Reading.{argumentsOf}
@@ -21,7 +20,7 @@ use Rattle.opening.specs.declared.Opened.the-variants as Opened
 pub record Hears (call : List ℕ) (s : Store) (space : List ℕ) (c : Context) (used : List ℕ) (h : Header) (at : ℕ) (a : ArgumentsRead) : Type 0 where
   pub serves : serve call s space c ≡ send space (respond s c call h at)
   pub room : 4224 ≤ length space
-  pub ready : Ready s used (freeBlockCount s) c
+  pub ready : Ready s used c
   pub read : argumentsOf a ≡ arguments (namedProcedure h) call at
 
 -- the call is refused with a number, or heard

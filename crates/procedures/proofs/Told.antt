@@ -26,10 +26,10 @@ use Rattle.results.specs.declared.Reply.the-variants as Reply
 use Rattle.results.specs.Does.{Does}
 use Rattle.results.specs.Meaning.{resultOf}
 use Rattle.results.specs.Writable.{Writable}
-use Rattle.changes.specs.Ready.{Ready}
+use Rattle.free_space.specs.Ready.{Ready}
 
 -- what every procedure asks of the store
-pub good : {s : Store} {used : List ℕ} {free : ℕ} {c : Context} → Ready s used free c → GoodRecords s
+pub good : {s : Store} {used : List ℕ} {c : Context} → Ready s used c → GoodRecords s
 good {s} h = valid-records s (h .valid) (h .bytes)
 
 module _ (s : Store) (c : Context) (call : List ℕ) (a : Arguments) where

@@ -1,16 +1,14 @@
 // What a call does: the procedure of each kind of arguments.
 ghost use lib.ListN.{length};
 ghost use Rattle.spec.specs.Procedures.{act};
-ghost use Rattle.spec.specs.Room.{freeBlockCount};
 ghost use Rattle.laws.proofs.Arguments.{Within};
 ghost use Rattle.laws.proofs.ArgumentRange.{FitsArguments};
-ghost use Rattle.changes.specs.Ready.{Ready};
+ghost use Rattle.free_space.specs.Ready.{Ready};
 ghost use Rattle.results.specs.Does.{Does};
+use changes::attributes::setattr;
 use changes::data::write;
-use counted::create;
-use counted::fsstat;
-use counted::mkdir;
-use counted::setattr;
+use changes::names::create;
+use changes::names::mkdir;
 use kinds::call::Arguments;
 use kinds::numbers::Status;
 use kinds::object::Context;
@@ -21,6 +19,7 @@ use reads::lookup::lookup;
 use reads::object::access;
 use reads::object::getattr;
 use reads::volume::fsinfo;
+use reads::volume::fsstat;
 use reads::volume::pathconf;
 use removals::act::remove;
 use removals::act::rename;
@@ -35,7 +34,7 @@ pub fn run(
     call: &[u8],
     a: Arguments,
 ) -> Reply
-    requires { ⌜ Ready (now store) (now used) (freeBlockCount (now store)) context ⌝ }
+    requires { ⌜ Ready (now store) (now used) context ⌝ }
     requires { ⌜ Within (length (now call)) a ⌝ }
     requires { ⌜ FitsArguments a ⌝ }
     ensures { λ r. ⌜ Does (act (now (store .entry)) context (now (call .entry)) a) r (now (store .exit)) ⌝ }

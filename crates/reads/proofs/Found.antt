@@ -6,7 +6,6 @@ use mathlib.Core.Option.{Option, some, none}
 use native.Mathlib.Omega.{arith}
 use lib.Dec.{eqb}
 use Rattle.kinds.specs.Numbers.{NOENT}
-use Rattle.kinds.specs.declared.numbers.NameNumber.{NameNumber}
 use Rattle.kinds.specs.declared.numbers.ObjectNumber.{ObjectNumber}
 use Rattle.spec.specs.Checked.{Checked, bind, present, passed}
 use Rattle.spec.specs.Count.{lowest}
@@ -16,19 +15,13 @@ use Rattle.spec.specs.Names.{isDot, isDotDot}
 use Rattle.spec.specs.Procedures.Names.{childOf, lookIn, checkLookup}
 use Rattle.spec.specs.Room.{isUsedName, isNaming, findName, directoryOf, parent}
 use Rattle.laws.proofs.Count.{by-bool, and-both, lowest-passes}
-use Rattle.laws.proofs.GoodRecords.{GoodRecords, used-at}
-use Rattle.laws.proofs.Passed.{bind-passed, directory-passed, found-record}
-use Rattle.find.specs.Found.{foundName}
-use Rattle.find.specs.declared.found.FoundName.{FoundName}
-use Rattle.find.specs.declared.found.FoundName.the-variants as FoundName
+use Rattle.laws.proofs.GoodRecords.{GoodRecords}
+use Rattle.laws.proofs.Passed.{bind-passed, directory-passed}
+use Rattle.find.proofs.Entry.{found-entry}
 use Rattle.shown.proofs.Good.{used-record}
 use Rattle.reads.specs.Parts.{lookedOf, checkIn}
 use Rattle.reads.specs.declared.lookup.Looked.{Looked}
 use Rattle.reads.specs.declared.lookup.Looked.the-variants as Looked
-
-pub found-below : (s : Store) (d : ℕ) (text : List ℕ) (r : FoundName) (n : NameNumber) → r ≡ FoundName.At n → foundName r ≡ findName s d text
-    → n .0 < names s
-found-below s d text r n p e = found-record s d text (n .0) (sym e ∙ ap foundName p) .0
 
 module _ (s : Store) (g : GoodRecords s) where
   directory-below : (o : ℕ) (x : Option ℕ) → lowest (names s) (isNaming s o) ≡ x → directoryOf s x < objects s
@@ -45,9 +38,8 @@ module _ (s : Store) (g : GoodRecords s) where
   child-below : (d : ℕ) (text : List ℕ) (o : ℕ) (x : Option ℕ) → findName s d text ≡ x → childOf s (present NOENT x) ≡ passed o → o < objects s
   child-below d text o none q e = let z : _≡_ {A = ℕ} 0 1 = cc in absurd (omega arith)
   child-below d text o (some n) q e =
-      let w = found-record s d text n q in
       let z : nameAt s n .child ≡ o = cc in
-      omega (arith, used-at s g n (w .0) (w .1) .0)
+      omega (arith, found-entry s g d text n q .child-below)
 
   look-below : (d : ℕ) (text : List ℕ) (o : ℕ) → d < objects s → lookIn s d text ≡ passed o → o < objects s
   unfolding lookIn

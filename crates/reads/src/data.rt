@@ -1,6 +1,6 @@
 // READ and COMMIT.
 ghost use mathlib.Core.Path.{_≡_};
-ghost use Prim.Native.Nat.{_+_, _≤_, _<_, min};
+ghost use Prim.Native.Nat.{_+_, _≤_, _<_};
 ghost use lib.ListN.{length};
 ghost use Rattle.spec.specs.Image.{objects};
 ghost use Rattle.spec.specs.Procedures.{cut};
@@ -20,14 +20,8 @@ use kinds::numbers::ObjectNumber;
 use kinds::object::Context;
 use results::Reply;
 
-pub fn least(a: u64, b: u64) -> u64
-    ensures { λ r. ⌜ r ≡ min a b ⌝ }
-{
-    if a < b { a } else { b }
-}
-
 // How many bytes a read gives: those that are asked for, up to the most that one READ moves and to the end of the file.
-fn read_length(store: &[u8], o: ObjectNumber, offset: u64, count: u32) -> u64
+fn read_length(store: &[u8], o: ObjectNumber, offset: u64, count: u32) -> usize
     requires { ⌜ GoodRecords (now store) ⌝ }
     requires { ⌜ o .0 < objects (now store) ⌝ }
     ensures { λ r. ⌜ r ≡ readLength (now (store .entry)) (o .0) offset count ⌝ }
@@ -36,8 +30,8 @@ fn read_length(store: &[u8], o: ObjectNumber, offset: u64, count: u32) -> u64
     if size <= offset {
         return 0;
     }
-    let most = least(count as u64, Limit::MOST_TRANSFER_BYTES as u64);
-    least(most, size - offset)
+    let most = wire::smaller(count as usize, Limit::MOST_TRANSFER_BYTES);
+    wire::smaller(most, (size - offset) as usize)
 }
 
 fn read_result(store: &[u8], o: ObjectNumber, offset: u64, count: u32) -> Reply
@@ -48,8 +42,8 @@ fn read_result(store: &[u8], o: ObjectNumber, offset: u64, count: u32) -> Reply
 {
     let n = read_length(store, o, offset, count);
     let size = size_of(store, o) as u64;
-    let eof = size <= offset + n;
-    Reply::GotBytes(o, eof, offset as usize, n as usize)
+    let eof = size <= offset + n as u64;
+    Reply::GotBytes(o, eof, offset as usize, n)
 }
 
 pub fn read(store: &[u8], call: &[u8], h: Part, offset: u64, count: u32) -> Reply

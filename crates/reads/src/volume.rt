@@ -5,8 +5,8 @@ ghost use lib.ListN.{length};
 ghost use Rattle.spec.specs.Image.{objects};
 ghost use Rattle.spec.specs.Procedures.{cut};
 ghost use Rattle.spec.specs.Procedures.Volume.{fsstat, fsinfo, pathconf};
-ghost use Rattle.spec.specs.Room.{freeBlockCount};
 ghost use Rattle.laws.proofs.GoodRecords.{GoodRecords};
+ghost use Rattle.free_space.specs.Blocks.{UsedMap};
 ghost use Rattle.results.specs.Meaning.{resultOf};
 ghost use Rattle.results.specs.Writable.{Writable};
 ghost use Rattle.reads.specs.Parts.{roomOf};
@@ -14,6 +14,7 @@ use files::failure::fail_showing;
 use files::handle::Reached;
 use files::handle::reach;
 use find::object::available_count;
+use free_space::free_block_count;
 use image::counts::block_count;
 use image::counts::object_count;
 use kinds::call::Part;
@@ -21,31 +22,31 @@ use kinds::layout::Block;
 use kinds::numbers::ObjectNumber;
 use results::Reply;
 
-// The room of a store with so many free blocks.
-fn room(store: &[u8], o: ObjectNumber, free: usize) -> Reply
+// The room of a store. The map says which blocks are used.
+fn room(store: &[u8], used: &[u8; 1024], o: ObjectNumber) -> Reply
     requires { ⌜ GoodRecords (now store) ⌝ }
     requires { ⌜ o .0 < objects (now store) ⌝ }
-    requires { ⌜ free ≡ freeBlockCount (now store) ⌝ }
+    requires { ⌜ UsedMap (now store) (now used) ⌝ }
     ensures { λ r. ⌜ resultOf (now (store .entry)) r ≡ roomOf (now (store .entry)) (o .0) ⌝ }
     ensures { λ r. ⌜ Writable (now (store .entry)) r ⌝ }
 {
     let total = Block::BYTES * block_count(store);
-    let unused = Block::BYTES * free;
+    let unused = Block::BYTES * free_block_count(store, used);
     let all = object_count(store);
     let available = available_count(store);
     Reply::GotRoom(o, total as u32, unused as u32, all as u32, available as u32)
 }
 
-pub fn fsstat(store: &[u8], call: &[u8], h: Part, free: usize) -> Reply
+pub fn fsstat(store: &[u8], used: &[u8; 1024], call: &[u8], h: Part) -> Reply
     requires { ⌜ GoodRecords (now store) ⌝ }
     requires { ⌜ h .start + h .length ≤ length (now call) ⌝ }
-    requires { ⌜ free ≡ freeBlockCount (now store) ⌝ }
+    requires { ⌜ UsedMap (now store) (now used) ⌝ }
     ensures { λ r. ⌜ resultOf (now (store .entry)) r ≡ fsstat (now (store .entry)) (cut (now (call .entry)) h) .result ⌝ }
     ensures { λ r. ⌜ Writable (now (store .entry)) r ⌝ }
 {
     let answer = reach(store, call, h);
     match answer {
-        Reached::At(o) => room(store, o, free),
+        Reached::At(o) => room(store, used, o),
         Reached::Refused(status) => fail_showing(store, call, h, status),
     }
 }

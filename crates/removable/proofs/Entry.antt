@@ -1,42 +1,30 @@
 -- What is known of an entry that was found, and REMOVE's and RMDIR's checks as those of the entry and then of its object. Assumes nothing.
-use Prim.Native.Nat.{ℕ, _<_}
+use Prim.Native.Nat.{ℕ}
 use mathlib.Core.Path.{_≡_, refl, sym, ap, _∙_, subst}
 use mathlib.Core.Bool.{not}
 use mathlib.Core.List.{List}
-use mathlib.Core.Option.{some}
 use Rattle.kinds.specs.Numbers.{NOENT, ACCES, NOTDIR, INVAL, NOTEMPTY}
 use Rattle.kinds.specs.declared.numbers.NameNumber.{NameNumber}
 use Rattle.kinds.specs.declared.numbers.ObjectNumber.{ObjectNumber}
 use Rattle.spec.specs.Checked.{Checked, refused, passed, bind, refuseIf, present}
 use Rattle.spec.specs.Handles.{reachDirectory, checkName}
-use Rattle.spec.specs.Image.{Store, objects, names, nameAt}
+use Rattle.spec.specs.Image.{Store, nameAt}
 use Rattle.spec.specs.Names.{isDots}
 use Rattle.spec.specs.Procedures.Removal.{checkRemove, checkRmdir, hasEntries}
 use Rattle.spec.specs.Room.{isDirectory, findName}
-use Rattle.laws.proofs.GoodRecords.{GoodRecords, used-at}
-use Rattle.laws.proofs.Passed.{bind-passed, refuse-passed, present-passed, name-passed, found-record}
-use Rattle.find.specs.Found.{foundName}
-use Rattle.find.specs.declared.found.FoundName.{FoundName}
-use Rattle.find.specs.declared.found.FoundName.the-variants as FoundName
+use Rattle.laws.proofs.GoodRecords.{GoodRecords}
+use Rattle.laws.proofs.Passed.{bind-passed, refuse-passed, present-passed, name-passed}
+use Rattle.find.proofs.Entry.{Entry, found-entry}
 use Rattle.removable.specs.Checks.{checkEntry}
 use Rattle.removable.specs.Meaning.{removableOf}
 use Rattle.removable.specs.declared.Removable.{Removable}
 use Rattle.removable.specs.declared.Removable.the-variants as Removable
 
--- ---- a name record that was found, and the object that it names
-pub record Known (s : Store) (n : ℕ) : Type 0 where
-  pub record-below : n < names s
-  pub child-below : nameAt s n .child < objects s
-
-pub found-known : (s : Store) (g : GoodRecords s) (d : ℕ) (text : List ℕ) (n : ℕ) → findName s d text ≡ some n → Known s n
-found-known s g d text n e =
-    let r = found-record s d text n e in
-    record { record-below = r .0; child-below = used-at s g n (r .0) (r .1) .0 }
-
+-- ---- an entry that was found
 same-passed : (a b : ℕ × ℕ) → passed a ≡ passed b → a ≡ b
 same-passed a b e = cc
 
-pub entry-known : (s : Store) (g : GoodRecords s) (h text : List ℕ) (dots d n : ℕ) → checkEntry s h text dots ≡ passed (d, n) → Known s n
+pub entry-known : (s : Store) (g : GoodRecords s) (h text : List ℕ) (dots d n : ℕ) → checkEntry s h text dots ≡ passed (d, n) → Entry s n
 unfolding checkEntry
 entry-known s g h text dots d n e =
     bind-passed (reachDirectory s h) _ (d, n) e (λ i e₁ f₁.
@@ -44,15 +32,11 @@ entry-known s g h text dots d n e =
     refuse-passed (isDots text) dots _ (d, n) f₂ (λ t f₃.
     present-passed NOENT (findName s i text) _ (d, n) f₃ (λ k e₄ f₄.
     let q : k ≡ n = ap (λ (p : ℕ × ℕ). p .1) (same-passed (i, k) (d, n) f₄) in
-    subst (Known s) q (found-known s g i text k e₄)))))
+    subst (Entry s) q (found-entry s g i text k e₄)))))
 
--- the same of the answers of the code
-pub name-found : (s : Store) (g : GoodRecords s) (d : ℕ) (text : List ℕ) (r : FoundName) (n : NameNumber) → r ≡ FoundName.At n → foundName r ≡ findName s d text
-    → Known s (n .0)
-name-found s g d text r n is e = found-known s g d text (n .0) (sym e ∙ ap foundName is)
-
+-- the same of the answer of the code
 pub entry-found : (s : Store) (g : GoodRecords s) (h text : List ℕ) (dots : ℕ) (r : Removable) (d : ObjectNumber) (n : NameNumber) → r ≡ Removable.At d n
-    → removableOf r ≡ checkEntry s h text dots → Known s (n .0)
+    → removableOf r ≡ checkEntry s h text dots → Entry s (n .0)
 entry-found s g h text dots r d n is e = entry-known s g h text dots (d .0) (n .0) (sym e ∙ ap removableOf is)
 
 -- ---- the object of the entry

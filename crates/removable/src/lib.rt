@@ -2,7 +2,6 @@
 ghost use mathlib.Core.Path.{_≡_};
 ghost use Prim.Native.Nat.{_+_, _≤_};
 ghost use lib.ListN.{length};
-ghost use Rattle.spec.specs.Names.{isDots};
 ghost use Rattle.spec.specs.Procedures.{cut};
 ghost use Rattle.spec.specs.Procedures.Removal.{checkRemove, checkRmdir};
 ghost use Rattle.laws.proofs.GoodRecords.{GoodRecords};
@@ -12,8 +11,7 @@ use files::handle::Reached;
 use files::handle::reach_directory;
 use files::text::TextChecked;
 use files::text::check_name;
-use files::text::is_dot;
-use files::text::is_dot_dot;
+use files::text::is_dots;
 use find::found::FoundName;
 use find::name::find_name;
 use image::name::name_child;
@@ -29,17 +27,6 @@ use subtree::has_entries;
 pub enum Removable {
     At(ObjectNumber, NameNumber),
     Refused(Status),
-}
-
-// Whether the name is "." or "..".
-pub fn is_dots(call: &[u8], name: Part) -> bool
-    requires { ⌜ name .start + name .length ≤ length (now call) ⌝ }
-    ensures { λ r. ⌜ r ≡ isDots (cut (now (call .entry)) name) ⌝ }
-{
-    if is_dot(call, name) {
-        return true;
-    }
-    is_dot_dot(call, name)
 }
 
 // The directory and the record of a name in it; "." or ".." is refused with `dots`, a name that is not there with NOENT.

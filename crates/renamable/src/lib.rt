@@ -11,6 +11,7 @@ use files::handle::Reached;
 use files::handle::reach_directory;
 use files::text::TextChecked;
 use files::text::check_name;
+use files::text::is_dots;
 use find::found::FoundName;
 use find::name::find_name;
 use image::name::name_child;
@@ -19,7 +20,6 @@ use kinds::call::Part;
 use kinds::numbers::NameNumber;
 use kinds::numbers::ObjectNumber;
 use kinds::numbers::Status;
-use removable::is_dots;
 use subtree::is_within;
 
 // Both directories and the name record of what may be renamed, or the status.

@@ -1,10 +1,9 @@
 // Free blocks and records for what a call adds.
 ghost use mathlib.Core.Path.{_≡_};
-ghost use Prim.Native.Nat.{_+_, _-_, _<_, _≤_, min};
+ghost use Prim.Native.Nat.{_+_, _<_, _≤_};
 ghost use lib.Dec.{ltb};
-ghost use Rattle.kinds.specs.Numbers.{mostTransferBytes};
 ghost use Rattle.spec.specs.Image.{objects};
-ghost use Rattle.spec.specs.Room.{need, sizeOf, freeBlockCount};
+ghost use Rattle.spec.specs.Room.{sizeOf};
 ghost use Rattle.spec.specs.Procedures.Attributes.{sizeSet, lacksRoom};
 ghost use Rattle.spec.specs.Procedures.Data.{grown};
 ghost use Rattle.spec.specs.Procedures.Names.{roomForNew};
@@ -31,41 +30,34 @@ pub enum RoomChecked {
     Refused(Status),
 }
 
-// Whether growth from one size to another takes more blocks than are free.
-fn lacks_room(free: usize, old: usize, size: usize) -> bool
+// Whether growth from one size to another takes more blocks than are free. The map says which blocks are used; they
+// are counted only where more are needed.
+fn lacks_room(store: &[u8], used: &[u8; 1024], old: usize, size: usize) -> bool
+    requires { ⌜ GoodRecords (now store) ⌝ }
+    requires { ⌜ UsedMap (now store) (now used) ⌝ }
     requires { ⌜ old ≤ 8192 ⌝ }
     requires { ⌜ size ≤ 8192 ⌝ }
-    ensures { λ r. ⌜ r ≡ ltb free (need size - need old) ⌝ }
+    ensures { λ r. ⌜ r ≡ lacksRoom (now (store .entry)) old size ⌝ }
 {
     let held = need(old);
     let wanted = need(size);
     if wanted <= held {
         return false;
     }
-    free < wanted - held
+    free_block_count(store, used) < wanted - held
 }
 
 // Whether a file grows past the free blocks where it gets the size that is given.
-pub fn lacks_room_for_size(store: &[u8], free: usize, o: ObjectNumber, size: SetSize) -> bool
+pub fn lacks_room_for_size(store: &[u8], used: &[u8; 1024], o: ObjectNumber, size: SetSize) -> bool
     requires { ⌜ GoodRecords (now store) ⌝ }
-    requires { ⌜ free ≡ freeBlockCount (now store) ⌝ }
+    requires { ⌜ UsedMap (now store) (now used) ⌝ }
     requires { ⌜ o .0 < objects (now store) ⌝ }
     requires { ⌜ sizeSet size 0 ≤ 8192 ⌝ }
     ensures { λ r. ⌜ r ≡ lacksRoom (now (store .entry)) (sizeOf (now (store .entry)) (o .0)) (sizeSet size (sizeOf (now (store .entry)) (o .0))) ⌝ }
 {
     let old = size_of(store, o);
     let wanted = size_set(size, old as u64);
-    lacks_room(free, old as usize, wanted as usize)
-}
-
-// The bytes that a WRITE moves.
-pub fn transferred(count: usize) -> usize
-    ensures { λ r. ⌜ r ≡ min count mostTransferBytes ⌝ }
-{
-    if count <= Limit::MOST_TRANSFER_BYTES {
-        return count;
-    }
-    Limit::MOST_TRANSFER_BYTES
+    lacks_room(store, used, old as usize, wanted as usize)
 }
 
 // Whether bytes at an offset reach past the end of the largest file. The offset is compared first, so that the sum fits.
@@ -79,7 +71,7 @@ pub fn is_past_end(offset: u64, n: usize) -> bool
     Limit::MOST_FILE_BYTES < offset + n as u64
 }
 
-// Whether a file grows past the free blocks where bytes are written at an offset. The map says which blocks are used.
+// Whether a file grows past the free blocks where bytes are written at an offset.
 pub fn lacks_room_for_bytes(
     store: &[u8],
     used: &[u8; 1024],
@@ -94,17 +86,13 @@ pub fn lacks_room_for_bytes(
     ensures { λ r. ⌜ r ≡ lacksRoom (now (store .entry)) (sizeOf (now (store .entry)) (o .0)) (grown (now (store .entry)) (o .0) offset n) ⌝ }
 {
     let old = size_of(store, o) as usize;
-    if offset + n <= old {
-        return false;
-    }
-    let free = free_block_count(store, used);
-    lacks_room(free, old, offset + n)
+    lacks_room(store, used, old, wire::larger(old, offset + n))
 }
 
 // A record for a new object, one for its name, and blocks for its size; else NOSPC.
-pub fn room_for_new(store: &[u8], free: usize, size: usize) -> RoomChecked
+pub fn room_for_new(store: &[u8], used: &[u8; 1024], size: usize) -> RoomChecked
     requires { ⌜ GoodRecords (now store) ⌝ }
-    requires { ⌜ free ≡ freeBlockCount (now store) ⌝ }
+    requires { ⌜ UsedMap (now store) (now used) ⌝ }
     requires { ⌜ size ≤ 8192 ⌝ }
     ensures { λ r. ⌜ roomOf r ≡ roomForNew (now (store .entry)) size ⌝ }
 {
@@ -116,7 +104,7 @@ pub fn room_for_new(store: &[u8], free: usize, size: usize) -> RoomChecked
     let FoundName::At(n) = record else {
         return RoomChecked::Refused(Status::NOSPC);
     };
-    if lacks_room(free, 0, size) {
+    if lacks_room(store, used, 0, size) {
         return RoomChecked::Refused(Status::NOSPC);
     }
     RoomChecked::At(o, n)

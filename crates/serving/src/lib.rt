@@ -4,7 +4,6 @@ ghost use Prim.Native.Nat.{_≤_};
 ghost use lib.ListN.{length};
 ghost use Rattle.spec.specs.Arguments.{arguments};
 ghost use Rattle.spec.specs.Procedures.{act};
-ghost use Rattle.spec.specs.Room.{freeBlockCount};
 ghost use Rattle.spec.specs.Rpc.{nfs, accepted, judge, mismatch};
 ghost use Rattle.spec.specs.Serve.{finish, perform, answer, respond};
 ghost use Rattle.laws.proofs.ArgumentRange.{FitsArguments};
@@ -12,7 +11,7 @@ ghost use Rattle.laws.proofs.Arguments.{Within};
 ghost use Rattle.xdr.specs.Wrote.{Wrote};
 ghost use Rattle.rpc.specs.Meaning.{namedProcedure};
 ghost use Rattle.args.specs.Reading.{argumentsOf};
-ghost use Rattle.changes.specs.Ready.{Ready};
+ghost use Rattle.free_space.specs.Ready.{Ready};
 ghost use Rattle.serving.specs.Sends.{Sends};
 use args::reading::ArgumentsRead;
 use kinds::call::Arguments;
@@ -49,7 +48,7 @@ fn finish(
     a: Arguments,
 ) -> u32
     requires { ⌜ 4224 ≤ length (now reply) ⌝ }
-    requires { ⌜ Ready (now store) (now used) (freeBlockCount (now store)) context ⌝ }
+    requires { ⌜ Ready (now store) (now used) context ⌝ }
     requires { ⌜ h .procedure ≤ 21 ⌝ }
     requires { ⌜ Within (length (now call)) a ⌝ }
     requires { ⌜ FitsArguments a ⌝ }
@@ -74,7 +73,7 @@ fn perform(
     read: ArgumentsRead,
 ) -> u32
     requires { ⌜ 4224 ≤ length (now reply) ⌝ }
-    requires { ⌜ Ready (now store) (now used) (freeBlockCount (now store)) context ⌝ }
+    requires { ⌜ Ready (now store) (now used) context ⌝ }
     requires { ⌜ h .procedure ≤ 21 ⌝ }
     requires { ⌜ argumentsOf read ≡ arguments (h .procedure) (now call) (c .at) ⌝ }
     ensures { λ n. ⌜ Sends (perform (now (store .entry)) context (now (call .entry)) h (arguments (h .procedure) (now (call .entry)) (c .at))) n (now (reply .entry)) (now (reply .exit)) (now (store .exit)) ⌝ }
@@ -98,7 +97,7 @@ fn answer(
     read: ArgumentsRead,
 ) -> u32
     requires { ⌜ 4224 ≤ length (now reply) ⌝ }
-    requires { ⌜ Ready (now store) (now used) (freeBlockCount (now store)) context ⌝ }
+    requires { ⌜ Ready (now store) (now used) context ⌝ }
     requires { ⌜ argumentsOf read ≡ arguments (h .procedure) (now call) (c .at) ⌝ }
     ensures { λ n. ⌜ Sends (answer (now (store .entry)) context (now (call .entry)) h (c .at) (judge nfs h)) n (now (reply .entry)) (now (reply .exit)) (now (store .exit)) ⌝ }
 {
@@ -122,7 +121,7 @@ pub fn respond(
     read: ArgumentsRead,
 ) -> u32
     requires { ⌜ 4224 ≤ length (now reply) ⌝ }
-    requires { ⌜ Ready (now store) (now used) (freeBlockCount (now store)) context ⌝ }
+    requires { ⌜ Ready (now store) (now used) context ⌝ }
     requires { ⌜ argumentsOf read ≡ arguments (namedProcedure h) (now call) (c .at) ⌝ }
     ensures { λ n. ⌜ Sends (respond (now (store .entry)) context (now (call .entry)) h (c .at)) n (now (reply .entry)) (now (reply .exit)) (now (store .exit)) ⌝ }
 {

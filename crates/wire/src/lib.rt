@@ -1,10 +1,24 @@
-// Big-endian numbers in byte slices.
+// Big-endian numbers in byte slices; the smaller and the larger of two numbers.
 ghost use mathlib.Core.Path.{_≡_};
-ghost use Prim.Native.Nat.{_+_, _≤_, _<_};
+ghost use Prim.Native.Nat.{_+_, _≤_, _<_, min, max};
 ghost use mathlib.Core.List.{reverse};
 ghost use lib.ListN.{length, replicate};
 ghost use Rattle.spec.specs.Bytes.{beAt, overlay, bytesOf, part, sameBytes};
 ghost use Rattle.wire.specs.LowFirst.{lowFirst};
+
+// The smaller of two numbers.
+pub fn smaller(a: usize, b: usize) -> usize
+    ensures { λ r. ⌜ r ≡ min a b ⌝ }
+{
+    if a < b { a } else { b }
+}
+
+// The larger of two numbers.
+pub fn larger(a: usize, b: usize) -> usize
+    ensures { λ r. ⌜ r ≡ max a b ⌝ }
+{
+    if a < b { b } else { a }
+}
 
 // A byte as a number of 32 bits.
 fn wide(x: u8) -> u32

@@ -1,6 +1,6 @@
 // What WRITE does to a file, and its reply.
 ghost use mathlib.Core.Path.{_≡_};
-ghost use Prim.Native.Nat.{_+_, _<_, _≤_, max, min};
+ghost use Prim.Native.Nat.{_+_, _<_, _≤_, min};
 ghost use lib.ListN.{length, take};
 ghost use Rattle.kinds.specs.Numbers.{mostTransferBytes};
 ghost use Rattle.spec.specs.Bytes.{part};
@@ -16,23 +16,13 @@ use edits::size::resize;
 use files::failure::unchanged;
 use image::object::size_of;
 use kinds::call::Part;
+use kinds::numbers::Limit;
 use kinds::numbers::ObjectNumber;
 use kinds::object::Context;
 use metadata::touch;
 use results::ObjectChange;
 use results::Reply;
-use room::transferred;
 use shown::before;
-
-// The larger of two numbers.
-fn larger(a: usize, b: usize) -> usize
-    ensures { λ r. ⌜ r ≡ max a b ⌝ }
-{
-    if a < b {
-        return b;
-    }
-    a
-}
 
 // What WRITE does to the store: n bytes of the call, from `start` on, at an offset of a file.
 fn write_edit(
@@ -52,7 +42,7 @@ fn write_edit(
     ensures { λ _. ⌜ now (store .exit) ≡ writeEdit (now (store .entry)) context (o .0) offset (part (now (call .entry)) start n) ⌝ }
 {
     let old = size_of(store, o) as usize;
-    resize(store, used, o, larger(old, offset + n));
+    resize(store, used, o, wire::larger(old, offset + n));
     write_file(store, o, offset, call, start, n);
     let clock = context.clock;
     touch(store, clock, o);
@@ -79,7 +69,7 @@ pub fn write_checked(
     ensures { λ r. ⌜ Does (writeDone (now (store .entry)) context (o .0) offset (take (min count mostTransferBytes) (cut (now (call .entry)) bytes))) r (now (store .exit)) ⌝ }
 {
     let wanted = count as usize;
-    let n = transferred(wanted);
+    let n = wire::smaller(wanted, Limit::MOST_TRANSFER_BYTES);
     if n == 0 {
         return Reply::Wrote(unchanged(store, o), 0, context.verifier);
     }

@@ -20,8 +20,8 @@ returns c = (
   c .fail-showing .ensures .1,
 )
 
-least-requires : tie.Need-least-requires
-least-requires c κs = search needs
+smaller-requires : tie.Need-smaller-requires
+smaller-requires c κs = search needs
 
 check-listing-requires : tie.Need-check-listing-requires
 check-listing-requires c κs = search needs
@@ -41,14 +41,14 @@ returns-2 c =
     let a = st .args in
     let h = cut (a .call .now) (a .h) in
     let es = entriesAbove (a .cookie) (entries (a .store .now) (a .d .0)) in
-    let limit = c .before .before .before .before .least .result in
-    let m : limit ≤ 4096 = omega (arith, c .before .before .before .before .least .ensures) in
+    let limit = c .before .before .before .before .smaller .result in
+    let m : limit ≤ 4096 = omega (arith, c .before .before .before .before .smaller .ensures) in
     let is = c .before .listing .given .1 in
     let sent = c .before .before .before .check-listing .ensures in
     let e = sym (ap (listingOf es) is) ∙ sent in (
       rw (
         eq-eqb _ _ (c .before .before .before .before .before .if1 .left),
-        ← c .before .before .before .before .least .ensures,
+        ← c .before .before .before .before .smaller .ensures,
       )
           (listed-sent (a .store .now) h (a .d .0) (a .cookie) (checkListing 104 24 limit es) _ _ e),
       listable (a .store .now) (a .d .0) (a .cookie) limit _ _ _ (st .pre .0) (st .pre .1 .1) m is sent,
@@ -60,14 +60,14 @@ returns-3 c =
     let h = cut (a .call .now) (a .h) in
     let es = entriesAbove (a .cookie) (entries (a .store .now) (a .d .0)) in
     let e = sym (ap (listingOf es) (c .before .before .listing2 .given .1)) ∙ c .before .before .before .before .check-listing .ensures in
-    let k = listed-refused (a .store .now) h (a .d .0) (a .cookie) (checkListing 104 24 (c .before .before .before .before .before .least .result) es) _ e in (
+    let k = listed-refused (a .store .now) h (a .d .0) (a .cookie) (checkListing 104 24 (c .before .before .before .before .before .smaller .result) es) _ e in (
       rw (
         eq-eqb _ _ (c .before .before .before .before .before .before .if1 .left),
-        ← c .before .before .before .before .before .least .ensures,
+        ← c .before .before .before .before .before .smaller .ensures,
       )
           (c .fail-showing2 .ensures .0 ∙ k),
       c .fail-showing2 .ensures .1,
     )
 
 pub readdir-in-spec : {M : Type 1} → statement M
-readdir-in-spec = tie.close (tie.spec fail-showing-requires returns least-requires check-listing-requires enum-known-listing enum-known-listing-2 fail-showing-requires-2 returns-2 returns-3)
+readdir-in-spec = tie.close (tie.spec fail-showing-requires returns smaller-requires check-listing-requires enum-known-listing enum-known-listing-2 fail-showing-requires-2 returns-2 returns-3)

@@ -3,7 +3,7 @@ use borrow.Author.Needs.{needs}
 use Rattle.shown.proofs.Good.{good-shaped, good-names-sound}
 use Rattle.renamable.specs.Checks.{checkMove}
 use Rattle.spec.specs.Procedures.{cut}
-use Rattle.removable.proofs.Entry.{name-found}
+use Rattle.find.proofs.Entry.{name-found}
 use Rattle.renamable.proofs.check_move.Statement.{statement}
 use Rattle.renamable.proofs.check_move.Tie as tie
 

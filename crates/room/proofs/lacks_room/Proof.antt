@@ -3,7 +3,8 @@ use mathlib.Core.Path.{sym}
 use native.Mathlib.Omega.{arith}
 use borrow.Author.Needs.{needs}
 use borrow.Author.Tests.{le-ltb}
-use Rattle.spec.specs.Room.{need}
+use Rattle.spec.specs.Procedures.Attributes.{lacksRoom}
+use Rattle.spec.specs.Room.{need, freeBlockCount}
 use Rattle.room.proofs.lacks_room.Statement.{statement}
 use Rattle.room.proofs.lacks_room.Tie as tie
 
@@ -14,15 +15,20 @@ need-requires-2 : tie.Need-need-requires-2
 need-requires-2 c κs = search needs
 
 returns : tie.Need-returns
+unfolding lacksRoom
 returns c =
-    let st = c .before .before .before in
-    sym (le-ltb (st .args .free) (need (st .args .size) - need (st .args .old)) (omega arith))
+    let st = c .before .before .before .before in
+    sym (le-ltb (freeBlockCount (st .args .store .now)) (need (st .args .size) - need (st .args .old)) (omega arith))
+
+free-block-count-requires : tie.Need-free-block-count-requires
+free-block-count-requires c κs = search needs
 
 sub-result : tie.Need-sub-result
 sub-result c = search needs
 
 returns-2 : tie.Need-returns-2
-returns-2 c = rw (c .before .need2 .ensures, c .before .before .need .ensures)
+unfolding lacksRoom
+returns-2 c = rw (c .free-block-count .ensures, c .before .before .need2 .ensures, c .before .before .before .need .ensures)
 
 pub lacks-room-spec : {M : Type 1} → statement M
-lacks-room-spec = tie.close (tie.spec need-requires need-requires-2 returns sub-result returns-2)
+lacks-room-spec = tie.close (tie.spec need-requires need-requires-2 returns free-block-count-requires sub-result returns-2)

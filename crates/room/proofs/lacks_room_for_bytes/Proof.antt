@@ -1,7 +1,7 @@
-use mathlib.Core.Path.{sym}
+use Prim.Native.Nat.{_≤_}
 use native.Mathlib.Omega.{arith}
 use borrow.Author.Needs.{needs}
-use Rattle.room.proofs.Growth.{no-growth, growth}
+use Rattle.shown.proofs.Good.{size-few}
 use Rattle.room.proofs.lacks_room_for_bytes.Statement.{statement}
 use Rattle.room.proofs.lacks_room_for_bytes.Tie as tie
 
@@ -11,32 +11,21 @@ size-of-requires c κs = search needs
 cast-old : tie.Need-cast-old
 cast-old c = search needs
 
-add-if1 : tie.Need-add-if1
-add-if1 c = search needs
+add-larger : tie.Need-add-larger
+add-larger c = search needs
 
-returns : tie.Need-returns
-returns c =
-    let st = c .before .before .before in
-    sym (no-growth (st .args .store .now) (st .args .o .0) (st .args .offset) (st .args .n) (omega arith))
-
-free-block-count-requires : tie.Need-free-block-count-requires
-free-block-count-requires c κs = search needs
-
-add-lacks-room : tie.Need-add-lacks-room
-add-lacks-room c = search needs
+larger-requires : tie.Need-larger-requires
+larger-requires c κs = search needs
 
 lacks-room-requires : tie.Need-lacks-room-requires
-lacks-room-requires c κs = search needs
+lacks-room-requires c κs =
+    let st = c .before .before .before in
+    let old = size-few (st .args .store .now) (st .pre .0) (st .args .o .0) (st .pre .1 .1 .0) in
+    let small : c .before .size-of .result ≤ 8192 = omega (arith, c .before .size-of .ensures) in
+    (st .pre .0, (st .pre .1 .0, (small, omega (arith, c .larger .ensures, st .pre .1 .1 .1))))
 
-returns-2 : tie.Need-returns-2
-returns-2 c =
-    let st = c .before .before .before .before .before in
-    rw (
-      growth (st .args .store .now) (st .args .o .0) (st .args .offset) (st .args .n) (omega arith),
-      c .lacks-room .ensures,
-      c .before .before .before .size-of .ensures,
-      c .before .free-block-count .ensures,
-    )
+returns : tie.Need-returns
+returns c = rw (c .lacks-room .ensures, c .before .larger .ensures, c .before .before .size-of .ensures)
 
 pub lacks-room-for-bytes-spec : {M : Type 1} → statement M
 lacks-room-for-bytes-spec =
@@ -44,9 +33,7 @@ lacks-room-for-bytes-spec =
     (tie.spec
     size-of-requires
     cast-old
-    add-if1
-    returns
-    free-block-count-requires
-    add-lacks-room
+    add-larger
+    larger-requires
     lacks-room-requires
-    returns-2)
+    returns)

@@ -1,9 +1,8 @@
 use Prim.Native.Nat.{_≤_}
 use native.Mathlib.Omega.{arith}
 use borrow.Author.Needs.{needs}
-use Rattle.spec.specs.Procedures.Attributes.{lacksRoom}
 use Rattle.shown.proofs.Good.{size-few}
-use Rattle.room.proofs.Growth.{size-fits}
+use Rattle.room.proofs.Sizes.{size-fits}
 use Rattle.room.proofs.lacks_room_for_size.Statement.{statement}
 use Rattle.room.proofs.lacks_room_for_size.Tie as tie
 
@@ -24,17 +23,10 @@ lacks-room-requires c κs =
     let st = c .before .before .before in
     let old = size-few (st .args .store .now) (st .pre .0) (st .args .o .0) (st .pre .1 .1 .0) in
     let small : c .before .size-of .result ≤ 8192 = omega arith in
-    (small, rw (c .size-set .ensures) (size-fits (st .args .size) (c .before .size-of .result) (st .pre .1 .1 .1) small))
+    (st .pre .0, (st .pre .1 .0, (small, rw (c .size-set .ensures) (size-fits (st .args .size) (c .before .size-of .result) (st .pre .1 .1 .1) small))))
 
 returns : tie.Need-returns
-unfolding lacksRoom
-returns c =
-    rw (
-      c .lacks-room .ensures,
-      c .before .size-set .ensures,
-      c .before .before .size-of .ensures,
-      c .before .before .before .before .pre .1 .0,
-    )
+returns c = rw (c .lacks-room .ensures, c .before .size-set .ensures, c .before .before .size-of .ensures)
 
 pub lacks-room-for-size-spec : {M : Type 1} → statement M
 lacks-room-for-size-spec =

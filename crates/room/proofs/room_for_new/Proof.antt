@@ -1,6 +1,5 @@
 use borrow.Author.Needs.{needs}
 use Rattle.spec.specs.Procedures.Names.{roomForNew}
-use Rattle.spec.specs.Procedures.Attributes.{lacksRoom}
 use Rattle.room.proofs.room_for_new.Statement.{statement}
 use Rattle.room.proofs.room_for_new.Tie as tie
 
@@ -14,7 +13,7 @@ enum-told : tie.Need-enum-told
 enum-told c = search needs
 
 returns : tie.Need-returns
-unfolding roomForNew lacksRoom
+unfolding roomForNew
 returns c = rw (← c .before .before .find-available .ensures, c .enum-told .given .1)
 
 find-free-name-requires : tie.Need-find-free-name-requires
@@ -27,7 +26,7 @@ enum-told-2 : tie.Need-enum-told-2
 enum-told-2 c = search needs
 
 returns-2 : tie.Need-returns-2
-unfolding roomForNew lacksRoom
+unfolding roomForNew
 returns-2 c =
     rw (
       ← c .before .before .before .before .before .before .find-available .ensures,
@@ -40,27 +39,25 @@ lacks-room-requires : tie.Need-lacks-room-requires
 lacks-room-requires c κs = search needs
 
 returns-3 : tie.Need-returns-3
-unfolding roomForNew lacksRoom
+unfolding roomForNew
 returns-3 c =
     rw (
       ← c .before .before .before .before .before .before .before .before .before .find-available .ensures,
       c .before .before .before .before .before .before .before .object .given .1,
       ← c .before .before .before .before .before .find-free-name .ensures,
       c .before .before .before .«record» .given .1,
-      ← c .before .before .before .before .before .before .before .before .before .before .before .pre .1 .0,
       ← c .before .lacks-room .ensures,
       c .if1 .taken,
     )
 
 returns-4 : tie.Need-returns-4
-unfolding roomForNew lacksRoom
+unfolding roomForNew
 returns-4 c =
     rw (
       ← c .before .before .before .before .before .before .before .before .before .find-available .ensures,
       c .before .before .before .before .before .before .before .object .given .1,
       ← c .before .before .before .before .before .find-free-name .ensures,
       c .before .before .before .«record» .given .1,
-      ← c .before .before .before .before .before .before .before .before .before .before .before .pre .1 .0,
       ← c .before .lacks-room .ensures,
       c .if1 .left,
     )

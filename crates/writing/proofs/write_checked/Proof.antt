@@ -7,8 +7,8 @@ use Rattle.writing.proofs.Written.{moved-bytes, no-bytes, some-bytes, n
 use Rattle.writing.proofs.write_checked.Statement.{statement}
 use Rattle.writing.proofs.write_checked.Tie as tie
 
-transferred-requires : tie.Need-transferred-requires
-transferred-requires c κs = search needs
+smaller-requires : tie.Need-smaller-requires
+smaller-requires c κs = search needs
 
 unchanged-requires : tie.Need-unchanged-requires
 unchanged-requires c κs = let st = c .before .before .before .before .before in (st .pre .0, st .pre .1 .1 .0)
@@ -20,8 +20,8 @@ returns : tie.Need-returns
 unfolding change
 returns c =
     let st = c .before .before .before .before .before .before in
-    let n = c .before .before .before .transferred .result in
-    rw (← c .before .before .before .transferred .ensures, no-bytes _ _ _ _ _ (none-moved (st .args .call .now) (st .args .bytes) n (c .before .before .if1 .taken)))
+    let n = c .before .before .before .smaller .result in
+    rw (← c .before .before .before .smaller .ensures, no-bytes _ _ _ _ _ (none-moved (st .args .call .now) (st .args .bytes) n (c .before .before .if1 .taken)))
     (record { result = rw (c .unchanged .ensures); store = refl; writable = rw (c .unchanged .ensures) (record { good = st .pre .0; object = st .pre .1 .1 .0 }) })
 
 before-requires : tie.Need-before-requires
@@ -30,8 +30,8 @@ before-requires c κs = let st = c .before .before .before .before .before in (s
 write-edit-requires : tie.Need-write-edit-requires
 write-edit-requires c κs =
     let st = c .before .before .before .before .before .before .before in
-    let n = c .before .before .before .before .transferred .result in
-    let e = c .before .before .before .before .transferred .ensures in
+    let n = c .before .before .before .before .smaller .result in
+    let e = c .before .before .before .before .smaller .ensures in
     let few : n ≤ st .args .bytes .length = rw e (st .pre .1 .1 .1 .1 .1 .0) in
     (st .pre .0, (st .pre .1 .0, (st .pre .1 .1 .1 .0 .some n e (c .before .before .before .if1 .left), omega (arith, (st .pre .1 .1 .1 .1 .0)))))
 
@@ -45,8 +45,8 @@ returns-2 : tie.Need-returns-2
 unfolding change
 returns-2 c =
     let st = c .before .before .before .before .before .before .before .before .before .before in
-    let n = c .before .before .before .before .before .before .before .transferred .result in
-    let e = c .before .before .before .before .before .before .before .transferred .ensures in
+    let n = c .before .before .before .before .before .before .before .smaller .result in
+    let e = c .before .before .before .before .before .before .before .smaller .ensures in
     let few : n ≤ st .args .bytes .length = rw e (st .pre .1 .1 .1 .1 .1 .0) in
     let some = c .before .before .before .before .before .before .if1 .left in
     let l = written-left (st .args .call .now) (st .args .bytes) n (st .args .store .now) (st .args .context) (st .args .offset) (st .args .o .0) some few (st .pre .1 .1 .1 .1 .0) (rw (← e) at (st .pre .1 .1 .1 .1 .1 .1)) in
@@ -57,7 +57,7 @@ pub write-checked-spec : {M : Type 1} → statement M
 write-checked-spec =
     tie.close
     (tie.spec
-    transferred-requires
+    smaller-requires
     unchanged-requires
     same-length
     returns

@@ -1,6 +1,6 @@
 use mathlib.Core.Path.{refl}
 use borrow.Author.Needs.{needs}
-use Rattle.changes.specs.Ready.{Sizable}
+use Rattle.changes.specs.Makable.{Sizable}
 use Rattle.changes.proofs.attributes.resize_to.Statement.{statement}
 use Rattle.changes.proofs.attributes.resize_to.Tie as tie
 

@@ -15,7 +15,7 @@ check-setattr-requires : tie.Need-check-setattr-requires
 check-setattr-requires c κs =
     let st = c .before .before .before in
     let g = valid-records (st .args .store .now) (st .pre .0 .valid) (st .pre .0 .bytes) in
-    (g, (st .pre .0 .count, st .pre .1 .1))
+    (g, (st .pre .0 .map, st .pre .1 .1))
 
 enum-known-answer : tie.Need-enum-known-answer
 enum-known-answer c = search needs

@@ -1,6 +1,6 @@
 use mathlib.Core.Path.{refl}
 use borrow.Author.Needs.{needs}
-use Rattle.changes.specs.Ready.{Sizable}
+use Rattle.changes.specs.Makable.{Sizable}
 use Rattle.laws.proofs.GoodRecords.{resize-still}
 use Rattle.writing.proofs.Written.{record-inside}
 use Rattle.changes.proofs.names.existing_edit.Statement.{statement}

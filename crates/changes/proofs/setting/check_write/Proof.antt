@@ -43,8 +43,8 @@ returns-3 c =
       eq-eqb _ _ (c .if2 .taken),
     )
 
-transferred-requires : tie.Need-transferred-requires
-transferred-requires c κs = search needs
+smaller-requires : tie.Need-smaller-requires
+smaller-requires c κs = search needs
 
 is-past-end-requires : tie.Need-is-past-end-requires
 is-past-end-requires c κs = search needs
@@ -58,7 +58,7 @@ returns-4 c =
       part-length _ _ _ (c .before .before .before .before .before .before .before .before .before .before .before .before .pre .1 .1 .1),
       eq-eqb _ _ (c .before .before .before .before .if1 .left),
       ne-eqb _ _ (c .before .before .before .if2 .left),
-      ← c .before .before .transferred .ensures,
+      ← c .before .before .smaller .ensures,
       ← c .before .is-past-end .ensures,
       c .if3 .taken,
     )
@@ -67,7 +67,7 @@ lacks-room-for-bytes-requires : tie.Need-lacks-room-for-bytes-requires
 lacks-room-for-bytes-requires c κs =
     let st = c .before .before .before .before .before .before .before .before .before .before .before .before in
     let below = regular-reached (st .args .store .now) (cut (st .args .call .now) (st .args .h)) _ _ (c .before .before .before .before .before .before .before .answer .given .1) (c .before .before .before .before .before .before .before .before .before .reach-regular .ensures) .0 .below in
-    (st .pre .0, (st .pre .1 .0, (below, ltb-false 8192 (st .args .offset + c .before .before .transferred .result) (sym (c .before .is-past-end .ensures) ∙ c .if3 .left))))
+    (st .pre .0, (st .pre .1 .0, (below, ltb-false 8192 (st .args .offset + c .before .before .smaller .result) (sym (c .before .is-past-end .ensures) ∙ c .if3 .left))))
 
 returns-5 : tie.Need-returns-5
 unfolding checkWrite
@@ -78,7 +78,7 @@ returns-5 c =
       part-length _ _ _ (c .before .before .before .before .before .before .before .before .before .before .before .before .before .before .pre .1 .1 .1),
       eq-eqb _ _ (c .before .before .before .before .before .before .if1 .left),
       ne-eqb _ _ (c .before .before .before .before .before .if2 .left),
-      ← c .before .before .before .before .transferred .ensures,
+      ← c .before .before .before .before .smaller .ensures,
       ← c .before .before .before .is-past-end .ensures,
       c .before .before .if3 .left,
       ← c .before .lacks-room-for-bytes .ensures,
@@ -94,7 +94,7 @@ returns-6 c =
       part-length _ _ _ (c .before .before .before .before .before .before .before .before .before .before .before .before .before .before .pre .1 .1 .1),
       eq-eqb _ _ (c .before .before .before .before .before .before .if1 .left),
       ne-eqb _ _ (c .before .before .before .before .before .if2 .left),
-      ← c .before .before .before .before .transferred .ensures,
+      ← c .before .before .before .before .smaller .ensures,
       ← c .before .before .before .is-past-end .ensures,
       c .before .before .if3 .left,
       ← c .before .lacks-room-for-bytes .ensures,
@@ -111,7 +111,7 @@ check-write-spec =
     returns
     returns-2
     returns-3
-    transferred-requires
+    smaller-requires
     is-past-end-requires
     returns-4
     lacks-room-for-bytes-requires

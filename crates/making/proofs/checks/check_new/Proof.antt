@@ -16,8 +16,8 @@ returns : tie.Need-returns
 unfolding checkNew
 returns c = λ s d. rw (← c .before .before .check-name .ensures, c .enum-told2 .given .1)
 
-is-dot-requires : tie.Need-is-dot-requires
-is-dot-requires c κs = search needs
+is-dots-requires : tie.Need-is-dots-requires
+is-dots-requires c κs = search needs
 
 returns-2 : tie.Need-returns-2
 unfolding checkNew
@@ -25,22 +25,18 @@ returns-2 c =
     λ s d. rw (
       ← c .before .before .before .before .check-name .ensures,
       c .before .before .enum-told .given .1,
-      ← c .before .is-dot .ensures,
+      ← c .before .is-dots .ensures,
       c .if1 .taken,
     )
-
-is-dot-dot-requires : tie.Need-is-dot-dot-requires
-is-dot-dot-requires c κs = search needs
 
 returns-3 : tie.Need-returns-3
 unfolding checkNew
 returns-3 c =
     λ s d. rw (
-      ← c .before .before .before .before .before .before .check-name .ensures,
-      c .before .before .before .before .enum-told .given .1,
-      ← c .before .before .before .is-dot .ensures,
-      c .before .before .if1 .left,
-      ← c .before .is-dot-dot .ensures,
+      ← c .before .before .before .before .before .check-name .ensures,
+      c .before .before .before .enum-told .given .1,
+      ← c .before .before .is-dots .ensures,
+      c .before .if1 .left,
       c .if2 .taken,
     )
 
@@ -48,26 +44,11 @@ returns-4 : tie.Need-returns-4
 unfolding checkNew
 returns-4 c =
     λ s d. rw (
-      ← c .before .before .before .before .before .before .before .check-name .ensures,
-      c .before .before .before .before .before .enum-told .given .1,
-      ← c .before .before .before .before .is-dot .ensures,
-      c .before .before .before .if1 .left,
-      ← c .before .before .is-dot-dot .ensures,
-      c .before .if2 .left,
-      c .if3 .taken,
-    )
-
-returns-5 : tie.Need-returns-5
-unfolding checkNew
-returns-5 c =
-    λ s d. rw (
-      ← c .before .before .before .before .before .before .before .check-name .ensures,
-      c .before .before .before .before .before .enum-told .given .1,
-      ← c .before .before .before .before .is-dot .ensures,
-      c .before .before .before .if1 .left,
-      ← c .before .before .is-dot-dot .ensures,
-      c .before .if2 .left,
-      c .if3 .left,
+      ← c .before .before .before .before .before .check-name .ensures,
+      c .before .before .before .enum-told .given .1,
+      ← c .before .before .is-dots .ensures,
+      c .before .if1 .left,
+      c .if2 .left,
     )
 
 pub check-new-spec : {M : Type 1} → statement M
@@ -78,9 +59,7 @@ check-new-spec =
     enum-told
     enum-told-2
     returns
-    is-dot-requires
+    is-dots-requires
     returns-2
-    is-dot-dot-requires
     returns-3
-    returns-4
-    returns-5)
+    returns-4)

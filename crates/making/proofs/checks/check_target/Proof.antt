@@ -2,7 +2,7 @@ use native.Mathlib.Omega.{arith}
 use borrow.Author.Needs.{needs}
 use Rattle.shown.proofs.Good.{good-shaped, good-names-sound}
 use Rattle.spec.specs.Procedures.{cut}
-use Rattle.making.proofs.Told.{found-below}
+use Rattle.find.proofs.Entry.{name-found}
 use Rattle.making.proofs.checks.check_target.Statement.{statement}
 use Rattle.making.proofs.checks.check_target.Tie as tie
 
@@ -31,14 +31,14 @@ returns c =
 name-child-requires : tie.Need-name-child-requires
 name-child-requires c κs =
     let st = c .before .before .before .before .before .before in
-    let b = found-below (st .args .store .now) (st .args .d .0) (cut (st .args .call .now) (st .args .name)) _ _ (st .pre .0) (c .before .found .given .1) (c .before .before .before .find-name .ensures) in
+    let b = name-found (st .args .store .now) (st .pre .0) (st .args .d .0) (cut (st .args .call .now) (st .args .name)) _ _ (c .before .found .given .1) (c .before .before .before .find-name .ensures) in
     omega arith
 
 check-existing-requires : tie.Need-check-existing-requires
 check-existing-requires c κs =
     let st = c .before .before .before .before .before .before .before in
-    let b = found-below (st .args .store .now) (st .args .d .0) (cut (st .args .call .now) (st .args .name)) _ _ (st .pre .0) (c .before .before .found .given .1) (c .before .before .before .before .find-name .ensures) in
-    (st .pre .0, (st .pre .1 .0, (st .pre .1 .1 .1, rw (c .name-child .ensures) (b .1))))
+    let b = name-found (st .args .store .now) (st .pre .0) (st .args .d .0) (cut (st .args .call .now) (st .args .name)) _ _ (c .before .before .found .given .1) (c .before .before .before .before .find-name .ensures) in
+    (st .pre .0, (st .pre .1 .0, (st .pre .1 .1 .1, rw (c .name-child .ensures) (b .child-below))))
 
 returns-2 : tie.Need-returns-2
 returns-2 c =

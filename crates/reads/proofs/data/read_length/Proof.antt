@@ -14,14 +14,14 @@ returns : tie.Need-returns
 unfolding readLength
 returns c = omega arith
 
-least-requires : tie.Need-least-requires
-least-requires c κs = search needs
+smaller-requires : tie.Need-smaller-requires
+smaller-requires c κs = search needs
 
-sub-least : tie.Need-sub-least
-sub-least c = search needs
+sub-smaller : tie.Need-sub-smaller
+sub-smaller c = search needs
 
-least-requires-2 : tie.Need-least-requires-2
-least-requires-2 c κs = search needs
+smaller-requires-2 : tie.Need-smaller-requires-2
+smaller-requires-2 c κs = search needs
 
 returns-2 : tie.Need-returns-2
 unfolding readLength
@@ -34,7 +34,7 @@ read-length-spec =
     size-of-requires
     cast-size
     returns
-    least-requires
-    sub-least
-    least-requires-2
+    smaller-requires
+    sub-smaller
+    smaller-requires-2
     returns-2)

@@ -2,8 +2,8 @@ use native.Mathlib.Omega.{arith}
 use borrow.Author.Needs.{needs}
 use Rattle.spec.specs.Procedures.{cut}
 use Rattle.spec.specs.Procedures.Names.{lookIn}
+use Rattle.find.proofs.Entry.{name-found}
 use Rattle.shown.proofs.Good.{good-shaped, good-names-sound}
-use Rattle.reads.proofs.Found.{found-below}
 use Rattle.reads.proofs.lookup.look_in.Statement.{statement}
 use Rattle.reads.proofs.lookup.look_in.Tie as tie
 
@@ -56,8 +56,9 @@ returns-3 c =
 
 name-child-requires : tie.Need-name-child-requires
 name-child-requires c κs =
-    let a = c .before .before .before .before .before .before .before .before .before .before .args in
-    omega (arith, found-below (a .store .now) (a .d .0) (cut (a .call .now) (a .name)) _ _ (c .before .found .given .1) (c .before .before .before .find-name .ensures))
+    let st = c .before .before .before .before .before .before .before .before .before .before in
+    let a = st .args in
+    omega (arith, name-found (a .store .now) (st .pre .0) (a .d .0) (cut (a .call .now) (a .name)) _ _ (c .before .found .given .1) (c .before .before .before .find-name .ensures) .record-below)
 
 returns-4 : tie.Need-returns-4
 unfolding lookIn

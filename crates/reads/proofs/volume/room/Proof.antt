@@ -10,8 +10,11 @@ block-count-requires c κs = search needs
 mul-total : tie.Need-mul-total
 mul-total c = search needs
 
+free-block-count-requires : tie.Need-free-block-count-requires
+free-block-count-requires c κs = search needs
+
 mul-unused : tie.Need-mul-unused
-mul-unused c = omega (arith, free-few (c .before .before .args .store .now))
+mul-unused c = omega (arith, free-few (c .before .before .before .args .store .now), c .free-block-count .ensures)
 
 object-count-requires : tie.Need-object-count-requires
 object-count-requires c κs = search needs
@@ -23,18 +26,18 @@ cast-t9 : tie.Need-cast-t9
 cast-t9 c = search needs
 
 cast-t10 : tie.Need-cast-t10
-cast-t10 c = omega (arith, free-few (c .before .before .before .before .args .store .now))
+cast-t10 c = omega (arith, free-few (c .before .before .before .before .before .args .store .now), c .before .before .free-block-count .ensures)
 
 cast-t11 : tie.Need-cast-t11
 cast-t11 c = search needs
 
 cast-t12 : tie.Need-cast-t12
-cast-t12 c = omega (arith, available-few (c .before .before .before .before .args .store .now))
+cast-t12 c = omega (arith, available-few (c .before .before .before .before .before .args .store .now))
 
 returns : tie.Need-returns
 returns c =
-    let st = c .before .before .before .before in (
-      rw (← c .available-count .ensures, ← c .before .object-count .ensures, ← c .before .before .block-count .ensures, ← st .pre .1 .1),
+    let st = c .before .before .before .before .before in (
+      rw (← c .available-count .ensures, ← c .before .object-count .ensures, ← c .before .before .free-block-count .ensures, ← c .before .before .before .block-count .ensures),
       record { good = st .pre .0; object = st .pre .1 .0 },
     )
 
@@ -44,6 +47,7 @@ room-spec =
     (tie.spec
     block-count-requires
     mul-total
+    free-block-count-requires
     mul-unused
     object-count-requires
     available-count-requires

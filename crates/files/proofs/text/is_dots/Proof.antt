@@ -1,6 +1,6 @@
 use borrow.Author.Needs.{needs}
-use Rattle.removable.proofs.is_dots.Statement.{statement}
-use Rattle.removable.proofs.is_dots.Tie as tie
+use Rattle.files.proofs.text.is_dots.Statement.{statement}
+use Rattle.files.proofs.text.is_dots.Tie as tie
 
 is-dot-requires : tie.Need-is-dot-requires
 is-dot-requires c κs = search needs

@@ -1,4 +1,4 @@
--- What the calls that change the store ask of it.
+-- What the edits of a call ask of the store: a file that may get a size, and a new object.
 use Prim.Native.Nat.{ℕ, _-_, _≤_, _<_}
 use mathlib.Core.Path.{_≡_}
 use mathlib.Core.Bool.{true}
@@ -12,19 +12,9 @@ use Rattle.spec.specs.Image.{Store, objects, objectAt}
 use Rattle.spec.specs.Room.{sizeOf, need, freeBlockCount}
 use Rattle.spec.specs.Procedures.Attributes.{isGiven, sizeSet}
 use Rattle.laws.proofs.GoodRecords.{GoodClock}
-use Rattle.laws.proofs.Range.{Below}
 use Rattle.laws.proofs.Passed.{NewRoom}
 use Rattle.laws.proofs.SetAttributes.{FitsSettable, Allowed}
-use Rattle.laws.proofs.Valid.{GoodName, Valid}
-use Rattle.free_space.specs.Blocks.{UsedMap}
-
--- a valid store of bytes, the map of its used blocks, the number of its free blocks, and a good clock
-pub record Ready (s : Store) (used : List ℕ) (free : ℕ) (c : Context) : Type 0 where
-  pub valid : Valid s
-  pub bytes : Below 256 s
-  pub map : UsedMap s used
-  pub count : free ≡ freeBlockCount s
-  pub clock : GoodClock (c .clock)
+use Rattle.laws.proofs.Valid.{GoodName}
 
 -- an object that may get the size, where one is given
 pub record Sizable (s : Store) (o : ℕ) (x : SetSize) : Type 0 where
