@@ -62,8 +62,8 @@
  *
  * 6. Calling. Lend the whole store and a reply space of NFS3_REPLY_SPACE bytes. Seconds are those since 1970, as 32 bits without a sign; where
  *    the clock is before 1970 or after 2106, stop. Nanoseconds are below NFS3_NANOSECONDS. FSINFO tells hosts 1 nanosecond, so the time is finer
- *    than seconds, and in each call of a process later than in the one before, also when the system's clock stands still or is set back. After
- *    a restart the system's clock is good enough.
+ *    than seconds, and later in each call than in the last one that changed the store, also when the system's clock stands still or is set
+ *    back. After a restart the system's clock is good enough.
  *    OTHERWISE: two changes get the same time, and a host that read the file between them sees that time again and goes on using its old bytes.
  *
  * 7. Keeping. Where a call changed the store, and only there, bring all of its bytes to stable storage, all or nothing, BEFORE the reply is
@@ -101,7 +101,8 @@
  * Memory: they read and write the lent bytes and their own stack, and nothing else. There is no allocation, no static data but constants, no lock,
  *   no system call; they keep no pointer.
  * Time: each ends, whatever the bytes. A call checks the whole store first, which takes a few microseconds for the largest one.
- * Threads: they are reentrant, and may run at once on different stores. One store is used by one call at a time, and not saved within one.
+ * Threads: they are reentrant, and may run at once on different stores. One store is used by one call at a time, and not saved within
+ *   one; simplest is a lock that holds from the call until the store is saved.
  * Stack: at most NFS3_STACK bytes, see there.
  * Pointers: not null, even where the length is 0; no alignment is needed; the buffers of one call do not overlap.
  * Platform: x86-64 with the System V calling convention (Linux). The bytes of a store do not depend on the platform.
