@@ -456,7 +456,7 @@ static bool is_sending(const struct connection *c) {
     return c->reply_sent < c->reply_len;
 }
 
-/* Duty 7: makes sure that a save finds a descriptor beside the listening socket and all connections. */
+/* Duty 4: makes sure that a save finds a descriptor beside the listening socket and all connections. */
 static void check_descriptors(void) {
     int taken[CONNECTIONS + 2];
     for (size_t i = 0; i < CONNECTIONS + 2; i++) {
