@@ -4,12 +4,14 @@
  * verified library. demo/daemon_test tests it.
  *
  *     daemon --format OBJECTS NAMES BLOCKS STORE_FILE    makes a new, empty store; what was in the file is lost
+ *     daemon --stamp STORE_FILE                          gives a copy that was brought back a new stamp; its files stay
  *     daemon STORE_FILE PORT                             serves it; with port 0 on any free port. Prints "port N" when hosts can connect
  *
  * A Linux host mounts it, with N for the port, by
  *     mount -t nfs -o vers=3,proto=tcp,port=N,mountproto=tcp,mountport=N,nolock 127.0.0.1:/ FOLDER
  *
  * There is one thread and no allocation. A connection has room for one call and one reply, and the next call is read when the reply is sent.
+ * Beside STORE_FILE stand STORE_FILE.lock and, within a save, STORE_FILE.new.
  */
 #define _DEFAULT_SOURCE
 #include "nfs3.h"
@@ -21,6 +23,7 @@
 #include <netinet/in.h>
 #include <netinet/tcp.h>
 #include <poll.h>
+#include <signal.h>
 #include <stdbool.h>
 #include <stdio.h>
 #include <stdlib.h>
@@ -31,9 +34,16 @@
 #include <time.h>
 #include <unistd.h>
 
+/* Duty 8: whether a line on standard error would be taken at once. Nothing waits for a reader that is behind. */
+static bool can_report(void) {
+    struct pollfd error = { .fd = STDERR_FILENO, .events = POLLOUT };
+    return poll(&error, 1, 0) == 1 && (error.revents & POLLOUT) != 0;
+}
+
 /* Prints why and ends the process. Nothing is lost by it: what is not saved was not answered either, and hosts send it again. */
 static void stop(const char *what, const char *why) {
-    fprintf(stderr, "daemon: %s: %s\n", what, why);
+    if (can_report())
+        fprintf(stderr, "daemon: %s: %s\n", what, why);
     exit(1);
 }
 
@@ -44,8 +54,9 @@ static void failed(const char *what) {
 
 /* The same, where the library refused something for no fault of a host. */
 static void stop_at(const char *what, uint32_t number) {
-    fprintf(stderr, "daemon: %s: answer %u\n", what, (unsigned)number);
-    exit(1);
+    char why[32];
+    snprintf(why, sizeof why, "answer %u", (unsigned)number);
+    stop(what, why);
 }
 
 /* ---- Numbers and times ---- */
@@ -66,12 +77,14 @@ static void put_random(void *bytes, size_t len) {
         failed("random bytes");
 }
 
-/* Duty 5: the time, in each call later than in the one before, also when the system's clock stands still or is set back. */
+/* Duty 6: the time, in each call later than in the one before, also when the system's clock stands still or is set back. */
 static struct timespec next_time(void) {
     static struct timespec last;
     struct timespec now;
     if (clock_gettime(CLOCK_REALTIME, &now) != 0)
         failed("clock");
+    if (now.tv_sec < 0 || now.tv_sec >= UINT32_MAX)
+        stop("clock", "before 1970 or after 2106");
     if (now.tv_sec < last.tv_sec || (now.tv_sec == last.tv_sec && now.tv_nsec <= last.tv_nsec)) {
         now = last;
         if (++now.tv_nsec == NFS3_NANOSECONDS) {
@@ -92,7 +105,7 @@ static uint64_t verifier;
 static int directory; /* the folder of the file */
 static char name[NAME_MAX + 1], new_name[NAME_MAX + 1];
 
-/* Finds the folder of the store's file, and makes sure that no other process has the store (duty 2). The lock ends with the process. */
+/* Finds the folder of the store's file, and makes sure that no other process has the store (duty 3). The lock ends with the process. */
 static void open_place(const char *path) {
     const char *slash = strrchr(path, '/');
     const char *last = slash == NULL ? path : slash + 1;
@@ -110,11 +123,16 @@ static void open_place(const char *path) {
         failed(lock);
 }
 
-/* Reads at most so many bytes of the store's file and gives their number, or -1 where there is no file. Brings them to stable storage. */
+/*
+ * Reads at most so many bytes of the store's file and gives their number, or -1 where there is no file. Brings them to stable storage. A link is
+ * refused: it is a second name, with another lock.
+ */
 static ssize_t read_file(uint8_t *bytes, size_t most) {
-    int fd = openat(directory, name, O_RDONLY | O_CLOEXEC);
-    if (fd < 0)
+    int fd = openat(directory, name, O_RDONLY | O_NOFOLLOW | O_CLOEXEC);
+    if (fd < 0 && errno == ENOENT)
         return -1;
+    if (fd < 0)
+        failed(name);
     size_t len = 0;
     ssize_t n = 1;
     while (len < most && n > 0) {
@@ -129,7 +147,7 @@ static ssize_t read_file(uint8_t *bytes, size_t most) {
     return (ssize_t)len;
 }
 
-/* Duty 6: replaces the file by the store's bytes, all or nothing. They are on stable storage when it returns. */
+/* Duty 7: replaces the file by the store's bytes, all or nothing. They are on stable storage when it returns. No step is tried again. */
 static void save(void) {
     int fd = openat(directory, new_name, O_WRONLY | O_CREAT | O_TRUNC | O_CLOEXEC, 0600);
     if (fd < 0)
@@ -149,12 +167,12 @@ static void save(void) {
     memcpy(saved, store, store_len);
 }
 
-/* Duty 2. A store that fails its check is left as it is. */
+/* Duty 3. A store that fails its check is left as it is. */
 static void load(void) {
     static uint8_t bytes[NFS3_STORE_MOST + 1];
     ssize_t len = read_file(bytes, sizeof bytes);
     if (len < 0)
-        failed(name);
+        stop(name, "no such file");
     if (nfs3_check(bytes, (size_t)len).number != NFS3_DONE)
         stop(name, "no store that passes its check");
     store_len = (size_t)len;
@@ -163,26 +181,46 @@ static void load(void) {
     put_random(&verifier, sizeof verifier); /* in a million starts two are the same with a chance below 1 in 30 million */
 }
 
-/* Duty 1. The chance that a random stamp is one of those of n earlier formats, the last one excluded, is n in 4,294,967,296. */
-static void format(uint32_t objects, uint32_t names, uint32_t blocks) {
+/* A stamp other than the one in the file, whatever the file is. The chance that it is one of n stamps before that is n in 4,294,967,296. */
+static uint32_t new_stamp(void) {
     uint8_t old[NFS3_STAMP_OFFSET + NFS3_STAMP_LENGTH];
     bool is_old = read_file(old, sizeof old) == (ssize_t)sizeof old;
     uint32_t stamp;
     do
         put_random(&stamp, sizeof stamp);
     while (is_old && stamp == get_word(old + NFS3_STAMP_OFFSET));
+    return stamp;
+}
+
+/* Duty 1. */
+static void format(uint32_t objects, uint32_t names, uint32_t blocks) {
     struct timespec now = next_time();
     store_len = NFS3_STORE_LENGTH(objects, names, blocks);
-    struct nfs3_answer a = nfs3_format(store, store_len, stamp, objects, names, blocks, (uint32_t)now.tv_sec, (uint32_t)now.tv_nsec);
+    struct nfs3_answer a = nfs3_format(store, store_len, new_stamp(), objects, names, blocks, (uint32_t)now.tv_sec, (uint32_t)now.tv_nsec);
     if (a.number != NFS3_DONE)
         stop_at("format", a.number);
     save();
 }
 
-/* ---- Replies that are kept (duty 4) ---- */
+/* Duty 2. */
+static void restamp(void) {
+    load();
+    put_word(store + NFS3_STAMP_OFFSET, new_stamp());
+    save();
+}
 
-/* So many, and for so long. Only calls that changed the store are kept: to do any other again does no harm. */
-enum { KEPT = 256, KEPT_SECONDS = 120 };
+enum { RPC_CALL = 0, RPC_REPLY = 1, RPC_VERSION = 2, SUCCESS = 0, PROG_MISMATCH = 2, PROC_UNAVAIL = 3, GARBAGE_ARGS = 4 };
+enum { SETATTR = 2, WRITE = 7, CREATE = 8, MKDIR = 9, REMOVE = 12, RMDIR = 13, RENAME = 14 };
+
+/* Whether the message is an RPC call to this program. */
+static bool is_call_to(uint32_t program, const uint8_t *call, size_t len) {
+    return len >= 24 && get_word(call + 4) == RPC_CALL && get_word(call + 8) == RPC_VERSION && get_word(call + 12) == program;
+}
+
+/* ---- Replies that are kept (duty 5) ---- */
+
+/* So many, and for so long. */
+enum { KEPT = 256, KEPT_SECONDS = 180 };
 
 struct kept {
     uint32_t address;
@@ -199,6 +237,15 @@ static time_t seconds_running(void) {
     if (clock_gettime(CLOCK_MONOTONIC, &now) != 0)
         failed("clock");
     return now.tv_sec;
+}
+
+/* Whether the reply to a call is kept, whatever it says: the procedure is one that may change the store. */
+static bool is_to_keep(const uint8_t *call, size_t len) {
+    if (!is_call_to(NFS3_PROGRAM, call, len) || get_word(call + 16) != NFS3_VERSION)
+        return false;
+    uint32_t procedure = get_word(call + 20);
+    return procedure == SETATTR || procedure == WRITE || procedure == CREATE || procedure == MKDIR || procedure == REMOVE ||
+           procedure == RMDIR || procedure == RENAME;
 }
 
 static const struct kept *find_kept(uint32_t address, const uint8_t *call, size_t call_len) {
@@ -222,15 +269,10 @@ static void keep(uint32_t address, const uint8_t *call, size_t call_len, const u
     memcpy(k->reply, reply, reply_len);
 }
 
-/* ---- MOUNT version 3 (duty 8): NULL, MNT of "/", UMNT ---- */
+/* ---- MOUNT version 3 (duty 9): NULL, MNT of "/", UMNT ---- */
 
-enum { RPC_CALL = 0, RPC_REPLY = 1, RPC_VERSION = 2, SUCCESS = 0, PROG_MISMATCH = 2, PROC_UNAVAIL = 3, GARBAGE_ARGS = 4 };
 enum { MOUNT_PROGRAM = 100005, MOUNT_VERSION = 3, MOUNT_NULL = 0, MOUNT_MNT = 1, MOUNT_UMNT = 3, MOUNT_NOENT = 2, PATH_MOST = 1024 };
 enum { AUTH_NONE = 0, AUTH_SYS = 1 };
-
-static bool is_mount(const uint8_t *call, size_t len) {
-    return len >= 24 && get_word(call + 4) == RPC_CALL && get_word(call + 8) == RPC_VERSION && get_word(call + 12) == MOUNT_PROGRAM;
-}
 
 /* The place behind opaque data of at most so many bytes whose length word is at a place in the call; 0 where it is cut or too long. */
 static size_t behind_opaque(const uint8_t *call, size_t len, size_t at, size_t most) {
@@ -297,16 +339,22 @@ static void end_connection(struct connection *c) {
     c->fd = -1;
 }
 
+/* Duty 8: at most one line a second. */
 static void report_refused(const struct connection *c, uint32_t number, const char *what, size_t len) {
+    static time_t last = -1;
+    time_t now = seconds_running();
+    if (now == last || !can_report())
+        return;
+    last = now;
     char address[INET_ADDRSTRLEN] = "?";
     struct in_addr in = { .s_addr = c->address };
     inet_ntop(AF_INET, &in, address, sizeof address);
     fprintf(stderr, "daemon: refused: answer %u to %s of %zu bytes from %s\n", (unsigned)number, what, len, address);
 }
 
-/* Duty 7: sends what can be sent of the reply. False where the connection is to be closed. */
+/* Duty 8: sends what can be sent of the reply. False where the connection is to be closed. */
 static bool send_reply(struct connection *c) {
-    ssize_t n = send(c->fd, c->reply + c->reply_sent, c->reply_len - c->reply_sent, MSG_DONTWAIT | MSG_NOSIGNAL);
+    ssize_t n = send(c->fd, c->reply + c->reply_sent, c->reply_len - c->reply_sent, MSG_DONTWAIT);
     if (n < 0)
         return errno == EAGAIN || errno == EINTR;
     c->reply_sent += (size_t)n;
@@ -317,12 +365,11 @@ static bool send_reply(struct connection *c) {
 static bool answer(struct connection *c) {
     uint8_t *reply = c->reply + MARK;
     size_t len;
-    bool changed = false;
     const struct kept *k = find_kept(c->address, c->call, c->call_len);
     if (k != NULL) {
         len = k->reply_len;
         memcpy(reply, k->reply, len);
-    } else if (is_mount(c->call, c->call_len)) {
+    } else if (is_call_to(MOUNT_PROGRAM, c->call, c->call_len)) {
         len = answer_mount(c->call, c->call_len, reply);
         if (len == 0) {
             report_refused(c, NFS3_NO_CALL, "a message", c->call_len);
@@ -339,11 +386,11 @@ static bool answer(struct connection *c) {
         if (a.number != NFS3_DONE)
             stop_at("a call", a.number);
         len = a.length;
-        changed = memcmp(store, saved, store_len) != 0;
-    }
-    if (changed) {
-        save();
-        keep(c->address, c->call, c->call_len, reply, len);
+        bool changed = memcmp(store, saved, store_len) != 0;
+        if (changed)
+            save();
+        if (is_to_keep(c->call, c->call_len))
+            keep(c->address, c->call, c->call_len, reply, len);
     }
     put_word(c->reply, LAST_FRAGMENT | (uint32_t)len);
     c->reply_len = MARK + len;
@@ -351,7 +398,7 @@ static bool answer(struct connection *c) {
     return send_reply(c);
 }
 
-/* Duty 3: takes one piece of what the host sent, and answers where a record is complete. False where the connection is to be closed. */
+/* Duty 4: takes one piece of what the host sent, and answers where a record is complete. False where the connection is to be closed. */
 static bool receive(struct connection *c) {
     bool in_mark = c->mark_len < MARK;
     ssize_t n = in_mark ? recv(c->fd, c->mark + c->mark_len, MARK - c->mark_len, MSG_DONTWAIT)
@@ -409,6 +456,18 @@ static bool is_sending(const struct connection *c) {
     return c->reply_sent < c->reply_len;
 }
 
+/* Duty 4: makes sure that a save finds a descriptor beside the listening socket and all connections. */
+static void check_descriptors(void) {
+    int taken[CONNECTIONS + 2];
+    for (size_t i = 0; i < CONNECTIONS + 2; i++) {
+        taken[i] = dup(directory);
+        if (taken[i] < 0)
+            failed("descriptors for all connections and a save");
+    }
+    for (size_t i = 0; i < CONNECTIONS + 2; i++)
+        close(taken[i]);
+}
+
 static void serve(int listener) {
     for (;;) {
         struct pollfd polled[CONNECTIONS + 1];
@@ -430,7 +489,7 @@ static void serve(int listener) {
     }
 }
 
-/* A socket that listens on 127.0.0.1. Rights are not looked at (duty 9), so other machines cannot reach it. */
+/* A socket that listens on 127.0.0.1. Rights are not looked at (duty 10), so other machines cannot reach it. */
 static int listen_on(uint32_t port) {
     int listener = socket(AF_INET, SOCK_STREAM | SOCK_NONBLOCK | SOCK_CLOEXEC, 0);
     int on = 1;
@@ -454,17 +513,24 @@ static uint32_t number(const char *text, uint32_t most) {
 }
 
 int main(int argc, char **argv) {
+    signal(SIGPIPE, SIG_IGN); /* duty 8 */
     if (argc == 6 && strcmp(argv[1], "--format") == 0) {
         open_place(argv[5]);
         format(number(argv[2], NFS3_OBJECTS_MOST), number(argv[3], NFS3_NAMES_MOST), number(argv[4], NFS3_BLOCKS_MOST));
         return 0;
     }
+    if (argc == 3 && strcmp(argv[1], "--stamp") == 0) {
+        open_place(argv[2]);
+        restamp();
+        return 0;
+    }
     if (argc != 3)
-        stop("usage", "daemon --format OBJECTS NAMES BLOCKS STORE_FILE, or daemon STORE_FILE PORT");
+        stop("usage", "daemon --format OBJECTS NAMES BLOCKS STORE_FILE, daemon --stamp STORE_FILE, or daemon STORE_FILE PORT");
     uint32_t port = number(argv[2], 65535);
     open_place(argv[1]);
     load();
     for (size_t i = 0; i < CONNECTIONS; i++)
         connections[i].fd = -1;
+    check_descriptors();
     serve(listen_on(port));
 }

@@ -6,14 +6,17 @@
  *     syncdir PATH                fsync or fdatasync of a directory
  *     rename INODE DIGEST PATH    a file was renamed to this path
  *     send INODE DIGEST           bytes are about to be sent on a socket; inode and digest are those of the file TRACE_STORE
+ *     failed PATH                 fsync or fdatasync was made to fail
  *
  * Where TRACE_KILL is a number above 0, the process kills itself at the moment of that number. The moments are before and after each of the calls
  * above and each write to a file, and in a send also when half of the bytes have been moved. Where TRACE_KILL_WRITE is a number above 0, it kills
  * itself within the write to a file that has this number, when TRACE_CUT thousandths of the bytes have been moved. Where TRACE_SEND is a number
- * above 0, one call sends at most so many bytes, as the system may do too.
+ * above 0, one call sends at most so many bytes, as the system may do too. Where TRACE_FAIL is a number above 0, the call of fsync or fdatasync
+ * that has this number fails with EIO and does nothing; those after it do not fail, as it is with the system.
  */
 #define _GNU_SOURCE
 #include <dlfcn.h>
+#include <errno.h>
 #include <fcntl.h>
 #include <signal.h>
 #include <stdbool.h>
@@ -93,9 +96,15 @@ static void path_of(int fd, char path[4096]) {
 /* ---- Bringing to stable storage ---- */
 
 static int sync_with(int (*real)(int), int fd) {
+    static long syncs;
     moment();
     char before[64] = "", path[4096];
     path_of(fd, path);
+    if (__sync_add_and_fetch(&syncs, 1) == setting("TRACE_FAIL")) {
+        note("failed", "", path);
+        errno = EIO;
+        return -1;
+    }
     if (kind(fd) != S_IFDIR) {
         int again = open(path, O_RDONLY | O_CLOEXEC); /* the daemon's own descriptor may not be for reading */
         describe(again, before);

@@ -4,7 +4,9 @@
  * The library answers RPC messages. It has no socket, no file and no clock: the daemon lends it the bytes of a call, of the store and of a
  * reply space, and tells it the time. The three functions at the end of this file are proved to give, for any bytes, exactly the answer, the
  * reply and the store that the specification gives. What a daemon does around them is not proved: demo/daemon.c is an example of it, which is
- * tested (demo/daemon_test); its socket and its file are no part of the verified library.
+ * tested (demo/daemon_test); its socket and its file are no part of the verified library. Paths are those of the library's repository.
+ *
+ * To build, with this file in FOLDER: cc -IFOLDER daemon.c libnfs3.a
  *
  * The words: a HOST is a machine or program that sends calls. A HANDLE is what a host holds to name a file or a directory. An OBJECT is a file
  * or a directory. The STORE is one run of bytes with all objects, names and contents; a daemon keeps it in a file.
@@ -15,65 +17,82 @@
  * The proof speaks of bytes in memory. That hosts lose nothing rests on the daemon too, on each of these duties.
  *
  * 1. Formatting. nfs3_format makes a store once, when it is set up; its counts stay as they are from then on. A daemon that starts never
- *    formats by itself, since that removes all files. Take a stamp that was never used before: 32 random bits other than the old store's stamp,
- *    or a counter on stable storage that outlives the store; not the time in seconds, which repeats when a clock is set back. The handles of
- *    the old store are then answered STALE, and hosts mount again. An older copy of a store that is brought back needs a new stamp too: write
- *    it over the bytes 4 to 7 of the store, most significant first. The check does not judge the stamp.
+ *    formats by itself, since that removes all files; on command it may, over any file. Take a stamp that was never used before: 32 random bits
+ *    other than the bytes 4 to 7 of the old file, whatever that is, or a counter on stable storage that outlives the store; not the time in
+ *    seconds, which repeats when a clock is set back. The handles of the old store are then answered STALE, and hosts mount again.
  *    OTHERWISE: with a stamp used again a handle that a host still holds reaches another file, which the host then reads or overwrites as its
- *    own, since format sets every generation to 0, and an older copy gives out again what was given out after it was made.
+ *    own, since format sets every generation to 0.
  *
- * 2. Starting. Make sure that no other process has the store, before a format too (by a lock that ends with the process); otherwise two
- *    processes save over each other. Read the store and ask nfs3_check: where the answer is not NFS3_DONE, stop and leave the file as it is.
- *    Bring the file and its directory to stable storage (fsync of both) before the first reply: the process before may have been stopped within
- *    a save, and what is read now is told to hosts. Take a verifier that was never used before: 64 random bits, or a counter on stable storage.
- *    OTHERWISE: a host that sees the same verifier before and after a restart concludes that nothing was lost in between, and does not send its
- *    writes again.
+ * 2. A copy brought back. Give an older copy of a store a new stamp before its first start: take the lock, read the copy and ask the check
+ *    (duty 3), write a stamp as in duty 1 over the bytes 4 to 7, most significant first, and save it (duty 7), not in place. The files stay.
+ *    OTHERWISE: handles that were given out after the copy was made are given out again for other files. The check does not judge the stamp.
  *
- * 3. Receiving. A call is one RPC message (RFC 5531). Over UDP one datagram is one message; receive it into more than NFS3_CALL_MOST bytes, or
- *    a longer one is cut short and taken for another call. Over TCP messages are records (RFC 5531, section 11): each fragment starts with 4
- *    bytes, most significant first, whose highest bit says that it is the last fragment of its record, and whose other 31 bits are the number
- *    of bytes that follow; the bytes of the fragments, joined, are the message. A fragment, and its 4 bytes too, may come in pieces; several
- *    records may come at once; a fragment may be empty. The number is not to be trusted: a record of more than NFS3_CALL_MOST bytes is refused
- *    in any case (NFS3_LONG_CALL), so the daemon never holds more than these, and closes the connection. A connection within a record does not
- *    keep others waiting.
+ * 3. Starting. First make sure that no other process has the store, before a format too, by a lock that ends with the process. Not a lock on
+ *    the store's own file, since each save puts another file in its place: lock a file beside it, which stays. Different daemons exclude each
+ *    other only with the same lock; that of demo/daemon.c is flock of the store's name with ".lock" added. (A lock of fcntl ends when any
+ *    descriptor of the lock file is closed.) Refuse or resolve a symbolic link: it is a second name with another lock, and a save replaces it.
+ *    Then read the file: its length is the store's; refuse more than NFS3_STORE_MOST. What a stopped save left beside it is never read. Ask
+ *    nfs3_check: where the answer is not NFS3_DONE, stop and leave the file as it is. Before the first reply bring the file and its directory
+ *    to stable storage (fsync of both): the process before may have been stopped within a save, and what is read now is told to hosts. Take a
+ *    verifier that was never used before: 64 random bits, or a counter on stable storage.
+ *    OTHERWISE: two processes save over each other; and a host that sees the same verifier before and after a restart concludes that nothing
+ *    was lost in between, and does not send its writes again.
  *
- * 4. Resent calls. The library keeps no replies. Hosts send a call again when its reply is late or lost, over TCP on a new connection: from the
- *    same address, often from another port, with the same bytes; the first 4 of them are the call's number, the xid. Keep the last replies to
- *    calls that changed the store, each with the host's address and the call's bytes. To a call that is the same in both send the kept reply,
- *    without nfs3_call. Other bytes under the same xid are a new call. Keep more replies than hosts have calls on the way (some hundreds), for
- *    as long as hosts go on resending (some minutes), but not for ever: a program that starts again may use its xids again. With several
- *    threads, a call that is still being answered is not done a second time. Replies that are kept in memory are lost when the daemon stops.
- *    OTHERWISE: a host whose reply was lost is told EXIST for the lock file that it made itself, or NOENT for the file that it removed itself,
- *    and a late WRITE undoes a newer one.
+ * 4. Receiving. A call is one RPC message (RFC 5531).
+ *    UDP: one datagram is one message. Receive it into more than NFS3_CALL_MOST bytes, or a longer one is cut short and taken for another call.
+ *    TCP: messages are records (RFC 5531, section 11). Each fragment starts with 4 bytes, most significant first, whose highest bit says that it
+ *    is the last fragment of its record, and whose other 31 bits are the number of bytes that follow; the bytes of the fragments, joined, are
+ *    the message. A fragment, and its 4 bytes too, may come in pieces; several records may come at once; a fragment may be empty. The number is
+ *    not to be trusted: as soon as those of a record add up to more than NFS3_CALL_MOST, close the connection, as for NFS3_LONG_CALL, without
+ *    nfs3_call; never lend the first bytes of a longer message. A connection within a record does not keep others waiting. Do not read from a
+ *    connection while replies wait on it. Limit the connections, so that a save always has a descriptor; where all places are taken, close the
+ *    connection that was silent longest, and its host connects again.
+ *    OTHERWISE: a host that reads no replies, or only opens connections, takes all memory or descriptors, and a save fails.
  *
- * 5. Calling. Lend the whole store and a reply space of NFS3_REPLY_SPACE bytes. Seconds are those since 1970, as 32 bits without a sign;
- *    nanoseconds are below NFS3_NANOSECONDS. The clock is finer than seconds (FSINFO tells hosts 1 nanosecond): best is a time that is later in
- *    each call than in the one before, also when the system's clock stands still or is set back.
+ * 5. Resent calls. The library keeps no replies. Hosts send a call again when its reply is late or lost, over TCP on a new connection: from the
+ *    same address, often from another port, with the same bytes; the first 4 of them are the call's number, the xid. Keep the reply to every
+ *    call of SETATTR, WRITE, CREATE, MKDIR, REMOVE, RMDIR and RENAME (2, 7, 8, 9, 12, 13, 14) that is answered NFS3_DONE, whatever its status,
+ *    with the host's address, without the port, and the call's bytes. To a call that is the same in both send the kept reply, without
+ *    nfs3_call. Other bytes under the same xid are a new call. Keep at least the last 200 replies for at least 2 minutes, whichever ends first,
+ *    by a clock that is never set (CLOCK_MONOTONIC); sending a kept reply does not renew it. Not for ever: a program that starts again may use
+ *    its xids again. With several threads, a call that is still being answered is not done a second time. Replies that are kept in memory are
+ *    lost when the daemon stops.
+ *    OTHERWISE: a host whose reply was lost is told EXIST for the lock file that it made itself, or NOENT for the file that it removed itself;
+ *    a late WRITE undoes a newer one; and a REMOVE that was answered NOENT, sent again, removes a file that was made since.
+ *
+ * 6. Calling. Lend the whole store and a reply space of NFS3_REPLY_SPACE bytes. Seconds are those since 1970, as 32 bits without a sign; where
+ *    the clock is before 1970 or after 2106, stop. Nanoseconds are below NFS3_NANOSECONDS. FSINFO tells hosts 1 nanosecond, so the time is finer
+ *    than seconds, and later in each call than in the last one that changed the store, also when the system's clock stands still or is set
+ *    back. After a restart the system's clock is good enough.
  *    OTHERWISE: two changes get the same time, and a host that read the file between them sees that time again and goes on using its old bytes.
  *
- * 6. Keeping. Where a call changed the store, and only there, bring all of its bytes to stable storage, all or nothing, BEFORE the reply is
- *    sent: write a new file in the same directory, fsync it, rename it to the store's name, fsync the directory. Until then no other reply may
- *    show the change either. Where saving fails, send no reply and stop: it is not known which bytes are on stable storage, and the next start
- *    will read them.
+ * 7. Keeping. Where a call changed the store, and only there, bring all of its bytes to stable storage, all or nothing, BEFORE the reply is
+ *    sent: write a new file in the same directory, readable by the daemon alone, fsync it, rename it to the store's name, fsync the directory.
+ *    Until then no other reply may show the change either. One save may do for several calls, where all replies since the first are held back.
+ *    Where saving fails, send no reply, do not try again (a second fsync may say 0 for bytes that the first one lost), and stop: it is not known
+ *    which bytes are on stable storage, and the next start will read them.
  *    OTHERWISE: every reply to WRITE says FILE_SYNC, which means that the data is on stable storage, so a host that is told so too early drops
  *    its own copy, and a stop of the machine loses the data; and a file that is written in place is damaged by a stop in between.
  *
  *    How to see that a call changed nothing: compare the store's bytes with a copy of those saved last. That is sure, and takes microseconds.
  *    Apart from that, no byte of the store is changed with an answer other than NFS3_DONE; with a reply that is denied or not SUCCESS; with an
- *    NFS status other than OK (the word at byte 24 of a reply whose bytes 4 to 23 are the words 1 0 0 0 0); and by the procedures NULL,
- *    GETATTR, LOOKUP, ACCESS, READ, READDIR, FSSTAT, FSINFO, PATHCONF and COMMIT and those that are not served (READLINK, SYMLINK, MKNOD, LINK
- *    and READDIRPLUS, answered NOTSUPP). The others may leave the store as it was even with OK: WRITE of 0 bytes does.
+ *    NFS status other than OK (the word at byte 24 of a reply whose bytes 4 to 23 are the words 1 0 0 0 0); and by procedures other than the
+ *    seven of duty 5. These may leave the store as it was even with OK: WRITE of 0 bytes does.
  *
- * 7. Sending. The first `length` bytes of the reply space are the whole RPC message: over UDP one datagram to the address and port that the
- *    call came from; over TCP one record on the connection that the call came on, with its 4 bytes in front. Replies may be sent in any order.
- *    `send` may take fewer bytes than it is given: the rest goes first when the connection takes bytes again, and other connections do not wait
- *    for it. With an answer other than NFS3_DONE there is no reply; enum nfs3_number says what to do.
+ * 8. Sending. The first `length` bytes of the reply space are the whole RPC message. With an answer other than NFS3_DONE there is no reply; enum
+ *    nfs3_number says what to do. What is reported there never makes the daemon wait, and is limited to a few lines a second.
+ *    UDP: one datagram to the address and port that the call came from.
+ *    TCP: one record on the connection that the call came on, with its 4 bytes in front. Replies may be sent in any order. `send` may take fewer
+ *    bytes than it is given: the rest goes first when the connection takes bytes again, and other connections do not wait for it. Ignore
+ *    SIGPIPE. A host that has closed its sending side still gets its replies. Closing with bytes unread resets the connection, and replies on
+ *    their way are lost; the host then sends its calls again.
+ *    OTHERWISE: a host that goes away (SIGPIPE), or one that sends garbage (a log that nobody reads, or that fills the disk), stops the daemon.
  *
- * 8. The root's handle. Hosts get it through the MOUNT protocol (RFC 1813, appendix I), which is not in the library. It has NFS3_HANDLE_LENGTH
+ * 9. The root's handle. Hosts get it through the MOUNT protocol (RFC 1813, appendix I), which is not in the library. It has NFS3_HANDLE_LENGTH
  *    bytes: the stamp (bytes 4 to 7 of the store), then 8 zero bytes (object 0, generation 0). The root is never removed, so the handle stays
  *    the same until the stamp changes. Every other handle comes from the library's replies.
  *
- * 9. Rights are not looked at yet. Any credential is accepted, and whoever reaches the socket can read and change every file. Listen only where
+ * 10. Rights are not looked at yet. Any credential is accepted, and whoever reaches the socket can read and change every file. Listen only where
  *    everybody is trusted.
  *
  *
@@ -82,11 +101,13 @@
  * Memory: they read and write the lent bytes and their own stack, and nothing else. There is no allocation, no static data but constants, no lock,
  *   no system call; they keep no pointer.
  * Time: each ends, whatever the bytes. A call checks the whole store first, which takes a few microseconds for the largest one.
- * Threads: they are reentrant, and may run at once on different stores. One store is used by one call at a time; a lock has to hold from the
- *   call until the store is saved.
+ * Threads: they are reentrant, and may run at once on different stores. One store is used by one call at a time, and not saved within
+ *   one; simplest is a lock that holds from the call until the store is saved.
  * Stack: at most NFS3_STACK bytes, see there.
  * Pointers: not null, even where the length is 0; no alignment is needed; the buffers of one call do not overlap.
  * Platform: x86-64 with the System V calling convention (Linux). The bytes of a store do not depend on the platform.
+ * Editions: the bytes of a store are those of one edition, and no version stands in them. In a later one object records may be longer; a
+ *   converter would be declared in its nfs3.h.
  */
 #ifndef NFS3_H
 #define NFS3_H
@@ -98,7 +119,10 @@
 extern "C" {
 #endif
 
-/* The program and version that are served (RFC 1813). Calls to others are answered PROG_UNAVAIL and PROG_MISMATCH. */
+/*
+ * The program and version that are served (RFC 1813). Calls to others are answered PROG_UNAVAIL and PROG_MISMATCH. Of its procedures READLINK,
+ * SYMLINK, MKNOD, LINK and READDIRPLUS are not served: they are answered NOTSUPP.
+ */
 #define NFS3_PROGRAM 100003
 #define NFS3_VERSION 3
 
@@ -109,7 +133,10 @@ extern "C" {
 /* Nanoseconds must be below this. */
 #define NFS3_NANOSECONDS 1000000000
 
-/* How many objects (the root is one), name records and blocks a store may have. There is one name for each object but the root. */
+/*
+ * How many objects (the root is one), name records and blocks a store may have; names and blocks may be 0. One name record fewer than objects is
+ * enough: more are never used in this edition, and with fewer CREATE and MKDIR are answered NOSPC before the objects are used up.
+ */
 #define NFS3_OBJECTS_LEAST 1
 #define NFS3_OBJECTS_MOST 64
 #define NFS3_NAMES_MOST 128
@@ -162,16 +189,16 @@ struct nfs3_answer {
 
 /*
  * The numbers of answers. All but NFS3_DONE leave every byte of every buffer as it was, and there is no reply.
- *   NFS3_DONE         of a call: save the store where it changed, keep the reply, then send it. Of the check: the store is good. Of format: it is
- *                     made; save it.
+ *   NFS3_DONE         of a call: save the store where it changed (duty 7), keep the reply where the procedure is one of the seven of duty 5, then
+ *                     send it. Of the check: the store is good. Of format: it is made; save it.
  *   NFS3_BAD_STORE    the bytes are no store that passes its check. Send nothing and stop. At the start: it is another file, or a damaged one;
- *                     bring back a copy (with a new stamp, duty 1). Later on: something else wrote into the store's memory.
- *   NFS3_SMALL_REPLY  the reply space has less than NFS3_REPLY_SPACE bytes: a fault of the daemon, to be mended there.
- *   NFS3_BAD_CLOCK    the nanoseconds are NFS3_NANOSECONDS or more: a fault of the daemon, to be mended there.
+ *                     bring back a copy (duty 2). Later on: something else wrote into the store's memory.
+ *   NFS3_SMALL_REPLY  the reply space has less than NFS3_REPLY_SPACE bytes: a fault of the daemon. Send nothing and stop.
+ *   NFS3_BAD_CLOCK    the nanoseconds are NFS3_NANOSECONDS or more: a fault of the daemon. Send nothing and stop.
  *   NFS3_LONG_CALL    the call has more than NFS3_CALL_MOST bytes. Send nothing, report it; over TCP close the connection. No host that keeps to
  *                     what FSINFO told it sends such a call.
- *   NFS3_NO_CALL      the message is no RPC call with a complete header. Send nothing, report it; over TCP close the connection, since the marks
- *                     are no longer to be trusted; over UDP drop the datagram.
+ *   NFS3_NO_CALL      the message is no RPC call with a complete header; an empty message or one of type REPLY is none either. Send nothing,
+ *                     report it; over TCP close the connection, since the marks are no longer to be trusted; over UDP drop the datagram.
  *   NFS3_BAD_FORMAT   of format: a count is out of range, or the length is not NFS3_STORE_LENGTH of the counts.
  * Treat a number that is not among these like NFS3_BAD_STORE: later editions may add some.
  */
@@ -194,7 +221,10 @@ enum nfs3_number {
 struct nfs3_answer nfs3_call(const uint8_t *call, size_t call_len, uint8_t *store, size_t store_len, uint8_t *reply, size_t reply_len,
                              uint32_t seconds, uint32_t nanoseconds, uint64_t verifier);
 
-/* NFS3_DONE where the bytes are a store that passes its check, else NFS3_BAD_STORE. Any bytes may be lent. */
+/*
+ * NFS3_DONE where the bytes are a store that passes its check, else NFS3_BAD_STORE. Any bytes may be lent. It looks at the structure: counts,
+ * objects, names, which blocks are whose. There is no checksum: bytes of files, and times or owners, may be damaged without being noticed.
+ */
 struct nfs3_answer nfs3_check(const uint8_t *store, size_t store_len);
 
 /*
