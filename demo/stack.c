@@ -14,13 +14,14 @@
 #include <ucontext.h>
 
 enum { FILL = 0xC3, STACK = 1 << 18, SPACE_MOST = 16384 };
-enum kind { END, NEW_RUN, FORMAT, PATCH, CHECK, CALL };
 
-static uint8_t stack[STACK], store[NFS3_STORE_MOST + 1024], call[SPACE_MOST], reply[SPACE_MOST];
-static size_t store_len;
-static uint32_t field[9];
-static uint64_t verifier;
-static enum kind step;
+/* The tags of the vector file: numbers, bytes of buffers, runs, entries. */
+enum { STORE_LENGTH, CALL_LENGTH, REPLY_LENGTH, PLACE, SECONDS, NANOSECONDS, VERIFIER_HIGH, VERIFIER_LOW, STAMP, OBJECTS, NAMES, BLOCKS };
+enum { STORE_BYTES = 128, CALL_BYTES = 129, REPLY_BYTES = 130, RUN = 192, END = 193, FORMAT = 224, CHECK = 225, CALL = 226, TAGS = 256 };
+
+static uint8_t stack[STACK], store[NFS3_STORE_MOST + 1024], call[SPACE_MOST], reply[SPACE_MOST], wanted[SPACE_MOST];
+static uint32_t number[TAGS];
+static int entry;
 static ucontext_t here, there;
 
 static void fail(const char *why) {
@@ -28,33 +29,26 @@ static void fail(const char *why) {
     exit(1);
 }
 
-static void take(FILE *file, void *bytes, size_t len, size_t most) {
-    if (len > most || fread(bytes, 1, len, file) != len)
+static void take(FILE *file, uint8_t *bytes, size_t place, size_t len, size_t most) {
+    if (place > most || len > most - place || fread(bytes + place, 1, len, file) != len)
         fail("the vector file is not as its layout says");
-}
-
-static uint32_t word(FILE *file) {
-    uint8_t b[4];
-    take(file, b, 4, 4);
-    return (uint32_t)b[0] << 24 | (uint32_t)b[1] << 16 | (uint32_t)b[2] << 8 | b[3];
-}
-
-static void words(FILE *file, size_t count) {
-    for (size_t i = 0; i < count; i++)
-        field[i] = word(file);
 }
 
 /* What runs on the stack that is measured. */
 static void run(void) {
-    if (step == FORMAT)
-        nfs3_format(store, store_len, field[0], field[1], field[2], field[3], field[4], field[5]);
-    else if (step == CHECK)
+    size_t store_len = number[STORE_LENGTH];
+    if (entry == FORMAT)
+        nfs3_format(store, store_len, number[STAMP], number[OBJECTS], number[NAMES], number[BLOCKS], number[SECONDS], number[NANOSECONDS]);
+    else if (entry == CHECK)
         nfs3_check(store, store_len);
     else
-        nfs3_call(call, field[5], store, store_len, reply, field[4], field[0], field[1], verifier);
+        nfs3_call(call, number[CALL_LENGTH], store, store_len, reply, number[REPLY_LENGTH], number[SECONDS], number[NANOSECONDS],
+                  (uint64_t)number[VERIFIER_HIGH] << 32 | number[VERIFIER_LOW]);
 }
 
 static size_t measured(void) {
+    if (number[STORE_LENGTH] > sizeof store || number[CALL_LENGTH] > sizeof call || number[REPLY_LENGTH] > sizeof reply)
+        fail("a buffer is too long");
     memset(stack, FILL, STACK);
     if (getcontext(&there) != 0)
         fail("getcontext");
@@ -74,55 +68,35 @@ int main(int argc, char **argv) {
     FILE *file = argc == 2 ? fopen(argv[1], "rb") : NULL;
     if (file == NULL)
         fail("usage: stack VECTORS");
-    size_t most[CALL + 1] = { 0 }, count[CALL + 1] = { 0 };
-    for (step = word(file); step != END; step = word(file)) {
-        switch (step) {
-        case NEW_RUN:
-            words(file, 2);
-            store_len = field[1];
-            if (store_len > sizeof store)
-                fail("a store is too long");
-            memset(store, 0xA5, store_len);
-            continue;
-        case FORMAT:
-            words(file, 9);
+    size_t most[TAGS] = { 0 }, count[TAGS] = { 0 };
+    for (;;) {
+        uint8_t row[5];
+        take(file, row, 0, sizeof row, sizeof row);
+        uint32_t word = (uint32_t)row[1] << 24 | (uint32_t)row[2] << 16 | (uint32_t)row[3] << 8 | row[4];
+        entry = row[0];
+        if (entry == END)
             break;
-        case PATCH:
-            words(file, 2);
-            if (field[0] > store_len)
-                fail("a patch is not in the store");
-            take(file, store + field[0], field[1], store_len - field[0]);
-            continue;
-        case CHECK:
-            words(file, 1);
-            break;
-        case CALL: {
-            words(file, 2);
-            verifier = (uint64_t)word(file) << 32;
-            verifier |= word(file);
-            field[4] = word(file);
-            field[5] = word(file);
-            uint8_t wanted[SPACE_MOST];
-            (void)word(file);
-            size_t wanted_len = word(file);
-            (void)word(file), (void)word(file);
-            take(file, call, field[5], sizeof call);
-            take(file, wanted, wanted_len, sizeof wanted);
-            break;
-        }
-        default:
-            fail("a step of no kind");
-        }
-        size_t used = measured();
-        count[step]++;
-        if (used > most[step])
-            most[step] = used;
+        if (entry == STORE_BYTES)
+            take(file, store, number[PLACE], word, sizeof store);
+        else if (entry == CALL_BYTES)
+            take(file, call, number[PLACE], word, sizeof call);
+        else if (entry == REPLY_BYTES)
+            take(file, wanted, number[PLACE], word, sizeof wanted);
+        else if (entry == RUN)
+            memset(store, 0xA5, sizeof store);
+        else if (entry == FORMAT || entry == CHECK || entry == CALL) {
+            size_t used = measured();
+            count[entry]++;
+            if (used > most[entry])
+                most[entry] = used;
+        } else
+            number[entry] = word;
     }
     fclose(file);
     printf("stack: %zu bytes in %zu formats, %zu in %zu checks, %zu in %zu calls; NFS3_STACK is %d\n", most[FORMAT], count[FORMAT], most[CHECK],
            count[CHECK], most[CALL], count[CALL], NFS3_STACK);
-    for (step = FORMAT; step <= CALL; step++)
-        if (step != PATCH && (count[step] == 0 || most[step] * 2 > NFS3_STACK))
+    for (entry = FORMAT; entry <= CALL; entry++)
+        if (count[entry] == 0 || most[entry] * 2 > NFS3_STACK)
             fail("NFS3_STACK is less than twice what was measured, or nothing was");
     return 0;
 }
