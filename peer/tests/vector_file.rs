@@ -26,9 +26,69 @@ fn reach_and_replay() {
     let (text, differences) = replay(&recording.vectors, &mut Own).unwrap();
     assert_eq!(differences, 0);
     assert_eq!(text, recording.stdout);
-    // A file cut short is no vector file.
-    let cut = &recording.vectors[..recording.vectors.len() - 4];
-    assert!(replay(cut, &mut Own).is_none());
+}
+
+/// Where the first row of this tag and this word starts, after `from`.
+fn row_at(file: &[u8], from: usize, tag: u8, word: Option<u32>) -> usize {
+    let mut at = 0;
+    loop {
+        let number = u32::from_be_bytes(file[at + 1..at + 5].try_into().unwrap());
+        if at > from && file[at] == tag && word.is_none_or(|word| word == number) {
+            return at;
+        }
+        at += 5;
+        if (128..192).contains(&file[at - 5]) {
+            at += number as usize;
+        }
+    }
+}
+
+#[test]
+fn replay_finds_altered_files() {
+    let file = record().vectors;
+    let altered = |at: usize, with: u8| {
+        let mut file = file.clone();
+        file[at] ^= with;
+        replay(&file, &mut Own).map(|(_, differences)| differences)
+    };
+    let middle = file.len() / 2;
+    let reply = row_at(&file, middle, 130, None);
+    let length = row_at(&file, middle, 64, None);
+    let call = row_at(&file, middle, 226, Some(0));
+    let refused = row_at(&file, 0, 226, Some(5));
+    // A byte of a reply, an answer's length and number, and both halves of a
+    // digest.
+    for at in [
+        reply + 5 + 24,
+        length + 4,
+        call + 4,
+        refused + 4,
+        row_at(&file, middle, 65, None) + 1,
+        row_at(&file, middle, 66, None) + 4,
+    ] {
+        assert!(altered(at, 1).unwrap() > 0, "row at {at}");
+    }
+    // An unknown number, buffer, kind of row and entry; a run's number; more
+    // lent than there is; bytes outside of what is lent; a wrong count of runs.
+    let number = row_at(&file, middle, 4, None);
+    for (at, with) in [
+        (number, 4 ^ 12),
+        (length, 64 ^ 67),
+        (reply, 130 ^ 131),
+        (number, 4 ^ 194),
+        (call, 226 ^ 227),
+        (row_at(&file, middle, 192, None) + 4, 1),
+        (row_at(&file, middle, 0, None) + 1, 1),
+        (row_at(&file, middle, 1, None) + 2, 1),
+        (row_at(&file, middle, 3, None) + 1, 1),
+        (file.len() - 1, 1),
+    ] {
+        assert_eq!(altered(at, with), None, "row at {at}");
+    }
+    // A file that is cut, inside a row or between two.
+    for cut in [1, 5, middle] {
+        assert!(replay(&file[..file.len() - cut], &mut Own).is_none());
+    }
 }
 
 /// Changes the outcome of a call: store, reply space, answer.

@@ -1,5 +1,21 @@
-// Work on whole buffers: filling, comparing, and the digest of a store.
-ghost use Prim.Native.Nat.{_<_, _≤_};
+// Work on whole buffers: filling, comparing, and the digest.
+ghost use Prim.Native.Nat.{_<_};
+
+// The room for each buffer.
+pub const STORE_ROOM: usize = 535061;
+
+pub const CALL_ROOM: usize = 10000;
+
+pub const REPLY_ROOM: usize = 8192;
+
+pub type Store = [u8; STORE_ROOM];
+
+pub type Call = [u8; CALL_ROOM];
+
+pub type Reply = [u8; REPLY_ROOM];
+
+// The last place of a reply space.
+pub const LAST_PLACE: usize = REPLY_ROOM - 1;
 
 // Gives every byte of buf this value.
 pub fn fill(buf: &mut [u8], value: u8) {
@@ -10,17 +26,12 @@ pub fn fill(buf: &mut [u8], value: u8) {
     }
 }
 
-// Gives every byte of a reply space the value that it has before a call.
-pub fn clear_reply(reply: &mut [u8; 8192]) {
-    fill(reply, 0x5A);
-}
-
-// The first place at which two reply spaces differ, or their length.
-pub fn first_difference(a: &[u8; 8192], b: &[u8; 8192]) -> usize
-    ensures { λ r. ⌜ r ≤ 8192 ⌝ }
+// The first place at which two reply spaces differ, or their last.
+pub fn first_difference(a: &Reply, b: &Reply) -> usize
+    ensures { λ r. ⌜ r < 8192 ⌝ }
 {
     let mut i = 0;
-    while i < 8192 {
+    while i < LAST_PLACE {
         if a[i] != b[i] {
             return i;
         }
@@ -29,38 +40,32 @@ pub fn first_difference(a: &[u8; 8192], b: &[u8; 8192]) -> usize
     i
 }
 
-fn wide(x: u8) -> u64
+// A byte as a number of 32 bits.
+pub fn wide(x: u8) -> u32
     ensures { λ r. ⌜ r < 256 ⌝ }
 {
-    x as u64
+    x as u32
 }
 
-// The digest's first lane after one more byte.
-fn first_lane(a: u64, byte: u8) -> u64
-    requires { ⌜ a < 4294967296 ⌝ }
-    ensures { λ r. ⌜ r < 4294967296 ⌝ }
-{
-    (a * 16777619 + wide(byte)) % 4294967296
+// The two lanes of a digest.
+pub struct Lanes {
+    pub first: u32,
+    pub second: u32,
 }
 
-// The digest's second lane after one more byte.
-fn second_lane(b: u64, byte: u8) -> u64
-    requires { ⌜ b < 4294967296 ⌝ }
-    ensures { λ r. ⌜ r < 4294967296 ⌝ }
-{
-    (b * 2246822519 + wide(byte) + 1) % 4294967296
-}
-
-// The digest of a store.
-pub fn digest(store: &[u8]) -> u64 {
+// The digest of a buffer.
+pub fn digest(bytes: &[u8]) -> Lanes {
     let mut a: u64 = 2166136261;
     let mut b: u64 = 1;
     let mut i = 0;
-    while i < store.len() {
-        let byte = store[i];
-        a = first_lane(a, byte);
-        b = second_lane(b, byte);
+    while i < bytes.len() {
+        let byte = wide(bytes[i]) as u64;
+        a = (a * 16777619 + byte) % 4294967296;
+        b = (b * 2246822519 + byte + 1) % 4294967296;
         i += 1;
     }
-    a * 4294967296 + b
+    Lanes {
+        first: a as u32,
+        second: b as u32,
+    }
 }

@@ -1,9 +1,7 @@
-// The file of vectors: its records, what they ask of the entries, what is compared, and what is printed.
-pub mod buffers; // filling, comparing, and the digest of a store
-pub mod file; // the kinds of records, their heads and their bytes
-pub mod task; // what a record asks of an entry, and what is wanted
-pub mod counts; // how many steps of each kind there were
+// The file of vectors: its rows, what is compared after a step, and what is printed.
+pub mod tags; // what the rows name
+pub mod numbers; // the table of numbers
+pub mod buffers; // filling, comparing, and the digest of a buffer
 pub mod report; // what is printed
-pub mod compare; // an answer, a reply space and a store against what is wanted
-pub mod progress; // the run that is under way
-pub mod replay; // from one task to the next
+pub mod rows; // reading the file row by row
+pub mod judge; // what came back against what is wanted

@@ -1,68 +1,67 @@
 // The calls of the entries.
-ghost use Prim.Native.Nat.{_≤_};
-ghost use lib.ListN.{length};
-ghost use Rattle.vector_file.specs.Within.{Within};
 use kinds::numbers::Answer;
-use vector_file::file::Kind;
-use vector_file::task::Task;
+use vector_file::buffers::digest;
+use vector_file::numbers::Numbers;
+use vector_file::numbers::hyper;
+use vector_file::numbers::size;
+use vector_file::tags::Tag;
 
-fn format(task: Task, store: &mut [u8]) -> Answer
-    requires { ⌜ task .used ≤ length (now store) ⌝ }
-{
-    let used = task.used;
-    nfs3::nfs3_format(
-        &mut store[0..used],
-        task.stamp,
-        task.objects,
-        task.names,
-        task.blocks,
-        task.seconds,
-        task.nanoseconds,
-    )
-}
+// No entry answers this number.
+const NO_ENTRY: u32 = 4294967295;
 
-fn check(task: Task, store: &[u8]) -> Answer
-    requires { ⌜ task .used ≤ length (now store) ⌝ }
-{
-    let used = task.used;
-    nfs3::nfs3_check(&store[0..used])
-}
-
-fn send(task: Task, call: &[u8], store: &mut [u8], reply: &mut [u8]) -> Answer
-    requires { ⌜ task .length ≤ length (now call) ⌝ }
-    requires { ⌜ task .used ≤ length (now store) ⌝ }
-    requires { ⌜ task .space ≤ length (now reply) ⌝ }
-{
-    let length = task.length;
-    let used = task.used;
-    let space = task.space;
-    nfs3::nfs3_call(
-        &call[0..length],
-        &mut store[0..used],
-        &mut reply[0..space],
-        task.seconds,
-        task.nanoseconds,
-        task.verifier,
-    )
-}
-
-// The answer of the entry that a task asks, or zeros.
-pub fn ask(
-    task: Task,
-    store: &mut [u8; 535061],
-    call: &[u8; 10000],
-    reply: &mut [u8; 8192],
-) -> Answer
-    requires { ⌜ Within task ⌝ }
-{
-    let kind = task.kind;
-    match kind {
-        Kind::FORMAT => format(task, store),
-        Kind::CHECK => check(task, store),
-        Kind::CALL => send(task, call, store, reply),
-        _ => Answer {
-            number: 0,
-            length: 0,
-        },
+// Calls the entry of this tag on what is lent of the buffers.
+fn ask(tag: usize, numbers: &Numbers, store: &mut [u8], call: &[u8], reply: &mut [u8]) -> Answer {
+    let seconds = numbers[Tag::SECONDS];
+    let nanoseconds = numbers[Tag::NANOSECONDS];
+    if tag == Tag::FORMAT_ENTRY {
+        return nfs3::nfs3_format(
+            store,
+            numbers[Tag::STAMP],
+            numbers[Tag::OBJECTS],
+            numbers[Tag::NAMES],
+            numbers[Tag::BLOCKS],
+            seconds,
+            nanoseconds,
+        );
     }
+    if tag == Tag::CHECK_ENTRY {
+        return nfs3::nfs3_check(store);
+    }
+    if tag == Tag::CALL_ENTRY {
+        let verifier = hyper(numbers[Tag::VERIFIER], numbers[Tag::VERIFIER + 1]);
+        return nfs3::nfs3_call(call, store, reply, seconds, nanoseconds, verifier);
+    }
+    Answer {
+        number: NO_ENTRY,
+        length: 0,
+    }
+}
+
+// Lends the buffers to the entry of this tag, and puts what comes back into the table; false where there is no such entry or no such length.
+pub fn step(
+    tag: usize,
+    numbers: &mut Numbers,
+    store: &mut [u8],
+    call: &[u8],
+    reply: &mut [u8],
+) -> bool {
+    let used = size(numbers[Tag::STORE_LENGTH]);
+    let length = size(numbers[Tag::CALL_LENGTH]);
+    let space = size(numbers[Tag::REPLY_LENGTH]);
+    if used > store.len() || length > call.len() || space > reply.len() {
+        return false;
+    }
+    let answer = ask(
+        tag,
+        numbers,
+        &mut store[0..used],
+        &call[0..length],
+        &mut reply[0..space],
+    );
+    let lanes = digest(&store[0..used]);
+    numbers[Tag::NUMBER + Tag::FOUND] = answer.number;
+    numbers[Tag::LENGTH + Tag::FOUND] = answer.length;
+    numbers[Tag::STORE_DIGEST + Tag::FOUND] = lanes.first;
+    numbers[Tag::STORE_DIGEST + Tag::FOUND + 1] = lanes.second;
+    answer.number != NO_ENTRY
 }

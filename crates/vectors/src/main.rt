@@ -1,10 +1,20 @@
-// Runs the calls of the file `vectors` through the entries of the library, and prints a line for each run, a line for each thing that
-// differs, and the counts. `data/vectors` and `stdout` are what the independent program in `peer` wrote (`peer/README.md`).
+// Runs the steps of the file `vectors` through the entries of the library, and prints a line for each thing that differs and the counts.
+// `data/vectors` and `stdout` are what the independent program in `peer` wrote (`peer/README.md`).
 mod entries;
 
-use entries::ask;
-use vector_file::replay::begin;
-use vector_file::replay::next;
+use entries::step;
+use vector_file::buffers::CALL_ROOM;
+use vector_file::buffers::Call;
+use vector_file::buffers::REPLY_ROOM;
+use vector_file::buffers::Reply;
+use vector_file::buffers::STORE_ROOM;
+use vector_file::buffers::Store;
+use vector_file::judge::SPACE_BYTE;
+use vector_file::judge::goes_on;
+use vector_file::numbers::Numbers;
+use vector_file::rows::read_row;
+use vector_file::rows::take;
+use vector_file::tags::Tag;
 
 fn main() {
     let path = b"vectors";
@@ -17,23 +27,42 @@ fn main() {
     libc::close(fd);
 }
 
+// Takes the next row of the file, and says whether there is more to read.
+fn turn(
+    fd: i32,
+    numbers: &mut Numbers,
+    store: &mut Store,
+    call: &mut Call,
+    reply: &mut Reply,
+    want: &mut Reply,
+) -> bool {
+    let row = read_row(fd);
+    let good = if row.tag < Tag::FIRST_ENTRY {
+        take(fd, row, numbers, store, call, want)
+    } else {
+        step(row.tag, numbers, store, call, reply)
+    };
+    goes_on(row, good, numbers, reply, want)
+}
+
 // Replays the file. The arrays are lent as slices below this function only.
 fn run(fd: i32) {
-    let mut store = [0u8; 535061];
-    let mut call = [0u8; 10000];
-    let mut want = [0u8; 8192];
-    let mut reply = [0u8; 8192];
-    let mut replay = begin();
-    while replay.left > 0 {
-        let answer = ask(replay.task, &mut store, &call, &mut reply);
-        replay = next(
+    let mut numbers = [0u32; 256];
+    let mut store = [0u8; STORE_ROOM];
+    let mut call = [0u8; CALL_ROOM];
+    let mut reply = [SPACE_BYTE; REPLY_ROOM];
+    let mut want = [SPACE_BYTE; REPLY_ROOM];
+    let mut left: u64 = 10000000;
+    while left > 0
+        && turn(
             fd,
-            replay,
-            answer,
+            &mut numbers,
             &mut store,
             &mut call,
-            &mut want,
             &mut reply,
-        );
+            &mut want,
+        )
+    {
+        left -= 1;
     }
 }

@@ -1,22 +1,49 @@
 //! The vector file: writing it, and replaying it on any implementation.
 
-use std::fmt::Write as _;
-
 use super::driver::{Call, Format, Outcome, FRESH, MAX_PATCH, SPARE};
 use crate::Answer;
 
-/// Kinds of records.
-const END: u32 = 0;
-const RUN: u32 = 1;
-const FORMAT: u32 = 2;
-const PATCH: u32 = 3;
-const CHECK: u32 = 4;
-const CALL: u32 = 5;
+/// The tags of the rows.
+mod tag {
+    // Numbers that an entry is given. One of 64 bits has this tag and the next.
+    pub const STORE_LENGTH: u8 = 0;
+    pub const CALL_LENGTH: u8 = 1;
+    pub const REPLY_LENGTH: u8 = 2;
+    pub const PLACE: u8 = 3;
+    pub const SECONDS: u8 = 4;
+    pub const NANOSECONDS: u8 = 5;
+    pub const VERIFIER: u8 = 6;
+    pub const STAMP: u8 = 8;
+    pub const OBJECTS: u8 = 9;
+    pub const NAMES: u8 = 10;
+    pub const BLOCKS: u8 = 11;
+    pub const LAST_GIVEN: u8 = 11;
+    // Numbers that must come back.
+    pub const LENGTH: u8 = 64;
+    pub const STORE_DIGEST: u8 = 65;
+    pub const LAST_WANTED: u8 = 66;
+    // Bytes of buffers.
+    pub const STORE: u8 = 128;
+    pub const CALL: u8 = 129;
+    pub const REPLY: u8 = 130;
+    // Runs.
+    pub const RUN: u8 = 192;
+    pub const END: u8 = 193;
+    // Entries.
+    pub const FORMAT_ENTRY: u8 = 224;
+    pub const CHECK_ENTRY: u8 = 225;
+    pub const CALL_ENTRY: u8 = 226;
+}
 
-/// The digest of a store: two 32-bit lanes over every byte in order.
-pub fn digest(store: &[u8]) -> u64 {
+/// The room for each buffer.
+const LARGEST_STORE: usize = 535_061;
+const LARGEST_CALL: usize = 10_000;
+const LARGEST_REPLY: usize = 8192;
+
+/// The digest of a buffer: two 32-bit lanes over every byte in order.
+pub fn digest(bytes: &[u8]) -> u64 {
     let (mut first, mut second) = (2_166_136_261u32, 1u32);
-    for &byte in store {
+    for &byte in bytes {
         first = first.wrapping_mul(16_777_619).wrapping_add(byte.into());
         second = second
             .wrapping_mul(2_246_822_519)
@@ -25,56 +52,58 @@ pub fn digest(store: &[u8]) -> u64 {
     (u64::from(first) << 32) | u64::from(second)
 }
 
-/// What one run did.
-#[derive(Clone, Copy, Default)]
-struct Counts {
-    runs: u64,
-    calls: u64,
-    formats: u64,
-    checks: u64,
+/// The table of numbers, by tag.
+struct Numbers([u32; 256]);
+
+impl Default for Numbers {
+    fn default() -> Numbers {
+        Numbers([0; 256])
+    }
 }
 
-/// The text of a replay without differences.
-#[derive(Default)]
-struct Log {
-    text: String,
-    /// The run under way.
-    run: Option<(u32, Counts)>,
-    total: Counts,
-}
-
-impl Log {
-    fn start(&mut self, number: u32) {
-        self.close();
-        self.run = Some((number, Counts::default()));
+impl Numbers {
+    fn set(&mut self, tag: u8, value: u32) {
+        self.0[usize::from(tag)] = value;
     }
 
-    fn close(&mut self) {
-        if let Some((number, counts)) = self.run.take() {
-            let _ = writeln!(
-                self.text,
-                "run {number}: {} calls, {} formats, {} checks agree",
-                counts.calls, counts.formats, counts.checks
-            );
-            self.total.runs += 1;
-            self.total.calls += counts.calls;
-            self.total.formats += counts.formats;
-            self.total.checks += counts.checks;
+    fn get(&self, tag: u8) -> u32 {
+        self.0[usize::from(tag)]
+    }
+
+    fn size(&self, tag: u8) -> usize {
+        self.get(tag) as usize
+    }
+
+    fn hyper(&self, tag: u8) -> u64 {
+        (u64::from(self.get(tag)) << 32) | u64::from(self.get(tag + 1))
+    }
+}
+
+/// How many steps of each kind there were.
+#[derive(Default)]
+struct Counts {
+    runs: u32,
+    calls: u32,
+    formats: u32,
+    checks: u32,
+}
+
+impl Counts {
+    /// Counts a call of an entry.
+    fn step(&mut self, entry: u8) {
+        match entry {
+            tag::FORMAT_ENTRY => self.formats += 1,
+            tag::CHECK_ENTRY => self.checks += 1,
+            _ => self.calls += 1,
         }
     }
 
-    fn counts(&mut self) -> &mut Counts {
-        &mut self.run.get_or_insert_with(Default::default).1
-    }
-
-    fn finish(mut self, differences: u64) -> String {
-        self.close();
-        let _ = writeln!(
-            self.text,
-            "total: {} runs, {} calls, {} formats, {} checks, {differences} differences",
-            self.total.runs, self.total.calls, self.total.formats, self.total.checks
-        );
-        self.text
+    /// The last line of a replay.
+    fn total(&self, differences: u64) -> String {
+        format!(
+            "total: {} runs, {} calls, {} formats, {} checks, {differences} differences\n",
+            self.runs, self.calls, self.formats, self.checks
+        )
     }
 }
 
@@ -82,71 +111,89 @@ impl Log {
 #[derive(Default)]
 pub struct Writer {
     bytes: Vec<u8>,
-    log: Log,
+    numbers: Numbers,
+    counts: Counts,
 }
 
 impl Writer {
-    fn words(&mut self, words: &[u32]) {
-        for word in words {
-            self.bytes.extend(word.to_be_bytes());
+    fn row(&mut self, tag: u8, word: u32) {
+        self.bytes.push(tag);
+        self.bytes.extend(word.to_be_bytes());
+    }
+
+    /// Gives a number its value, if it has another.
+    fn number(&mut self, tag: u8, value: u32) {
+        if self.numbers.get(tag) != value {
+            self.numbers.set(tag, value);
+            self.row(tag, value);
         }
     }
 
-    fn hyper(&mut self, value: u64) {
-        self.bytes.extend(value.to_be_bytes());
+    fn hyper(&mut self, tag: u8, value: u64) {
+        self.number(tag, (value >> 32) as u32);
+        self.number(tag + 1, value as u32);
+    }
+
+    fn buffer(&mut self, tag: u8, place: usize, bytes: &[u8]) {
+        if bytes.is_empty() {
+            return;
+        }
+        self.number(tag::PLACE, place as u32);
+        self.row(tag, bytes.len() as u32);
+        self.bytes.extend(bytes);
+    }
+
+    /// Calls an entry, of which this must come back.
+    fn step(&mut self, entry: u8, answer: Answer, digest: u64) {
+        self.number(tag::LENGTH, answer.length);
+        self.hyper(tag::STORE_DIGEST, digest);
+        self.row(entry, answer.number);
+        self.counts.step(entry);
     }
 
     pub fn start(&mut self, number: u32, length: usize) {
-        self.words(&[RUN, number, length as u32]);
-        self.log.start(number);
+        assert!(length <= LARGEST_STORE);
+        self.counts.runs += 1;
+        assert_eq!(number, self.counts.runs);
+        self.number(tag::STORE_LENGTH, length as u32);
+        self.row(tag::RUN, number);
     }
 
-    pub fn format(&mut self, plan: &Format, wanted: u32, digest: u64) {
-        self.words(&[
-            FORMAT,
-            plan.stamp,
-            plan.objects,
-            plan.names,
-            plan.blocks,
-            plan.seconds,
-            plan.nanoseconds,
-            wanted,
-        ]);
-        self.hyper(digest);
-        self.log.counts().formats += 1;
+    pub fn format(&mut self, plan: &Format, answer: Answer, digest: u64) {
+        self.number(tag::STAMP, plan.stamp);
+        self.number(tag::OBJECTS, plan.objects);
+        self.number(tag::NAMES, plan.names);
+        self.number(tag::BLOCKS, plan.blocks);
+        self.number(tag::SECONDS, plan.seconds);
+        self.number(tag::NANOSECONDS, plan.nanoseconds);
+        self.step(tag::FORMAT_ENTRY, answer, digest);
     }
 
     pub fn patch(&mut self, offset: usize, bytes: &[u8]) {
         assert!(bytes.len() <= MAX_PATCH);
-        self.words(&[PATCH, offset as u32, bytes.len() as u32]);
-        self.bytes.extend(bytes);
+        self.buffer(tag::STORE, offset, bytes);
     }
 
-    pub fn check(&mut self, wanted: u32) {
-        self.words(&[CHECK, wanted]);
-        self.log.counts().checks += 1;
+    pub fn check(&mut self, answer: Answer, digest: u64) {
+        self.step(tag::CHECK_ENTRY, answer, digest);
     }
 
     pub fn call(&mut self, call: &Call<'_>, outcome: &Outcome, digest: u64) {
-        assert!(call.space <= 8192 && call.bytes.len() <= 10_000 && outcome.reply.len() <= 4224);
-        self.words(&[CALL, call.seconds, call.nanoseconds]);
-        self.hyper(call.verifier);
-        self.words(&[
-            call.space as u32,
-            call.bytes.len() as u32,
-            outcome.answer.number,
-            outcome.answer.length,
-        ]);
-        self.hyper(digest);
-        self.bytes.extend(call.bytes);
-        self.bytes.extend(&outcome.reply);
-        self.log.counts().calls += 1;
+        assert!(call.space <= LARGEST_REPLY && call.bytes.len() <= LARGEST_CALL);
+        self.number(tag::SECONDS, call.seconds);
+        self.number(tag::NANOSECONDS, call.nanoseconds);
+        self.hyper(tag::VERIFIER, call.verifier);
+        self.number(tag::CALL_LENGTH, call.bytes.len() as u32);
+        self.buffer(tag::CALL, 0, call.bytes);
+        self.number(tag::REPLY_LENGTH, call.space as u32);
+        self.buffer(tag::REPLY, 0, &outcome.reply);
+        self.step(tag::CALL_ENTRY, outcome.answer, digest);
     }
 
     /// The vector file and the text of its replay.
     pub fn finish(mut self) -> (Vec<u8>, String) {
-        self.words(&[END]);
-        (self.bytes, self.log.finish(0))
+        self.row(tag::END, self.counts.runs);
+        (self.bytes, self.counts.total(0))
     }
 }
 
@@ -189,7 +236,7 @@ impl Subject for Own {
     }
 }
 
-/// Reads numbers and bytes from the vector file.
+/// The vector file from the next row on.
 struct Source<'a> {
     rest: &'a [u8],
 }
@@ -201,96 +248,125 @@ impl<'a> Source<'a> {
         Some(taken)
     }
 
-    fn word(&mut self) -> Option<u32> {
-        let taken = self.take(4)?;
-        Some(u32::from_be_bytes([taken[0], taken[1], taken[2], taken[3]]))
-    }
-
-    fn size(&mut self) -> Option<usize> {
-        self.word().map(|word| word as usize)
-    }
-
-    fn hyper(&mut self) -> Option<u64> {
-        Some((u64::from(self.word()?) << 32) | u64::from(self.word()?))
+    fn row(&mut self) -> Option<(u8, u32)> {
+        let row = self.take(5)?;
+        Some((row[0], u32::from_be_bytes([row[1], row[2], row[3], row[4]])))
     }
 }
 
-/// Replays a vector file. Answers the text that a replay prints and how many
-/// steps differed, or `None` if the file is not well-formed.
-pub fn replay(file: &[u8], subject: &mut dyn Subject) -> Option<(String, u64)> {
-    let mut source = Source { rest: file };
-    let mut log = Log::default();
-    let mut store = Vec::new();
-    let mut differences = 0;
-    loop {
-        let agrees = match source.word()? {
-            END => return Some((log.finish(differences), differences)),
-            RUN => {
-                let number = source.word()?;
-                let length = source.size()?;
-                log.start(number);
-                store = vec![FRESH; length];
-                true
-            }
-            FORMAT => {
-                let plan = Format {
-                    stamp: source.word()?,
-                    objects: source.word()?,
-                    names: source.word()?,
-                    blocks: source.word()?,
-                    seconds: source.word()?,
-                    nanoseconds: source.word()?,
-                };
-                let number = source.word()?;
-                let wanted = source.hyper()?;
-                let answer = subject.format(&mut store, &plan);
-                log.counts().formats += 1;
-                answer == Answer { number, length: 0 } && digest(&store) == wanted
-            }
-            PATCH => {
-                let offset = source.size()?;
-                let length = source.size()?;
-                let bytes = source.take(length)?;
-                store
-                    .get_mut(offset..offset + length)?
-                    .copy_from_slice(bytes);
-                true
-            }
-            CHECK => {
-                let number = source.word()?;
-                log.counts().checks += 1;
-                subject.check(&store) == Answer { number, length: 0 }
-            }
-            CALL => {
-                let (seconds, nanoseconds) = (source.word()?, source.word()?);
-                let verifier = source.hyper()?;
-                let (space, call_length) = (source.size()?, source.size()?);
-                let wanted = Answer {
-                    number: source.word()?,
-                    length: source.word()?,
-                };
-                let wanted_digest = source.hyper()?;
-                let call = Call {
-                    bytes: source.take(call_length)?,
+/// The lent buffers, and the reply space as it must be after the step.
+struct Buffers {
+    store: Vec<u8>,
+    call: Vec<u8>,
+    reply: Vec<u8>,
+    wanted: Vec<u8>,
+}
+
+impl Buffers {
+    fn new() -> Buffers {
+        Buffers {
+            store: vec![FRESH; LARGEST_STORE],
+            call: vec![0; LARGEST_CALL],
+            reply: vec![SPARE; LARGEST_REPLY],
+            wanted: vec![SPARE; LARGEST_REPLY],
+        }
+    }
+
+    /// Takes bytes of a buffer from the file, inside what is lent of it.
+    fn read(&mut self, tag: u8, numbers: &Numbers, bytes: &[u8]) -> Option<()> {
+        let (buffer, length) = match tag {
+            tag::STORE => (&mut self.store, tag::STORE_LENGTH),
+            tag::CALL => (&mut self.call, tag::CALL_LENGTH),
+            tag::REPLY => (&mut self.wanted, tag::REPLY_LENGTH),
+            _ => return None,
+        };
+        let place = numbers.size(tag::PLACE);
+        buffer
+            .get_mut(..numbers.size(length))?
+            .get_mut(place..place + bytes.len())?
+            .copy_from_slice(bytes);
+        Some(())
+    }
+
+    /// Calls an entry; says whether all came back that is wanted.
+    fn step(
+        &mut self,
+        entry: u8,
+        number: u32,
+        numbers: &Numbers,
+        subject: &mut dyn Subject,
+    ) -> Option<bool> {
+        let store = self.store.get_mut(..numbers.size(tag::STORE_LENGTH))?;
+        let call = self.call.get(..numbers.size(tag::CALL_LENGTH))?;
+        let reply = self.reply.get_mut(..numbers.size(tag::REPLY_LENGTH))?;
+        let (seconds, nanoseconds) = (numbers.get(tag::SECONDS), numbers.get(tag::NANOSECONDS));
+        let answer = match entry {
+            tag::FORMAT_ENTRY => subject.format(
+                store,
+                &Format {
+                    stamp: numbers.get(tag::STAMP),
+                    objects: numbers.get(tag::OBJECTS),
+                    names: numbers.get(tag::NAMES),
+                    blocks: numbers.get(tag::BLOCKS),
                     seconds,
                     nanoseconds,
-                    verifier,
-                    space,
+                },
+            ),
+            tag::CHECK_ENTRY => subject.check(store),
+            tag::CALL_ENTRY => {
+                let call = Call {
+                    bytes: call,
+                    seconds,
+                    nanoseconds,
+                    verifier: numbers.hyper(tag::VERIFIER),
+                    space: reply.len(),
                 };
-                let wanted_reply = source.take(wanted.length as usize)?;
-                let mut reply = vec![SPARE; space];
-                let answer = subject.call(&mut store, &call, &mut reply);
-                log.counts().calls += 1;
-                let (sent, spare) = reply.split_at_checked(wanted_reply.len())?;
-                answer == wanted
-                    && sent == wanted_reply
-                    && spare.iter().all(|&byte| byte == SPARE)
-                    && digest(&store) == wanted_digest
+                subject.call(store, &call, reply)
             }
             _ => return None,
         };
-        if !agrees {
-            differences += 1;
+        let length = numbers.get(tag::LENGTH);
+        let agrees = answer == Answer { number, length }
+            && self.reply == self.wanted
+            && digest(store) == numbers.hyper(tag::STORE_DIGEST);
+        self.reply.fill(SPARE);
+        self.wanted.fill(SPARE);
+        Some(agrees)
+    }
+}
+
+/// Replays a vector file. Answers the last line that a replay prints and how
+/// many steps differed, or `None` if the file is not well-formed.
+pub fn replay(file: &[u8], subject: &mut dyn Subject) -> Option<(String, u64)> {
+    let mut source = Source { rest: file };
+    let mut numbers = Numbers::default();
+    let mut buffers = Buffers::new();
+    let mut counts = Counts::default();
+    let mut differences = 0;
+    loop {
+        let (tag, word) = source.row()?;
+        match tag {
+            0..=tag::LAST_GIVEN | tag::LENGTH..=tag::LAST_WANTED => numbers.set(tag, word),
+            tag::STORE..tag::RUN => {
+                let bytes = source.take(word as usize)?;
+                buffers.read(tag, &numbers, bytes)?;
+            }
+            tag::RUN => {
+                counts.runs += 1;
+                if word != counts.runs {
+                    return None;
+                }
+                buffers.store.fill(FRESH);
+            }
+            tag::END => {
+                return (word == counts.runs).then(|| (counts.total(differences), differences));
+            }
+            _ => {
+                if !buffers.step(tag, word, &numbers, subject)? {
+                    differences += 1;
+                }
+                counts.step(tag);
+            }
         }
     }
 }

@@ -1,25 +1,21 @@
 use borrow.Author.Needs.{needs}
-use Rattle.vector_file.specs.Within.{Within}
 use Rattle.vectors.proofs.run.Statement.{statement}
 use Rattle.vectors.proofs.run.Tie as tie
 
 abbrev Inv-loop : tie.InvT-loop
-Inv-loop fd store₀ call₀ want₀ reply₀ replay₀ store call want reply replay = Within (replay .task)
+Inv-loop fd numbers₀ store₀ call₀ reply₀ want₀ left₀ numbers store call reply want left = Unit
 
 abbrev μ-loop : tie.MeasureT-loop
-μ-loop fd store₀ call₀ want₀ reply₀ replay₀ store call want reply replay = replay .left
-
-begin-requires : tie.Need-begin-requires Inv-loop μ-loop
-begin-requires c κs = search needs
+μ-loop fd numbers₀ store₀ call₀ reply₀ want₀ left₀ numbers store call reply want left = left
 
 loop-holds : tie.Need-loop-holds Inv-loop μ-loop
 loop-holds c = search needs
 
-ask-requires : tie.Need-ask-requires Inv-loop μ-loop
-ask-requires c κs = search needs
+turn-requires : tie.Need-turn-requires Inv-loop μ-loop
+turn-requires c κs = search needs
 
-next-requires : tie.Need-next-requires Inv-loop μ-loop
-next-requires c κs = search needs
+sub-left : tie.Need-sub-left Inv-loop μ-loop
+sub-left c = search needs
 
 loop-less : tie.Need-loop-less Inv-loop μ-loop
 loop-less c = search needs
@@ -30,16 +26,19 @@ loop-again c = search needs
 returns : tie.Need-returns Inv-loop μ-loop
 returns c = search needs
 
+returns-2 : tie.Need-returns-2 Inv-loop μ-loop
+returns-2 c = search needs
+
 pub run-spec : {M : Type 1} → statement M
 run-spec =
     tie.close
     (tie.spec
     Inv-loop
     μ-loop
-    begin-requires
     loop-holds
-    ask-requires
-    next-requires
+    turn-requires
+    sub-left
     loop-less
     loop-again
-    returns)
+    returns
+    returns-2)

@@ -5,22 +5,37 @@ use Rattle.vector_file.proofs.buffers.digest.Statement.{statement}
 use Rattle.vector_file.proofs.buffers.digest.Tie as tie
 
 abbrev Inv-loop : tie.InvT-loop
-Inv-loop store a₀ b₀ i₀ a b i = (i ≤ length store) × ((a < 4294967296) × (b < 4294967296))
+Inv-loop bytes a₀ b₀ i₀ a b i = (i ≤ length bytes) × ((a < 4294967296) × (b < 4294967296))
 
 abbrev μ-loop : tie.MeasureT-loop
-μ-loop store a₀ b₀ i₀ a b i = length store - i
+μ-loop bytes a₀ b₀ i₀ a b i = length bytes - i
 
 loop-holds : tie.Need-loop-holds Inv-loop μ-loop
 loop-holds c = search needs
 
-shared-slice-read-byte : tie.Need-shared-slice-read-byte Inv-loop μ-loop
-shared-slice-read-byte c = search needs
+shared-slice-read-wide : tie.Need-shared-slice-read-wide Inv-loop μ-loop
+shared-slice-read-wide c = search needs
 
-first-lane-requires : tie.Need-first-lane-requires Inv-loop μ-loop
-first-lane-requires c κs = search needs
+wide-requires : tie.Need-wide-requires Inv-loop μ-loop
+wide-requires c κs = search needs
 
-second-lane-requires : tie.Need-second-lane-requires Inv-loop μ-loop
-second-lane-requires c κs = search needs
+cast-byte : tie.Need-cast-byte Inv-loop μ-loop
+cast-byte c = search needs
+
+mul-a : tie.Need-mul-a Inv-loop μ-loop
+mul-a c = search needs
+
+add-a : tie.Need-add-a Inv-loop μ-loop
+add-a c = search needs
+
+mul-b : tie.Need-mul-b Inv-loop μ-loop
+mul-b c = search needs
+
+add-b : tie.Need-add-b Inv-loop μ-loop
+add-b c = search needs
+
+add-b-2 : tie.Need-add-b-2 Inv-loop μ-loop
+add-b-2 c = search needs
 
 add-i : tie.Need-add-i Inv-loop μ-loop
 add-i c = search needs
@@ -31,11 +46,11 @@ loop-less c = search needs
 loop-again : tie.Need-loop-again Inv-loop μ-loop
 loop-again c = search needs
 
-mul-result : tie.Need-mul-result Inv-loop μ-loop
-mul-result c = search needs
+cast-t14 : tie.Need-cast-t14 Inv-loop μ-loop
+cast-t14 c = search needs
 
-add-result : tie.Need-add-result Inv-loop μ-loop
-add-result c = search needs
+cast-t15 : tie.Need-cast-t15 Inv-loop μ-loop
+cast-t15 c = search needs
 
 returns : tie.Need-returns Inv-loop μ-loop
 returns c = search needs
@@ -47,12 +62,17 @@ digest-spec =
     Inv-loop
     μ-loop
     loop-holds
-    shared-slice-read-byte
-    first-lane-requires
-    second-lane-requires
+    shared-slice-read-wide
+    wide-requires
+    cast-byte
+    mul-a
+    add-a
+    mul-b
+    add-b
+    add-b-2
     add-i
     loop-less
     loop-again
-    mul-result
-    add-result
+    cast-t14
+    cast-t15
     returns)
