@@ -1,0 +1,124 @@
+/*
+ * The rows of tools/instructions: makes a store, small or full, and then does one operation so many times.
+ *
+ *     rows small|full OPERATION TIMES
+ *
+ * Ends with status 1 where a call is not answered OK.
+ */
+#include "nfs3.h"
+
+#include <stdio.h>
+#include <stdlib.h>
+#include <string.h>
+
+enum { GETATTR = 1, SETATTR = 2, LOOKUP = 3, READ = 6, WRITE = 7, CREATE = 8, REMOVE = 12, READDIR = 16, FSSTAT = 18, STAMP = 7 };
+
+static uint8_t store[NFS3_STORE_MOST], reply[NFS3_REPLY_SPACE], call[NFS3_CALL_MOST];
+static size_t store_len, len;
+static unsigned wrong;
+
+static void word(uint32_t x) {
+    for (int i = 0; i < 4; i++)
+        call[len++] = (uint8_t)(x >> (24 - 8 * i));
+}
+
+static void words(const uint32_t *xs, size_t count) {
+    for (size_t i = 0; i < count; i++)
+        word(xs[i]);
+}
+
+static void opaque(const void *bytes, size_t n) {
+    word((uint32_t)n);
+    memset(call + len, 0, n + 3);
+    memcpy(call + len, bytes, n);
+    len += (n + 3) / 4 * 4;
+}
+
+/* A call of a procedure on the object, whose generation is 0. */
+static void begin(uint32_t procedure, uint32_t object) {
+    len = 0;
+    words((uint32_t[]){ 9, 0, 2, NFS3_PROGRAM, NFS3_VERSION, procedure, 0, 0, 0, 0 }, 10);
+    words((uint32_t[]){ NFS3_HANDLE_LENGTH, STAMP, object, 0 }, 4);
+}
+
+static void end(void) {
+    struct nfs3_answer a = nfs3_call(call, len, store, store_len, reply, sizeof reply, 1, 1, 1);
+    wrong |= a.number | reply[24] | reply[25] | reply[26] | reply[27];
+}
+
+static void create(const char *name) {
+    begin(CREATE, 0);
+    opaque(name, strlen(name));
+    words((uint32_t[]){ 0, 0, 0, 0, 0, 0, 0 }, 7);
+    end();
+}
+
+static void remove_name(const char *name) {
+    begin(REMOVE, 0);
+    opaque(name, strlen(name));
+    end();
+}
+
+static void write_bytes(uint32_t object, uint32_t offset, uint32_t count) {
+    static uint8_t bytes[NFS3_DATA_MOST];
+    begin(WRITE, object);
+    words((uint32_t[]){ 0, offset, count, 2 }, 4);
+    opaque(bytes, count);
+    end();
+}
+
+static void turn(const char *operation, int full, const char *last) {
+    if (strcmp(operation, "check") == 0)
+        wrong |= nfs3_check(store, store_len).number;
+    else if (strcmp(operation, "CREATE+REMOVE") == 0) {
+        if (full)
+            remove_name(last);
+        create(full ? last : "another");
+        if (!full)
+            remove_name("another");
+    } else if (strcmp(operation, "WRITE") == 0)
+        write_bytes(1, 0, 512);
+    else {
+        static const struct {
+            const char *name;
+            uint32_t procedure, object, count, arguments[9];
+        } plain[] = {
+            { "GETATTR", GETATTR, 0, 0, { 0 } },
+            { "SETATTR", SETATTR, 1, 8, { 1, 420, 0, 0, 0, 0, 0, 0 } },
+            { "READ", READ, 1, 3, { 0, 0, 4096 } },
+            { "READDIR", READDIR, 0, 5, { 0, 0, 0, 0, 4096 } },
+            { "FSSTAT", FSSTAT, 0, 0, { 0 } },
+            { "LOOKUP", LOOKUP, 0, 0, { 0 } },
+        };
+        for (size_t i = 0; i < sizeof plain / sizeof *plain; i++)
+            if (strcmp(operation, plain[i].name) == 0) {
+                begin(plain[i].procedure, plain[i].object);
+                words(plain[i].arguments, plain[i].count);
+                if (plain[i].procedure == LOOKUP)
+                    opaque(last, strlen(last));
+                end();
+                return;
+            }
+        wrong = 1;
+    }
+}
+
+int main(int argc, char **argv) {
+    if (argc != 4)
+        return 2;
+    int full = strcmp(argv[1], "full") == 0, times = atoi(argv[3]);
+    uint32_t objects = full ? NFS3_OBJECTS_MOST : 8, names = full ? NFS3_NAMES_MOST : 8, blocks = full ? NFS3_BLOCKS_MOST : 8;
+    char last[NFS3_NAME_MOST];
+    store_len = NFS3_STORE_LENGTH(objects, names, blocks);
+    wrong = nfs3_format(store, store_len, STAMP, objects, names, blocks, 1, 1).number;
+    for (uint32_t file = 1; file <= (full ? objects - 1 : 1); file++) {
+        snprintf(last, sizeof last, "file-number-%u", (unsigned)file - 1);
+        create(last);
+        write_bytes(file, 0, NFS3_DATA_MOST);
+        if (full)
+            write_bytes(file, NFS3_DATA_MOST, NFS3_DATA_MOST);
+    }
+    for (int i = 0; i < times; i++)
+        turn(argv[2], full, last);
+    return wrong != 0;
+}
