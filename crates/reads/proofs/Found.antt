@@ -18,7 +18,7 @@ use Rattle.laws.proofs.Count.{by-bool, and-both, lowest-passes}
 use Rattle.laws.proofs.GoodRecords.{GoodRecords}
 use Rattle.laws.proofs.Passed.{bind-passed, directory-passed}
 use Rattle.find.proofs.Entry.{found-entry}
-use Rattle.shown.proofs.Good.{used-record}
+use Rattle.image.proofs.Good.{used-record}
 use Rattle.reads.specs.Parts.{lookedOf, checkIn}
 use Rattle.reads.specs.declared.lookup.Looked.{Looked}
 use Rattle.reads.specs.declared.lookup.Looked.the-variants as Looked

@@ -25,7 +25,7 @@ use Rattle.laws.proofs.Resize.{resize-size, resize-tree}
 use Rattle.laws.proofs.Shape.{SameShape}
 use Rattle.laws.proofs.Valid.{Live}
 use Rattle.results.specs.Writable.{Showable}
-use Rattle.shown.proofs.Good.{size-few}
+use Rattle.image.proofs.Good.{size-few}
 use Rattle.writing.specs.Writable.{Writable}
 
 -- an object's attributes can be written from the store that an edit leaves

@@ -1,5 +1,5 @@
 use borrow.Author.Needs.{needs}
-use Rattle.shown.proofs.Good.{good-shaped, good-names-sound}
+use Rattle.image.proofs.Good.{good-shaped, good-names-sound}
 use Rattle.removable.specs.Checks.{checkEntry}
 use Rattle.removable.proofs.check_entry.Statement.{statement}
 use Rattle.removable.proofs.check_entry.Tie as tie

@@ -1,7 +1,7 @@
 use Prim.Native.Nat.{_≤_}
 use native.Mathlib.Omega.{arith}
 use borrow.Author.Needs.{needs}
-use Rattle.shown.proofs.Good.{size-few}
+use Rattle.image.proofs.Good.{size-few}
 use Rattle.room.proofs.Sizes.{size-fits}
 use Rattle.room.proofs.lacks_room_for_size.Statement.{statement}
 use Rattle.room.proofs.lacks_room_for_size.Tie as tie

@@ -1,7 +1,7 @@
 use native.Mathlib.Omega.{arith}
 use borrow.Author.Needs.{needs}
 use Rattle.spec.specs.Handles.{linkCount}
-use Rattle.shown.proofs.Good.{good-shaped, good-names-sound, subdirectories-few}
+use Rattle.image.proofs.Good.{good-shaped, good-names-sound, subdirectories-few}
 use Rattle.shown.proofs.link_count.Statement.{statement}
 use Rattle.shown.proofs.link_count.Tie as tie
 

@@ -1,7 +1,7 @@
 use native.Mathlib.Omega.{arith}
 use borrow.Author.Needs.{needs}
 use Rattle.spec.specs.Handles.{usedBytes}
-use Rattle.shown.proofs.Good.{size-few}
+use Rattle.image.proofs.Good.{size-few}
 use Rattle.shown.proofs.used_bytes.Statement.{statement}
 use Rattle.shown.proofs.used_bytes.Tie as tie
 

@@ -5,7 +5,7 @@ use native.Mathlib.Omega.{arith}
 use borrow.Author.Tests.{eq-eqb, ne-eqb, not-true, not-false}
 use borrow.Author.Needs.{needs}
 use lib.Dec.{eqb}
-use Rattle.shown.proofs.Good.{good-shaped}
+use Rattle.image.proofs.Good.{good-shaped}
 use Rattle.laws.proofs.Count.{some-more, some-hit}
 use Rattle.spec.specs.Room.{parent, above}
 use Rattle.spec.specs.Procedures.Removal.{isWithin}

@@ -1,7 +1,7 @@
 use Prim.Native.Nat.{zero-le}
 use borrow.Author.Needs.{needs}
 use Rattle.spec.specs.Procedures.Names.{checkMkdir}
-use Rattle.shown.proofs.Good.{good-shaped, good-names-sound}
+use Rattle.image.proofs.Good.{good-shaped, good-names-sound}
 use Rattle.making.proofs.checks.check_mkdir.Statement.{statement}
 use Rattle.making.proofs.checks.check_mkdir.Tie as tie
 

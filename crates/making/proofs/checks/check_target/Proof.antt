@@ -1,6 +1,6 @@
 use native.Mathlib.Omega.{arith}
 use borrow.Author.Needs.{needs}
-use Rattle.shown.proofs.Good.{good-shaped, good-names-sound}
+use Rattle.image.proofs.Good.{good-shaped, good-names-sound}
 use Rattle.spec.specs.Procedures.{cut}
 use Rattle.find.proofs.Entry.{name-found}
 use Rattle.making.proofs.checks.check_target.Statement.{statement}

@@ -1,7 +1,7 @@
 use native.Mathlib.Omega.{arith}
 use borrow.Author.Needs.{needs}
 use Rattle.spec.specs.Procedures.Data.{readLength, readResult}
-use Rattle.shown.proofs.Good.{size-few}
+use Rattle.image.proofs.Good.{size-few}
 use Rattle.reads.proofs.Writable.{readable}
 use Rattle.reads.proofs.data.read_result.Statement.{statement}
 use Rattle.reads.proofs.data.read_result.Tie as tie

@@ -3,7 +3,7 @@ use borrow.Author.Needs.{needs}
 use Rattle.spec.specs.Procedures.{cut}
 use Rattle.spec.specs.Procedures.Names.{lookIn}
 use Rattle.find.proofs.Entry.{name-found}
-use Rattle.shown.proofs.Good.{good-shaped, good-names-sound}
+use Rattle.image.proofs.Good.{good-shaped, good-names-sound}
 use Rattle.reads.proofs.lookup.look_in.Statement.{statement}
 use Rattle.reads.proofs.lookup.look_in.Tie as tie
 
