@@ -9,27 +9,42 @@ use vector_file::tags::Tag;
 // No entry answers this number.
 const NO_ENTRY: u32 = 4294967295;
 
+// Calls `nfs3_format` with the numbers of the table.
+fn format(numbers: &Numbers, store: &mut [u8]) -> Answer {
+    nfs3::nfs3_format(
+        store,
+        numbers[Tag::STAMP],
+        numbers[Tag::OBJECTS],
+        numbers[Tag::NAMES],
+        numbers[Tag::BLOCKS],
+        numbers[Tag::SECONDS],
+        numbers[Tag::NANOSECONDS],
+    )
+}
+
+// Calls `nfs3_call` with the numbers of the table.
+fn send(numbers: &Numbers, store: &mut [u8], call: &[u8], reply: &mut [u8]) -> Answer {
+    let verifier = hyper(numbers[Tag::VERIFIER], numbers[Tag::VERIFIER + 1]);
+    nfs3::nfs3_call(
+        call,
+        store,
+        reply,
+        numbers[Tag::SECONDS],
+        numbers[Tag::NANOSECONDS],
+        verifier,
+    )
+}
+
 // Calls the entry of this tag on what is lent of the buffers.
 fn ask(tag: usize, numbers: &Numbers, store: &mut [u8], call: &[u8], reply: &mut [u8]) -> Answer {
-    let seconds = numbers[Tag::SECONDS];
-    let nanoseconds = numbers[Tag::NANOSECONDS];
     if tag == Tag::FORMAT_ENTRY {
-        return nfs3::nfs3_format(
-            store,
-            numbers[Tag::STAMP],
-            numbers[Tag::OBJECTS],
-            numbers[Tag::NAMES],
-            numbers[Tag::BLOCKS],
-            seconds,
-            nanoseconds,
-        );
+        return format(numbers, store);
     }
     if tag == Tag::CHECK_ENTRY {
         return nfs3::nfs3_check(store);
     }
     if tag == Tag::CALL_ENTRY {
-        let verifier = hyper(numbers[Tag::VERIFIER], numbers[Tag::VERIFIER + 1]);
-        return nfs3::nfs3_call(call, store, reply, seconds, nanoseconds, verifier);
+        return send(numbers, store, call, reply);
     }
     Answer {
         number: NO_ENTRY,
