@@ -65,7 +65,7 @@ static uint32_t get_word(const uint8_t *at) {
     return (uint32_t)at[0] << 24 | (uint32_t)at[1] << 16 | (uint32_t)at[2] << 8 | at[3];
 }
 
-/* Writes a word, most significant byte first, and gives the place behind it. */
+/* Writes a word, most significant byte first, and gives the place after it. */
 static uint8_t *put_word(uint8_t *at, uint32_t word) {
     for (int i = 0; i < 4; i++)
         at[i] = (uint8_t)(word >> (24 - 8 * i));
@@ -274,8 +274,8 @@ static void keep(uint32_t address, const uint8_t *call, size_t call_len, const u
 enum { MOUNT_PROGRAM = 100005, MOUNT_VERSION = 3, MOUNT_NULL = 0, MOUNT_MNT = 1, MOUNT_UMNT = 3, MOUNT_NOENT = 2, PATH_MOST = 1024 };
 enum { AUTH_NONE = 0, AUTH_SYS = 1 };
 
-/* The place behind opaque data of at most so many bytes whose length word is at a place in the call; 0 where it is cut or too long. */
-static size_t behind_opaque(const uint8_t *call, size_t len, size_t at, size_t most) {
+/* The place after opaque data of at most so many bytes whose length word is at a place in the call; 0 where it is cut or too long. */
+static size_t after_opaque(const uint8_t *call, size_t len, size_t at, size_t most) {
     if (at == 0 || at + 4 > len || get_word(call + at) > most)
         return 0;
     size_t end = at + 4 + ((size_t)get_word(call + at) + 3) / 4 * 4;
@@ -284,8 +284,8 @@ static size_t behind_opaque(const uint8_t *call, size_t len, size_t at, size_t m
 
 /* The length of the reply to a call of MOUNT; 0 where the call has no complete header. */
 static size_t answer_mount(const uint8_t *call, size_t len, uint8_t *reply) {
-    size_t credential_end = behind_opaque(call, len, 28, NFS3_CREDENTIAL_MOST);
-    size_t header_end = credential_end == 0 ? 0 : behind_opaque(call, len, credential_end + 4, NFS3_CREDENTIAL_MOST);
+    size_t credential_end = after_opaque(call, len, 28, NFS3_CREDENTIAL_MOST);
+    size_t header_end = credential_end == 0 ? 0 : after_opaque(call, len, credential_end + 4, NFS3_CREDENTIAL_MOST);
     if (header_end == 0)
         return 0;
     uint32_t version = get_word(call + 16), procedure = get_word(call + 20);
@@ -298,7 +298,7 @@ static size_t answer_mount(const uint8_t *call, size_t len, uint8_t *reply) {
         return (size_t)(put_word(put_word(put_word(at, PROG_MISMATCH), MOUNT_VERSION), MOUNT_VERSION) - reply);
     if (procedure != MOUNT_NULL && procedure != MOUNT_MNT && procedure != MOUNT_UMNT)
         return (size_t)(put_word(at, PROC_UNAVAIL) - reply);
-    size_t end = procedure == MOUNT_NULL ? header_end : behind_opaque(call, len, header_end, PATH_MOST);
+    size_t end = procedure == MOUNT_NULL ? header_end : after_opaque(call, len, header_end, PATH_MOST);
     if (end != len)
         return (size_t)(put_word(at, GARBAGE_ARGS) - reply);
     at = put_word(at, SUCCESS);

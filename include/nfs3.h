@@ -16,61 +16,61 @@
  *
  * The proof speaks of bytes in memory. That hosts lose nothing rests on the daemon too, on each of these duties.
  *
- * 1. Formatting. nfs3_format makes a store once, when it is set up; its counts stay as they are from then on. A daemon that starts never
- *    formats by itself, since that removes all files; on command it may, over any file. Take a stamp that was never used before: 32 random bits
- *    other than the bytes 4 to 7 of the old file, whatever that is, or a counter on stable storage that outlives the store; not the time in
- *    seconds, which repeats when a clock is set back. The handles of the old store are then answered STALE, and hosts mount again.
+ * 1. Formatting. nfs3_format makes a store once, when it is set up; its counts stay as they are from then on. A daemon that starts never formats
+ *    by itself, since that removes all files; on command it may, over any file. Take a stamp that was never used before: 32 random bits other
+ *    than the bytes 4 to 7 of the old file, whatever that is, or a counter on stable storage that outlives the store; not the time in seconds,
+ *    which repeats when a clock is set back. The handles of the old store are then answered STALE, and hosts mount again.
  *    OTHERWISE: with a stamp used again a handle that a host still holds reaches another file, which the host then reads or overwrites as its
  *    own, since format sets every generation to 0.
  *
- * 2. A copy brought back. Give an older copy of a store a new stamp before its first start: take the lock, read the copy and ask the check
- *    (duty 3), write a stamp as in duty 1 over the bytes 4 to 7, most significant first, and save it (duty 7), not in place. The files stay.
+ * 2. A copy brought back. Give an older copy of a store a new stamp before its first start: take the lock, read the copy and ask the check (duty
+ *    3), write a stamp as in duty 1 over the bytes 4 to 7, most significant first, and save it (duty 7), not in place. The files stay.
  *    OTHERWISE: handles that were given out after the copy was made are given out again for other files. The check does not judge the stamp.
  *
- * 3. Starting. First make sure that no other process has the store, before a format too, by a lock that ends with the process. Not a lock on
- *    the store's own file, since each save puts another file in its place: lock a file beside it, which stays. Different daemons exclude each
- *    other only with the same lock; that of demo/daemon.c is flock of the store's name with ".lock" added. (A lock of fcntl ends when any
- *    descriptor of the lock file is closed.) Refuse or resolve a symbolic link: it is a second name with another lock, and a save replaces it.
- *    Then read the file: its length is the store's; refuse more than NFS3_STORE_MOST. What a stopped save left beside it is never read. Ask
- *    nfs3_check: where the answer is not NFS3_DONE, stop and leave the file as it is. Before the first reply bring the file and its directory
- *    to stable storage (fsync of both): the process before may have been stopped within a save, and what is read now is told to hosts. Take a
- *    verifier that was never used before: 64 random bits, or a counter on stable storage.
- *    OTHERWISE: two processes save over each other; and a host that sees the same verifier before and after a restart concludes that nothing
- *    was lost in between, and does not send its writes again.
+ * 3. Starting. First make sure that no other process has the store, before a format too, by a lock that ends with the process. Not a lock on the
+ *    store's own file, since each save puts another file in its place: lock a file beside it, which stays. Different daemons exclude each other
+ *    only with the same lock; that of demo/daemon.c is flock of the store's name with ".lock" added. (A lock of fcntl ends when any descriptor of
+ *    the lock file is closed.) Refuse or resolve a symbolic link: it is a second name with another lock, and a save replaces it. A hard link is
+ *    one too: have none. Then read the file: its length is the store's; refuse more than NFS3_STORE_MOST. What a stopped save left beside it is
+ *    never read. Ask nfs3_check: where the answer is not NFS3_DONE, stop and leave the file as it is. Before the first reply bring the file and
+ *    its directory to stable storage (fsync of both): the process before may have been stopped within a save, and what is read now is told to
+ *    hosts. Take a verifier that was never used before: 64 random bits, or a counter on stable storage.
+ *    OTHERWISE: two processes save over each other; and a host that sees the same verifier before and after a restart concludes that nothing was
+ *    lost in between, and does not send its writes again.
  *
  * 4. Receiving. A call is one RPC message (RFC 5531).
  *    UDP: one datagram is one message. Receive it into more than NFS3_CALL_MOST bytes, or a longer one is cut short and taken for another call.
  *    TCP: messages are records (RFC 5531, section 11). Each fragment starts with 4 bytes, most significant first, whose highest bit says that it
- *    is the last fragment of its record, and whose other 31 bits are the number of bytes that follow; the bytes of the fragments, joined, are
- *    the message. A fragment, and its 4 bytes too, may come in pieces; several records may come at once; a fragment may be empty. The number is
- *    not to be trusted: as soon as those of a record add up to more than NFS3_CALL_MOST, close the connection, as for NFS3_LONG_CALL, without
+ *    is the last fragment of its record, and whose other 31 bits are the number of bytes that follow; the bytes of the fragments, joined, are the
+ *    message. A fragment, and its 4 bytes too, may come in pieces; several records may come at once; a fragment may be empty. The number is not
+ *    to be trusted: as soon as those of a record add up to more than NFS3_CALL_MOST, close the connection, as for NFS3_LONG_CALL, without
  *    nfs3_call; never lend the first bytes of a longer message. A connection within a record does not keep others waiting. Do not read from a
- *    connection while replies wait on it. Limit the connections, so that a save always has a descriptor; where all places are taken, close the
- *    connection that was silent longest, and its host connects again.
+ *    connection while replies wait on it. Limit the connections, so that a save always has a descriptor, inherited ones counted; where all places
+ *    are taken, close the connection that was silent longest, and its host connects again.
  *    OTHERWISE: a host that reads no replies, or only opens connections, takes all memory or descriptors, and a save fails.
  *
  * 5. Resent calls. The library keeps no replies. Hosts send a call again when its reply is late or lost, over TCP on a new connection: from the
- *    same address, often from another port, with the same bytes; the first 4 of them are the call's number, the xid. Keep the reply to every
- *    call of SETATTR, WRITE, CREATE, MKDIR, REMOVE, RMDIR and RENAME (2, 7, 8, 9, 12, 13, 14) that is answered NFS3_DONE, whatever its status,
- *    with the host's address, without the port, and the call's bytes. To a call that is the same in both send the kept reply, without
- *    nfs3_call. Other bytes under the same xid are a new call. Keep at least the last 200 replies for at least 2 minutes, whichever ends first,
- *    by a clock that is never set (CLOCK_MONOTONIC); sending a kept reply does not renew it. Not for ever: a program that starts again may use
- *    its xids again. With several threads, a call that is still being answered is not done a second time. Replies that are kept in memory are
- *    lost when the daemon stops.
- *    OTHERWISE: a host whose reply was lost is told EXIST for the lock file that it made itself, or NOENT for the file that it removed itself;
- *    a late WRITE undoes a newer one; and a REMOVE that was answered NOENT, sent again, removes a file that was made since.
+ *    same address, often from another port, with the same bytes; the first 4 of them are the call's number, the xid. Keep the reply to every call
+ *    of SETATTR, WRITE, CREATE, MKDIR, REMOVE, RMDIR and RENAME (2, 7, 8, 9, 12, 13, 14; the words at bytes 12, 16 and 20 of a call are its
+ *    program, version and procedure) that is answered NFS3_DONE, whatever its status, with the host's address, without the port, and the call's
+ *    bytes. To a call that is the same in both send the kept reply, without nfs3_call. Other bytes under the same xid are a new call. Keep at
+ *    least the last 200 replies, of all hosts together, for at least 2 minutes, whichever ends first, by a clock that is never set
+ *    (CLOCK_MONOTONIC); sending a kept reply does not renew it. Not for ever: a program that starts again may use its xids again. With several
+ *    threads, a call that is still being answered is not done a second time. Replies that are kept in memory are lost when the daemon stops.
+ *    OTHERWISE: a host whose reply was lost is told EXIST for the lock file that it made itself, or NOENT for the file that it removed itself; a
+ *    late WRITE undoes a newer one; and a REMOVE that was answered NOENT, sent again, removes a file that was made since.
  *
  * 6. Calling. Lend the whole store and a reply space of NFS3_REPLY_SPACE bytes. Seconds are those since 1970, as 32 bits without a sign; where
  *    the clock is before 1970 or after 2106, stop. Nanoseconds are below NFS3_NANOSECONDS. FSINFO tells hosts 1 nanosecond, so the time is finer
- *    than seconds, and later in each call than in the last one that changed the store, also when the system's clock stands still or is set
- *    back. After a restart the system's clock is good enough.
+ *    than seconds, and later in each call than in the last one that changed the store, also when the system's clock stands still or is set back.
+ *    After a restart the system's clock is good enough.
  *    OTHERWISE: two changes get the same time, and a host that read the file between them sees that time again and goes on using its old bytes.
  *
- * 7. Keeping. Where a call changed the store, and only there, bring all of its bytes to stable storage, all or nothing, BEFORE the reply is
- *    sent: write a new file in the same directory, readable by the daemon alone, fsync it, rename it to the store's name, fsync the directory.
- *    Until then no other reply may show the change either. One save may do for several calls, where all replies since the first are held back.
- *    Where saving fails, send no reply, do not try again (a second fsync may say 0 for bytes that the first one lost), and stop: it is not known
- *    which bytes are on stable storage, and the next start will read them.
+ * 7. Keeping. Where a call changed the store, and only there, bring all of its bytes to stable storage, all or nothing, BEFORE the reply is sent:
+ *    write a new file in the same directory, readable by the daemon alone, fsync it, rename it to the store's name, fsync the directory. Until
+ *    then no other reply may show the change either. One save may do for several calls, where all replies since the first are held back. Where
+ *    saving fails, send no reply, do not try again (a second fsync may say 0 for bytes that the first one lost), and stop: it is not known which
+ *    bytes are on stable storage. Let a person look at the disk, and write the store anew, as a new file, before the next start.
  *    OTHERWISE: every reply to WRITE says FILE_SYNC, which means that the data is on stable storage, so a host that is told so too early drops
  *    its own copy, and a stop of the machine loses the data; and a file that is written in place is damaged by a stop in between.
  *
@@ -80,17 +80,19 @@
  *    seven of duty 5. These may leave the store as it was even with OK: WRITE of 0 bytes does.
  *
  * 8. Sending. The first `length` bytes of the reply space are the whole RPC message. With an answer other than NFS3_DONE there is no reply; enum
- *    nfs3_number says what to do. What is reported there never makes the daemon wait, and is limited to a few lines a second.
+ *    nfs3_number says what to do. What is reported there never makes the daemon wait, and is limited to a few lines a second. Where standard
+ *    error is closed, open something in its place at the start, or the reports go into the next file or connection that is opened.
  *    UDP: one datagram to the address and port that the call came from.
  *    TCP: one record on the connection that the call came on, with its 4 bytes in front. Replies may be sent in any order. `send` may take fewer
- *    bytes than it is given: the rest goes first when the connection takes bytes again, and other connections do not wait for it. Ignore
- *    SIGPIPE. A host that has closed its sending side still gets its replies. Closing with bytes unread resets the connection, and replies on
- *    their way are lost; the host then sends its calls again.
+ *    bytes than it is given: the rest goes first when the connection takes bytes again, and other connections do not wait for it. Ignore SIGPIPE.
+ *    A host that has closed its sending side still gets its replies. Closing with bytes unread resets the connection, and replies on their way
+ *    are lost; the host then sends its calls again.
  *    OTHERWISE: a host that goes away (SIGPIPE), or one that sends garbage (a log that nobody reads, or that fills the disk), stops the daemon.
  *
- * 9. The root's handle. Hosts get it through the MOUNT protocol (RFC 1813, appendix I), which is not in the library. It has NFS3_HANDLE_LENGTH
- *    bytes: the stamp (bytes 4 to 7 of the store), then 8 zero bytes (object 0, generation 0). The root is never removed, so the handle stays
- *    the same until the stamp changes. Every other handle comes from the library's replies.
+ * 9. The root's handle. Hosts get it through the MOUNT protocol (RFC 1813, appendix I: program 100005, version 3), which is not in the library:
+ *    the daemon answers it, on the same port or another, or a program beside it does. It has NFS3_HANDLE_LENGTH bytes: the stamp (bytes 4 to 7 of
+ *    the store), then 8 zero bytes (object 0, generation 0). The root is never removed, so the handle stays the same until the stamp changes.
+ *    Every other handle comes from the library's replies.
  *
  * 10. Rights are not looked at yet. Any credential is accepted, and whoever reaches the socket can read and change every file. Listen only where
  *    everybody is trusted.
@@ -215,7 +217,7 @@ enum nfs3_number {
 /*
  * Answers one RPC call from the store, which it may change.
  * The first of these that holds: NFS3_SMALL_REPLY, NFS3_BAD_CLOCK, NFS3_LONG_CALL, NFS3_BAD_STORE, NFS3_NO_CALL; else NFS3_DONE, with the reply
- * in the first bytes of its space and no byte behind it changed. A call that is not understood or not allowed is answered NFS3_DONE too: its
+ * in the first bytes of its space and no byte after it changed. A call that is not understood or not allowed is answered NFS3_DONE too: its
  * reply says so. WRITE and COMMIT send the verifier to the host, most significant byte first.
  */
 struct nfs3_answer nfs3_call(const uint8_t *call, size_t call_len, uint8_t *store, size_t store_len, uint8_t *reply, size_t reply_len,
