@@ -55,7 +55,7 @@ fn write_front(store: &mut [u8], stamp: u32, p: u32, clock: Time)
     wire::put_u32(store, 0, 1);
     wire::put_u32(store, Image::STAMP, stamp);
     wire::put_u32(store, Image::OBJECT_COUNT, p);
-    image::object::save_object(store, ObjectNumber(0), Object::root(clock));
+    store_records::object::save_object(store, ObjectNumber(0), Object::root(clock));
     wire::clear_bytes(store, ROOT_END, length - ROOT_END);
 }
 

@@ -11,7 +11,7 @@ use Rattle.laws.proofs.Count.{by-bool}
 use Rattle.fsck.specs.Found.{countsOf, foundIf}
 use Rattle.fsck.specs.declared.shape.Counts.{Counts}
 use Rattle.fsck.specs.declared.shape.Found.the-variants.{Bad, Good}
-use Rattle.serving.specs.Sends.{Sends}
+use Rattle.entry_reply.specs.Sends.{Sends}
 use Rattle.nfs3.specs.Answers.{answerOf, Serves}
 
 good-bad : {A : Type 0} (k : Counts) → Good k ≡ Bad → A

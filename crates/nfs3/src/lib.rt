@@ -8,9 +8,9 @@ use fsck::shape::Found;
 use kinds::numbers::Answer;
 use kinds::object::Context;
 use kinds::object::Time;
-use opening::Opened;
-use opening::open;
-use serving::respond;
+use entry_tests::Opened;
+use entry_tests::open;
+use entry_reply::respond;
 
 // Answers a call: 2, 3, 4, 1 or 5, which change nothing, or 0 with the length of the reply.
 #[no_mangle]

@@ -1,0 +1,107 @@
+-- What passed checks give to the edits, and the results that are made after them. Assumes nothing.
+use Prim.Native.Nat.{ℕ, _+_, _≤_, _<_}
+use mathlib.Core.Path.{_≡_, sym, ap, _∙_}
+use mathlib.Core.List.{List}
+use native.Mathlib.Omega.{arith}
+use lib.ListN.{length}
+use Rattle.kinds.specs.declared.numbers.NameNumber.{NameNumber}
+use Rattle.kinds.specs.declared.numbers.ObjectNumber.{ObjectNumber}
+use Rattle.kinds.specs.declared.object.Before.{Before}
+use Rattle.kinds.specs.declared.object.Context.{Context}
+use Rattle.kinds.specs.declared.call.NameIn.{NameIn}
+use Rattle.kinds.specs.declared.call.Arguments.the-variants as Arguments
+use Rattle.spec.specs.Checked.{passed}
+use Rattle.spec.specs.Edits.{removeObject}
+use Rattle.spec.specs.Handles.{before, change}
+use Rattle.spec.specs.Image.{Store, objects}
+use Rattle.spec.specs.Procedures.{cut, act}
+use Rattle.spec.specs.Procedures.Names.{touchDirectory}
+use Rattle.spec.specs.Procedures.Removal.{checkRemove, checkRmdir, checkRename, removeFrom, remove, rmdir, renameEdit, rename}
+use Rattle.laws.proofs.ActGood.{act-good}
+use Rattle.laws.proofs.Bytes.{part-length}
+use Rattle.laws.proofs.GoodRecords.{GoodRecords, StillGood, GoodClock, used-at}
+use Rattle.laws.proofs.Passed.{EntryPassed, remove-passed, rmdir-passed, rename-passed, found-record}
+use Rattle.laws.proofs.Range.{Below}
+use Rattle.laws.proofs.Valid.{Valid}
+use Rattle.results.specs.Meaning.{changeIn}
+use Rattle.results.specs.Writable.{Showable}
+use Rattle.edit_entries.specs.Records.{RemovableAt, MovableAt}
+use Rattle.check_remove.specs.Meaning.{removableOf}
+use Rattle.check_rename.specs.Meaning.{renamableOf}
+use Rattle.check_remove.specs.declared.Removable.{Removable}
+use Rattle.check_remove.specs.declared.Removable.the-variants as Removable
+use Rattle.check_rename.specs.declared.Renamable.{Renamable}
+use Rattle.check_rename.specs.declared.Renamable.the-variants as Renamable
+
+-- ---- after an edit
+-- the store u is t, which came from s
+pub still-showable : (s t u : Store) (d : ℕ) → StillGood s t → d < objects s → u ≡ t → Showable u d
+still-showable s t u d a l e = rw e (record { good = a .good; object = omega (arith, a .shape .objects) })
+
+-- a change is made of what was read before, and of the store that is left
+pub change-made : (s t u : Store) (d : ObjectNumber) (b : Before) → b ≡ before s (d .0) → u ≡ t → changeIn u (record { before = b; object = d }) ≡ change s t (d .0)
+unfolding change
+change-made s t u d b e g = rw (e, g)
+
+-- ---- what the checks give
+pub record Removing (s : Store) (c : Context) (d n : ℕ) : Type 0 where
+  pub at : RemovableAt s d n
+  pub still : StillGood s (touchDirectory (removeObject s n) c d)
+
+pub record Moving (s : Store) (c : Context) (d e n size : ℕ) (title : List ℕ) : Type 0 where
+  pub at : MovableAt s d e n size
+  pub still : StillGood s (renameEdit s c d e n title)
+
+entry-at : (s : Store) (h text : List ℕ) (d n : ℕ) → EntryPassed s h text d n → RemovableAt s d n
+entry-at s h text d n p =
+    let r = found-record s d text n (p .found) in
+    record { directory = p .reached .below; name = r .0; used = r .1 }
+
+module _ (s : Store) (c : Context) (v : Valid s) (g : GoodRecords s) (k : GoodClock (c .clock)) (call : List ℕ) (w : Below 256 call) (p : NameIn) where
+  removing-file : (d n : ℕ) → checkRemove s (cut call (p .directory)) (cut call (p .name)) ≡ passed (d, n) → Removing s c d n
+  unfolding act remove removeFrom
+  removing-file d n e =
+      record {
+        at = entry-at s (cut call (p .directory)) (cut call (p .name)) d n (remove-passed s (cut call (p .directory)) (cut call (p .name)) (d, n) e .entry);
+        still = rw e at (act-good s c v (g .sound .bytes) k call (Arguments.Remove p) w tt);
+      }
+
+  removing-directory : (d n : ℕ) → checkRmdir s (cut call (p .directory)) (cut call (p .name)) ≡ passed (d, n) → Removing s c d n
+  unfolding act rmdir removeFrom
+  removing-directory d n e =
+      record {
+        at = entry-at s (cut call (p .directory)) (cut call (p .name)) d n (rmdir-passed s (cut call (p .directory)) (cut call (p .name)) (d, n) e .entry);
+        still = rw e at (act-good s c v (g .sound .bytes) k call (Arguments.Rmdir p) w tt);
+      }
+
+  moving : (q : NameIn) (d e n : ℕ) → q .name .start + q .name .length ≤ length call
+      → checkRename s (cut call (p .directory)) (cut call (p .name)) (cut call (q .directory)) (cut call (q .name)) ≡ passed (d, e, n)
+      → Moving s c d e n (q .name .length) (cut call (q .name))
+  unfolding act rename
+  moving q d e n fits x =
+      let y = rename-passed s (cut call (p .directory)) (cut call (p .name)) (cut call (q .directory)) (cut call (q .name)) (d, e, n) x in
+      let r = found-record s d (cut call (p .name)) n (y .found) in
+      record {
+        at = record {
+          directory = y .reached .below;
+          target = y .target-reached .below;
+          name = r .0;
+          child = used-at s g n (r .0) (r .1) .0;
+          short = omega (arith, y .target-good .short, part-length call (q .name .start) (q .name .length) fits);
+        };
+        still = rw x at (act-good s c v (g .sound .bytes) k call (Arguments.Rename p q) w tt);
+      }
+
+  -- the same of the answers of the code
+  pub remove-found : (r : Removable) (d : ObjectNumber) (n : NameNumber) → r ≡ Removable.At d n
+      → removableOf r ≡ checkRemove s (cut call (p .directory)) (cut call (p .name)) → Removing s c (d .0) (n .0)
+  remove-found r d n is e = removing-file (d .0) (n .0) (sym e ∙ ap removableOf is)
+
+  pub rmdir-found : (r : Removable) (d : ObjectNumber) (n : NameNumber) → r ≡ Removable.At d n
+      → removableOf r ≡ checkRmdir s (cut call (p .directory)) (cut call (p .name)) → Removing s c (d .0) (n .0)
+  rmdir-found r d n is e = removing-directory (d .0) (n .0) (sym e ∙ ap removableOf is)
+
+  pub rename-found : (q : NameIn) → q .name .start + q .name .length ≤ length call → (r : Renamable) (d e : ObjectNumber) (n : NameNumber) → r ≡ Renamable.At d e n
+      → renamableOf r ≡ checkRename s (cut call (p .directory)) (cut call (p .name)) (cut call (q .directory)) (cut call (q .name))
+      → Moving s c (d .0) (e .0) (n .0) (q .name .length) (cut call (q .name))
+  rename-found q fits r d e n is x = moving q (d .0) (e .0) (n .0) fits (sym x ∙ ap renamableOf is)

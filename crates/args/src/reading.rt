@@ -1,2 +1,0 @@
-// What reading arguments answers.
-pub use args_end::reading::ArgumentsRead;

@@ -1,0 +1,2 @@
+// What reading arguments answers.
+pub use call_end::reading::ArgumentsRead;

@@ -1,0 +1,156 @@
+// The arguments of the procedures whose first argument is a handle.
+ghost use mathlib.Core.Path.{_≡_};
+ghost use Rattle.spec.specs.Arguments.{whole};
+ghost use Rattle.call_end.specs.Reading.{argumentsOf};
+ghost use Rattle.call_by_handle.specs.After.{setattrAfter, accessAfter, readAfter, writeAfter, readdirAfter, commitAfter, alone, ofHandle};
+use call_end::finish;
+use call_end::reading::ArgumentsRead;
+use call_types::reading::GuardRead;
+use call_types::reading::SettableRead;
+use call_types::types::guard;
+use call_types::types::handle;
+use call_types::types::settable;
+use call_types::types::unbounded;
+use kinds::call::Arguments;
+use kinds::call::Cursor;
+use kinds::call::Part;
+use kinds::numbers::Procedure;
+use kinds::reading::LongRead;
+use kinds::reading::PartRead;
+use kinds::reading::WordRead;
+use xdr::read::choice;
+use xdr::read::long;
+use xdr::read::word;
+
+// SETATTR3args behind the handle.
+fn setattr(s: &[u8], c: Cursor, object: Part) -> ArgumentsRead
+    ensures { λ r. ⌜ argumentsOf r ≡ whole (setattrAfter object) (now (s .entry)) (c .at) ⌝ }
+{
+    let answer = settable(s, c);
+    let SettableRead::Got(attributes, c1) = answer else {
+        return ArgumentsRead::Bad(answer.place());
+    };
+    let answer = guard(s, c1);
+    let GuardRead::Got(given, c2) = answer else {
+        return ArgumentsRead::Bad(answer.place());
+    };
+    finish(s, c2, Arguments::Setattr(object, attributes, given))
+}
+
+// ACCESS3args behind the handle.
+fn access(s: &[u8], c: Cursor, object: Part) -> ArgumentsRead
+    ensures { λ r. ⌜ argumentsOf r ≡ whole (accessAfter object) (now (s .entry)) (c .at) ⌝ }
+{
+    let answer = word(s, c);
+    let WordRead::Got(bits, c1) = answer else {
+        return ArgumentsRead::Bad(answer.place());
+    };
+    finish(s, c1, Arguments::Access(object, bits))
+}
+
+// READ3args behind the handle.
+fn read(s: &[u8], c: Cursor, file: Part) -> ArgumentsRead
+    ensures { λ r. ⌜ argumentsOf r ≡ whole (readAfter file) (now (s .entry)) (c .at) ⌝ }
+{
+    let answer = long(s, c);
+    let LongRead::Got(offset, c1) = answer else {
+        return ArgumentsRead::Bad(answer.place());
+    };
+    let answer = word(s, c1);
+    let WordRead::Got(count, c2) = answer else {
+        return ArgumentsRead::Bad(answer.place());
+    };
+    finish(s, c2, Arguments::Read(file, offset, count))
+}
+
+// WRITE3args behind the handle.
+fn write(s: &[u8], c: Cursor, file: Part) -> ArgumentsRead
+    ensures { λ r. ⌜ argumentsOf r ≡ whole (writeAfter file) (now (s .entry)) (c .at) ⌝ }
+{
+    let answer = long(s, c);
+    let LongRead::Got(offset, c1) = answer else {
+        return ArgumentsRead::Bad(answer.place());
+    };
+    let answer = word(s, c1);
+    let WordRead::Got(count, c2) = answer else {
+        return ArgumentsRead::Bad(answer.place());
+    };
+    let answer = choice(s, c2, 2);
+    let WordRead::Got(_, c3) = answer else {
+        return ArgumentsRead::Bad(answer.place());
+    };
+    let answer = unbounded(s, c3);
+    let PartRead::Got(bytes, c4) = answer else {
+        return ArgumentsRead::Bad(answer.place());
+    };
+    finish(s, c4, Arguments::Write(file, offset, count, bytes))
+}
+
+// READDIR3args behind the handle.
+fn readdir(s: &[u8], c: Cursor, directory: Part) -> ArgumentsRead
+    ensures { λ r. ⌜ argumentsOf r ≡ whole (readdirAfter directory) (now (s .entry)) (c .at) ⌝ }
+{
+    let answer = long(s, c);
+    let LongRead::Got(cookie, c1) = answer else {
+        return ArgumentsRead::Bad(answer.place());
+    };
+    let answer = long(s, c1);
+    let LongRead::Got(verifier, c2) = answer else {
+        return ArgumentsRead::Bad(answer.place());
+    };
+    let answer = word(s, c2);
+    let WordRead::Got(count, c3) = answer else {
+        return ArgumentsRead::Bad(answer.place());
+    };
+    finish(
+        s,
+        c3,
+        Arguments::Readdir(directory, cookie, verifier, count),
+    )
+}
+
+// COMMIT3args behind the handle.
+fn commit(s: &[u8], c: Cursor, file: Part) -> ArgumentsRead
+    ensures { λ r. ⌜ argumentsOf r ≡ whole (commitAfter file) (now (s .entry)) (c .at) ⌝ }
+{
+    let answer = long(s, c);
+    let LongRead::Got(_, c1) = answer else {
+        return ArgumentsRead::Bad(answer.place());
+    };
+    let answer = word(s, c1);
+    let WordRead::Got(_, c2) = answer else {
+        return ArgumentsRead::Bad(answer.place());
+    };
+    finish(s, c2, Arguments::Commit(file))
+}
+
+// GETATTR3args, FSSTAT3args, FSINFO3args and PATHCONF3args, which are the handle alone.
+fn alone(object: Part, procedure: u32) -> Arguments
+    ensures { λ r. ⌜ r ≡ alone procedure object ⌝ }
+{
+    match procedure {
+        Procedure::GETATTR => Arguments::Getattr(object),
+        Procedure::FSSTAT => Arguments::Fsstat(object),
+        Procedure::FSINFO => Arguments::Fsinfo(object),
+        _ => Arguments::Pathconf(object),
+    }
+}
+
+// The arguments of GETATTR, SETATTR, ACCESS, READ, WRITE, READDIR, FSSTAT, FSINFO, PATHCONF or COMMIT, which end the call.
+pub fn of_handle(s: &[u8], c: Cursor, procedure: u32) -> ArgumentsRead
+    ensures { λ r. ⌜ argumentsOf r ≡ ofHandle procedure (now (s .entry)) (c .at) ⌝ }
+{
+    let answer = handle(s, c);
+    let PartRead::Got(object, c1) = answer else {
+        return ArgumentsRead::Bad(answer.place());
+    };
+    match procedure {
+        Procedure::SETATTR => setattr(s, c1, object),
+        Procedure::ACCESS => access(s, c1, object),
+        Procedure::READ => read(s, c1, object),
+        Procedure::WRITE => write(s, c1, object),
+        Procedure::READDIR => readdir(s, c1, object),
+        Procedure::COMMIT => commit(s, c1, object),
+        _ => finish(s, c1, alone(object, procedure)),
+    }
+}

@@ -1,0 +1,86 @@
+// The checks of CREATE.
+ghost use mathlib.Core.Path.{_≡_};
+ghost use Prim.Native.Nat.{_+_, _≤_};
+ghost use lib.ListN.{length};
+ghost use Rattle.spec.specs.Procedures.{cut};
+ghost use Rattle.spec.specs.Procedures.Names.{checkHow, checkCreate};
+ghost use Rattle.laws.proofs.GoodRecords.{GoodRecords};
+ghost use Rattle.store_blocks.specs.Blocks.{UsedMap};
+ghost use Rattle.check_make.specs.Meaning.{targetOf, statusOf};
+ghost use Rattle.check_create.specs.Meaning.{createOf};
+use check_handles::handle::Reached;
+use check_handles::handle::reach_directory;
+use kinds::call::How;
+use kinds::call::NameIn;
+use kinds::call::Part;
+use kinds::numbers::ObjectNumber;
+use kinds::numbers::Status;
+use check_make::answers::reached_status;
+use check_make::answers::target_status;
+use check_make::checks::Target;
+use check_make::checks::TargetChecked;
+use check_make::checks::check_attributed;
+
+// The directory and the target, or the status.
+pub enum CreateChecked {
+    At(ObjectNumber, Target),
+    Refused(Status),
+}
+
+// The checks of CREATE in a directory; EXCLUSIVE is refused before the name is looked at.
+fn check_how(
+    store: &[u8],
+    used: &[u8; 1024],
+    d: ObjectNumber,
+    call: &[u8],
+    name: Part,
+    manner: How,
+) -> TargetChecked
+    requires { ⌜ GoodRecords (now store) ⌝ }
+    requires { ⌜ UsedMap (now store) (now used) ⌝ }
+    requires { ⌜ name .start + name .length ≤ length (now call) ⌝ }
+    ensures { λ r. ⌜ targetOf r ≡ checkHow (now (store .entry)) (d .0) (cut (now (call .entry)) name) manner ⌝ }
+{
+    match manner {
+        How::Unchecked(a) => check_attributed(store, used, d, call, name, true, a),
+        How::Guarded(a) => check_attributed(store, used, d, call, name, false, a),
+        How::Exclusive(_) => TargetChecked::Refused(Status::NOTSUPP),
+    }
+}
+
+// The directory and the target of CREATE, or the status.
+pub fn check_create(
+    store: &[u8],
+    used: &[u8; 1024],
+    call: &[u8],
+    place: NameIn,
+    manner: How,
+) -> CreateChecked
+    requires { ⌜ GoodRecords (now store) ⌝ }
+    requires { ⌜ UsedMap (now store) (now used) ⌝ }
+    requires { ⌜ place .directory .start + place .directory .length ≤ length (now call) ⌝ }
+    requires { ⌜ place .name .start + place .name .length ≤ length (now call) ⌝ }
+    ensures { λ r. ⌜ createOf r ≡ checkCreate (now (store .entry)) (cut (now (call .entry)) (place .directory)) (cut (now (call .entry)) (place .name)) manner ⌝ }
+{
+    let directory = place.directory;
+    let reached = reach_directory(store, call, directory);
+    let Reached::At(d) = reached else {
+        return CreateChecked::Refused(reached_status(reached));
+    };
+    let name = place.name;
+    let answer = check_how(store, used, d, call, name, manner);
+    let TargetChecked::At(t) = answer else {
+        return CreateChecked::Refused(target_status(answer));
+    };
+    CreateChecked::At(d, t)
+}
+
+// The status of a refusal.
+pub fn create_status(answer: CreateChecked) -> Status
+    ensures { λ r. ⌜ r .0 ≡ statusOf (createOf answer) ⌝ }
+{
+    match answer {
+        CreateChecked::At(_, _) => Status::OK,
+        CreateChecked::Refused(status) => status,
+    }
+}

@@ -1,0 +1,45 @@
+use mathlib.Core.Path.{sym}
+use borrow.Author.Tests.{eq-eqb, ne-eqb}
+use borrow.Author.Needs.{needs}
+use Rattle.check_handles.proofs.NameBytes.{dot-dot-long, dot-dot-two}
+use Rattle.check_handles.proofs.text.is_dot_dot.Statement.{statement}
+use Rattle.check_handles.proofs.text.is_dot_dot.Tie as tie
+
+returns : tie.Need-returns
+returns c = let st = c .before in sym (dot-dot-long (st .args .call .now) (st .args .name .start) (st .args .name .length) (c .if1 .taken) (st .pre))
+
+shared-slice-read-if2 : tie.Need-shared-slice-read-if2
+shared-slice-read-if2 c = search needs
+
+returns-2 : tie.Need-returns-2
+returns-2 c =
+    let st = c .before .before .before in
+    rw (
+      dot-dot-two (st .args .call .now) (st .args .name .start) (st .args .name .length) (c .before .before .if1 .left) (st .pre),
+      ne-eqb _ _ (c .if2 .taken),
+    )
+
+add-result : tie.Need-add-result
+add-result c = search needs
+
+shared-slice-read-result : tie.Need-shared-slice-read-result
+shared-slice-read-result c = search needs
+
+returns-3 : tie.Need-returns-3
+returns-3 c =
+    let st = c .before .before .before .before in
+    rw (
+      dot-dot-two (st .args .call .now) (st .args .name .start) (st .args .name .length) (c .before .before .before .if1 .left) (st .pre),
+      eq-eqb _ _ (c .before .if2 .left),
+    )
+
+pub is-dot-dot-spec : {M : Type 1} → statement M
+is-dot-dot-spec =
+    tie.close
+    (tie.spec
+    returns
+    shared-slice-read-if2
+    returns-2
+    add-result
+    shared-slice-read-result
+    returns-3)

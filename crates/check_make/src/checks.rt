@@ -1,0 +1,210 @@
+// The checks of MKDIR, and those of CREATE with attributes.
+ghost use mathlib.Core.Path.{_≡_};
+ghost use mathlib.Core.Bool.{_||_};
+ghost use Prim.Native.Nat.{_+_, _<_, _≤_};
+ghost use lib.ListN.{length};
+ghost use Rattle.spec.specs.Image.{objects};
+ghost use Rattle.spec.specs.Room.{findName};
+ghost use Rattle.spec.specs.Procedures.{cut};
+ghost use Rattle.spec.specs.Procedures.Attributes.{isGiven, sizeSet, badAttributes};
+ghost use Rattle.spec.specs.Procedures.Names as names;
+ghost use Rattle.spec.specs.Procedures.Names.{roomForNew, isNew, checkExisting, checkAttributed, checkMkdir};
+ghost use Rattle.laws.proofs.GoodRecords.{GoodRecords};
+ghost use Rattle.store_blocks.specs.Blocks.{UsedMap};
+ghost use Rattle.check_handles.specs.Meaning.{textOf};
+ghost use Rattle.check_make.specs.Meaning.{NewName, targetOf, mkdirOf};
+use crate::answers::reached_status;
+use crate::answers::room_status;
+use crate::answers::text_status;
+use check_handles::handle::Reached;
+use check_handles::handle::reach_directory;
+use check_handles::text::TextChecked;
+use check_handles::text::check_name;
+use check_handles::text::is_dots;
+use store_search::found::FoundName;
+use store_search::name::find_name;
+use store_records::name::name_child;
+use store_records::object::is_regular;
+use kinds::call::NameIn;
+use kinds::call::Part;
+use kinds::call::Settable;
+use kinds::numbers::NameNumber;
+use kinds::numbers::ObjectNumber;
+use kinds::numbers::Status;
+use check_room::RoomChecked;
+use check_room::lacks_room_for_size;
+use check_room::room_for_new;
+use check_settable::bad_attributes;
+use check_settable::is_given;
+use check_settable::size_set;
+
+// What CREATE's checks find: records for a new file, or the file of that name.
+pub enum Target {
+    New(ObjectNumber, NameNumber),
+    Existing(ObjectNumber),
+}
+
+pub enum TargetChecked {
+    At(Target),
+    Refused(Status),
+}
+
+// The directory, the object record and the name record, or the status.
+pub enum MkdirChecked {
+    At(ObjectNumber, ObjectNumber, NameNumber),
+    Refused(Status),
+}
+
+// A name to be made: a bad name's status, EXIST for "." and "..", then INVAL for attributes that are not valid.
+fn check_new(call: &[u8], name: Part, invalid: bool) -> TextChecked
+    requires { ⌜ name .start + name .length ≤ length (now call) ⌝ }
+    ensures { λ r. ⌜ NewName (cut (now (call .entry)) name) invalid (textOf r) ⌝ }
+{
+    let answer = check_name(call, name);
+    let TextChecked::Good = answer else {
+        return answer;
+    };
+    if is_dots(call, name) {
+        return TextChecked::Refused(Status::EXIST);
+    }
+    if invalid {
+        return TextChecked::Refused(Status::INVAL);
+    }
+    TextChecked::Good
+}
+
+// Records and blocks for a new file.
+fn check_absent(store: &[u8], used: &[u8; 1024], a: Settable) -> TargetChecked
+    requires { ⌜ GoodRecords (now store) ⌝ }
+    requires { ⌜ UsedMap (now store) (now used) ⌝ }
+    requires { ⌜ sizeSet (a .size) 0 ≤ 8192 ⌝ }
+    ensures { λ r. ⌜ targetOf r ≡ isNew (roomForNew (now (store .entry)) (sizeSet (a .size) 0)) ⌝ }
+{
+    let size = a.size;
+    let answer = room_for_new(store, used, size_set(size, 0) as usize);
+    let RoomChecked::At(o, n) = answer else {
+        return TargetChecked::Refused(room_status(answer));
+    };
+    TargetChecked::At(Target::New(o, n))
+}
+
+// An object that has the name: EXIST, but for UNCHECKED on a regular file, which obeys the size.
+fn check_existing(
+    store: &[u8],
+    used: &[u8; 1024],
+    unchecked: bool,
+    a: Settable,
+    o: ObjectNumber,
+) -> TargetChecked
+    requires { ⌜ GoodRecords (now store) ⌝ }
+    requires { ⌜ UsedMap (now store) (now used) ⌝ }
+    requires { ⌜ sizeSet (a .size) 0 ≤ 8192 ⌝ }
+    requires { ⌜ o .0 < objects (now store) ⌝ }
+    ensures { λ r. ⌜ targetOf r ≡ checkExisting (now (store .entry)) unchecked a (o .0) ⌝ }
+{
+    if !unchecked {
+        return TargetChecked::Refused(Status::EXIST);
+    }
+    if !is_regular(store, o) {
+        return TargetChecked::Refused(Status::EXIST);
+    }
+    let size = a.size;
+    if lacks_room_for_size(store, used, o, size) {
+        return TargetChecked::Refused(Status::NOSPC);
+    }
+    TargetChecked::At(Target::Existing(o))
+}
+
+// The file that CREATE makes, or the one that has the name.
+fn check_target(
+    store: &[u8],
+    used: &[u8; 1024],
+    d: ObjectNumber,
+    call: &[u8],
+    name: Part,
+    unchecked: bool,
+    a: Settable,
+) -> TargetChecked
+    requires { ⌜ GoodRecords (now store) ⌝ }
+    requires { ⌜ UsedMap (now store) (now used) ⌝ }
+    requires { ⌜ name .start + name .length ≤ length (now call) ⌝ }
+    requires { ⌜ sizeSet (a .size) 0 ≤ 8192 ⌝ }
+    ensures { λ r. ⌜ targetOf r ≡ names.targetOf (now (store .entry)) unchecked a (findName (now (store .entry)) (d .0) (cut (now (call .entry)) name)) ⌝ }
+{
+    let found = find_name(store, d, call, name);
+    let FoundName::At(n) = found else {
+        return check_absent(store, used, a);
+    };
+    let o = name_child(store, n);
+    check_existing(store, used, unchecked, a, o)
+}
+
+// The checks of CREATE in a directory, but for EXCLUSIVE.
+pub fn check_attributed(
+    store: &[u8],
+    used: &[u8; 1024],
+    d: ObjectNumber,
+    call: &[u8],
+    name: Part,
+    unchecked: bool,
+    a: Settable,
+) -> TargetChecked
+    requires { ⌜ GoodRecords (now store) ⌝ }
+    requires { ⌜ UsedMap (now store) (now used) ⌝ }
+    requires { ⌜ name .start + name .length ≤ length (now call) ⌝ }
+    ensures { λ r. ⌜ targetOf r ≡ checkAttributed (now (store .entry)) (d .0) (cut (now (call .entry)) name) unchecked a ⌝ }
+{
+    let invalid = bad_attributes(a);
+    let answer = check_new(call, name, invalid);
+    let TextChecked::Good = answer else {
+        return TargetChecked::Refused(text_status(answer));
+    };
+    check_target(store, used, d, call, name, unchecked, a)
+}
+
+// Whether MKDIR's attributes are not valid: as for SETATTR, or a size is given.
+fn bad_for_directory(a: Settable) -> bool
+    ensures { λ r. ⌜ r ≡ badAttributes a || isGiven (a .size) ⌝ }
+{
+    if bad_attributes(a) {
+        return true;
+    }
+    let size = a.size;
+    is_given(size)
+}
+
+// The directory, the object record and the name record of MKDIR, or the status.
+pub fn check_mkdir(
+    store: &[u8],
+    used: &[u8; 1024],
+    call: &[u8],
+    place: NameIn,
+    a: Settable,
+) -> MkdirChecked
+    requires { ⌜ GoodRecords (now store) ⌝ }
+    requires { ⌜ UsedMap (now store) (now used) ⌝ }
+    requires { ⌜ place .directory .start + place .directory .length ≤ length (now call) ⌝ }
+    requires { ⌜ place .name .start + place .name .length ≤ length (now call) ⌝ }
+    ensures { λ r. ⌜ mkdirOf r ≡ checkMkdir (now (store .entry)) (cut (now (call .entry)) (place .directory)) (cut (now (call .entry)) (place .name)) a ⌝ }
+{
+    let directory = place.directory;
+    let reached = reach_directory(store, call, directory);
+    let Reached::At(d) = reached else {
+        return MkdirChecked::Refused(reached_status(reached));
+    };
+    let name = place.name;
+    let invalid = bad_for_directory(a);
+    let answer = check_new(call, name, invalid);
+    let TextChecked::Good = answer else {
+        return MkdirChecked::Refused(text_status(answer));
+    };
+    let found = find_name(store, d, call, name);
+    let FoundName::Nothing = found else {
+        return MkdirChecked::Refused(Status::EXIST);
+    };
+    let room = room_for_new(store, used, 0);
+    let RoomChecked::At(o, n) = room else {
+        return MkdirChecked::Refused(room_status(room));
+    };
+    MkdirChecked::At(d, o, n)
+}

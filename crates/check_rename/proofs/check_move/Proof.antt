@@ -1,0 +1,127 @@
+use native.Mathlib.Omega.{arith}
+use borrow.Author.Needs.{needs}
+use Rattle.store_records.proofs.Good.{good-shaped, good-names-sound}
+use Rattle.check_rename.specs.Checks.{checkMove}
+use Rattle.spec.specs.Procedures.{cut}
+use Rattle.store_search.proofs.Entry.{name-found}
+use Rattle.check_rename.proofs.check_move.Statement.{statement}
+use Rattle.check_rename.proofs.check_move.Tie as tie
+
+check-name-requires : tie.Need-check-name-requires
+check-name-requires c κs = search needs
+
+enum-known-checked : tie.Need-enum-known-checked
+enum-known-checked c = search needs
+
+returns : tie.Need-returns
+unfolding checkMove
+returns c = rw (← c .before .before .before .check-name .ensures, c .before .checked .given .1)
+
+enum-told : tie.Need-enum-told
+enum-told c = search needs
+
+check-name-requires-2 : tie.Need-check-name-requires-2
+check-name-requires-2 c κs = search needs
+
+enum-known-target : tie.Need-enum-known-target
+enum-known-target c = search needs
+
+returns-2 : tie.Need-returns-2
+unfolding checkMove
+returns-2 c = rw (← c .before .before .before .before .before .before .check-name .ensures, c .before .before .before .before .enum-told .given .1, ← c .before .before .before .check-name2 .ensures, c .before .target .given .1)
+
+enum-told-2 : tie.Need-enum-told-2
+enum-told-2 c = search needs
+
+is-dots-requires : tie.Need-is-dots-requires
+is-dots-requires c κs = search needs
+
+is-dots-requires-2 : tie.Need-is-dots-requires-2
+is-dots-requires-2 c κs = search needs
+
+returns-3 : tie.Need-returns-3
+unfolding checkMove
+returns-3 c = rw (← c .before .before .before .before .before .before .before .check-name .ensures, c .before .before .before .before .before .enum-told .given .1, ← c .before .before .before .before .check-name2 .ensures, c .before .before .enum-told2 .given .1, ← c .before .is-dots .ensures, c .if1 .taken)
+
+returns-4 : tie.Need-returns-4
+unfolding checkMove
+returns-4 c = rw (← c .before .before .before .before .before .before .before .before .before .check-name .ensures, c .before .before .before .before .before .before .before .enum-told .given .1, ← c .before .before .before .before .before .before .check-name2 .ensures, c .before .before .before .before .enum-told2 .given .1, ← c .before .before .before .is-dots .ensures, c .before .before .if1 .left, ← c .before .is-dots2 .ensures, c .if2 .taken)
+
+find-name-requires : tie.Need-find-name-requires
+find-name-requires c κs =
+    let pre = c .before .before .before .before .before .before .before .before .before .before .before .before .pre in (good-shaped _ (pre .0), (good-names-sound _ (pre .0), pre .1 .0))
+
+enum-known-n : tie.Need-enum-known-n
+enum-known-n c = search needs
+
+enum-told-3 : tie.Need-enum-told-3
+enum-told-3 c = search needs
+
+returns-5 : tie.Need-returns-5
+unfolding checkMove
+returns-5 c = rw (← c .before .before .before .before .before .before .before .before .before .before .before .before .check-name .ensures, c .before .before .before .before .before .before .before .before .before .before .enum-told .given .1, ← c .before .before .before .before .before .before .before .before .before .check-name2 .ensures, c .before .before .before .before .before .before .before .enum-told2 .given .1, ← c .before .before .before .before .before .before .is-dots .ensures, c .before .before .before .before .before .if1 .left, ← c .before .before .before .before .is-dots2 .ensures, c .before .before .before .if2 .left, ← c .before .before .find-name .ensures, c .enum-told3 .given .1)
+
+find-name-requires-2 : tie.Need-find-name-requires-2
+find-name-requires-2 c κs =
+    let pre = c .before .before .before .before .before .before .before .before .before .before .before .before .before .before .before .before .pre in (good-shaped _ (pre .0), (good-names-sound _ (pre .0), pre .1 .1))
+
+enum-known-other : tie.Need-enum-known-other
+enum-known-other c = search needs
+
+returns-6 : tie.Need-returns-6
+unfolding checkMove
+returns-6 c = rw (← c .before .before .before .before .before .before .before .before .before .before .before .before .before .before .before .before .before .check-name .ensures, c .before .before .before .before .before .before .before .before .before .before .before .before .before .before .before .enum-told .given .1, ← c .before .before .before .before .before .before .before .before .before .before .before .before .before .before .check-name2 .ensures, c .before .before .before .before .before .before .before .before .before .before .before .before .enum-told2 .given .1, ← c .before .before .before .before .before .before .before .before .before .before .before .is-dots .ensures, c .before .before .before .before .before .before .before .before .before .before .if1 .left, ← c .before .before .before .before .before .before .before .before .before .is-dots2 .ensures, c .before .before .before .before .before .before .before .before .if2 .left, ← c .before .before .before .before .before .before .before .find-name .ensures, c .before .before .before .before .before .n .given .1, ← c .before .before .before .find-name2 .ensures, c .before .other .given .1)
+
+enum-told-4 : tie.Need-enum-told-4
+enum-told-4 c = search needs
+
+name-child-requires : tie.Need-name-child-requires
+name-child-requires c κs =
+    let st = c .before .before .before .before .before .before .before .before .before .before .before .before .before .before .before .before .before .before .before in
+    let a = st .args in
+    let k = name-found (a .store .now) (st .pre .0) (a .d .0) (cut (a .call .now) (a .from)) _ _ (c .before .before .before .before .n .given .1) (c .before .before .before .before .before .before .find-name .ensures) in
+    omega arith
+
+is-within-requires : tie.Need-is-within-requires
+is-within-requires c κs =
+    let st = c .before .before .before .before .before .before .before .before .before .before .before .before .before .before .before .before .before .before .before .before in
+    let a = st .args in
+    let k = name-found (a .store .now) (st .pre .0) (a .d .0) (cut (a .call .now) (a .from)) _ _ (c .before .before .before .before .before .n .given .1) (c .before .before .before .before .before .before .before .find-name .ensures) in
+    (st .pre .0, omega (arith, c .name-child .ensures))
+
+returns-7 : tie.Need-returns-7
+unfolding checkMove
+returns-7 c = rw (← c .before .before .before .before .before .before .before .before .before .before .before .before .before .before .before .before .before .before .before .check-name .ensures, c .before .before .before .before .before .before .before .before .before .before .before .before .before .before .before .before .before .enum-told .given .1, ← c .before .before .before .before .before .before .before .before .before .before .before .before .before .before .before .before .check-name2 .ensures, c .before .before .before .before .before .before .before .before .before .before .before .before .before .before .enum-told2 .given .1, ← c .before .before .before .before .before .before .before .before .before .before .before .before .before .is-dots .ensures, c .before .before .before .before .before .before .before .before .before .before .before .before .if1 .left, ← c .before .before .before .before .before .before .before .before .before .before .before .is-dots2 .ensures, c .before .before .before .before .before .before .before .before .before .before .if2 .left, ← c .before .before .before .before .before .before .before .before .before .find-name .ensures, c .before .before .before .before .before .before .before .n .given .1, ← c .before .before .before .before .before .find-name2 .ensures, c .before .before .before .enum-told4 .given .1, ← c .before .before .name-child .ensures, ← c .before .is-within .ensures, c .if3 .taken)
+
+returns-8 : tie.Need-returns-8
+unfolding checkMove
+returns-8 c = rw (← c .before .before .before .before .before .before .before .before .before .before .before .before .before .before .before .before .before .before .before .check-name .ensures, c .before .before .before .before .before .before .before .before .before .before .before .before .before .before .before .before .before .enum-told .given .1, ← c .before .before .before .before .before .before .before .before .before .before .before .before .before .before .before .before .check-name2 .ensures, c .before .before .before .before .before .before .before .before .before .before .before .before .before .before .enum-told2 .given .1, ← c .before .before .before .before .before .before .before .before .before .before .before .before .before .is-dots .ensures, c .before .before .before .before .before .before .before .before .before .before .before .before .if1 .left, ← c .before .before .before .before .before .before .before .before .before .before .before .is-dots2 .ensures, c .before .before .before .before .before .before .before .before .before .before .if2 .left, ← c .before .before .before .before .before .before .before .before .before .find-name .ensures, c .before .before .before .before .before .before .before .n .given .1, ← c .before .before .before .before .before .find-name2 .ensures, c .before .before .before .enum-told4 .given .1, ← c .before .before .name-child .ensures, ← c .before .is-within .ensures, c .if3 .left)
+
+pub check-move-spec : {M : Type 1} → statement M
+check-move-spec =
+    tie.close
+    (tie.spec
+    check-name-requires
+    enum-known-checked
+    returns
+    enum-told
+    check-name-requires-2
+    enum-known-target
+    returns-2
+    enum-told-2
+    is-dots-requires
+    returns-3
+    is-dots-requires-2
+    returns-4
+    find-name-requires
+    enum-known-n
+    enum-told-3
+    returns-5
+    find-name-requires-2
+    enum-known-other
+    returns-6
+    enum-told-4
+    name-child-requires
+    is-within-requires
+    returns-7
+    returns-8)

@@ -1,0 +1,95 @@
+// What RENAME checks, in the order that decides the status.
+ghost use mathlib.Core.Path.{_≡_};
+ghost use Prim.Native.Nat.{_+_, _≤_};
+ghost use lib.ListN.{length};
+ghost use Rattle.spec.specs.Procedures.{cut};
+ghost use Rattle.spec.specs.Procedures.Removal.{checkRename};
+ghost use Rattle.laws.proofs.GoodRecords.{GoodRecords};
+ghost use Rattle.check_rename.specs.Checks.{checkMove};
+ghost use Rattle.check_rename.specs.Meaning.{renamableOf};
+use check_handles::handle::Reached;
+use check_handles::handle::reach_directory;
+use check_handles::text::TextChecked;
+use check_handles::text::check_name;
+use check_handles::text::is_dots;
+use store_search::found::FoundName;
+use store_search::name::find_name;
+use store_records::name::name_child;
+use kinds::call::NameIn;
+use kinds::call::Part;
+use kinds::numbers::NameNumber;
+use kinds::numbers::ObjectNumber;
+use kinds::numbers::Status;
+use check_tree::is_within;
+
+// Both directories and the name record of what may be renamed, or the status.
+pub enum Renamable {
+    At(ObjectNumber, ObjectNumber, NameNumber),
+    Refused(Status),
+}
+
+// RENAME, in both directories: a name "." or "..", INVAL; no such name, NOENT; the target there, EXIST; a directory into itself or below, INVAL.
+fn check_move(
+    store: &[u8],
+    call: &[u8],
+    d: ObjectNumber,
+    e: ObjectNumber,
+    from: Part,
+    to: Part,
+) -> Renamable
+    requires { ⌜ GoodRecords (now store) ⌝ }
+    requires { ⌜ from .start + from .length ≤ length (now call) ⌝ }
+    requires { ⌜ to .start + to .length ≤ length (now call) ⌝ }
+    ensures { λ r. ⌜ renamableOf r ≡ checkMove (now (store .entry)) (d .0) (e .0) (cut (now (call .entry)) from) (cut (now (call .entry)) to) ⌝ }
+{
+    let checked = check_name(call, from);
+    if let TextChecked::Refused(status) = checked {
+        return Renamable::Refused(status);
+    }
+    let target = check_name(call, to);
+    if let TextChecked::Refused(status) = target {
+        return Renamable::Refused(status);
+    }
+    if is_dots(call, from) {
+        return Renamable::Refused(Status::INVAL);
+    }
+    if is_dots(call, to) {
+        return Renamable::Refused(Status::INVAL);
+    }
+    let FoundName::At(n) = find_name(store, d, call, from) else {
+        return Renamable::Refused(Status::NOENT);
+    };
+    if let FoundName::At(other) = find_name(store, e, call, to) {
+        return Renamable::Refused(Status::EXIST);
+    }
+    if is_within(store, name_child(store, n), e) {
+        return Renamable::Refused(Status::INVAL);
+    }
+    Renamable::At(d, e, n)
+}
+
+// RENAME: both directories, from first, then both names.
+pub fn check_rename(store: &[u8], call: &[u8], p: NameIn, q: NameIn) -> Renamable
+    requires { ⌜ GoodRecords (now store) ⌝ }
+    requires { ⌜ p .directory .start + p .directory .length ≤ length (now call) ⌝ }
+    requires { ⌜ p .name .start + p .name .length ≤ length (now call) ⌝ }
+    requires { ⌜ q .directory .start + q .directory .length ≤ length (now call) ⌝ }
+    requires { ⌜ q .name .start + q .name .length ≤ length (now call) ⌝ }
+    ensures { λ r. ⌜ renamableOf r ≡ checkRename (now (store .entry)) (cut (now (call .entry)) (p .directory)) (cut (now (call .entry)) (p .name)) (cut (now (call .entry)) (q .directory)) (cut (now (call .entry)) (q .name)) ⌝ }
+{
+    let source = p.directory;
+    let reached = reach_directory(store, call, source);
+    let d = match reached {
+        Reached::At(d) => d,
+        Reached::Refused(status) => return Renamable::Refused(status),
+    };
+    let target = q.directory;
+    let answer = reach_directory(store, call, target);
+    let e = match answer {
+        Reached::At(e) => e,
+        Reached::Refused(status) => return Renamable::Refused(status),
+    };
+    let from = p.name;
+    let to = q.name;
+    check_move(store, call, d, e, from, to)
+}

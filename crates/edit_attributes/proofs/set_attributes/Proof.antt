@@ -1,0 +1,111 @@
+use mathlib.Core.Path.{refl, ap, _∙_}
+use Prim.Native.Nat.{_+_, _≤_}
+use native.Mathlib.Omega.{arith}
+use lib.ListN.{length}
+use Rattle.spec.specs.Edits.{withAttributes, setAttributes}
+use Rattle.spec.specs.Image.{objectAt, timesBytes}
+use Rattle.laws.proofs.Bytes.{overlay-length}
+use Rattle.edit_attributes.proofs.Kept.{owner-size, attributes-written}
+use borrow.Author.Needs.{needs}
+use Rattle.edit_attributes.proofs.set_attributes.Statement.{statement}
+use Rattle.edit_attributes.proofs.set_attributes.Tie as tie
+
+mode-of-requires : tie.Need-mode-of-requires
+mode-of-requires c κs = search needs
+
+number-set-requires : tie.Need-number-set-requires
+number-set-requires c κs = search needs
+
+uid-of-requires : tie.Need-uid-of-requires
+uid-of-requires c κs = search needs
+
+number-set-requires-2 : tie.Need-number-set-requires-2
+number-set-requires-2 c κs = search needs
+
+gid-of-requires : tie.Need-gid-of-requires
+gid-of-requires c κs = search needs
+
+number-set-requires-3 : tie.Need-number-set-requires-3
+number-set-requires-3 c κs = search needs
+
+atime-of-requires : tie.Need-atime-of-requires
+atime-of-requires c κs = search needs
+
+time-set-requires : tie.Need-time-set-requires
+time-set-requires c κs = search needs
+
+mtime-of-requires : tie.Need-mtime-of-requires
+mtime-of-requires c κs = search needs
+
+time-set-requires-2 : tie.Need-time-set-requires-2
+time-set-requires-2 c κs = search needs
+
+object-start-requires : tie.Need-object-start-requires
+object-start-requires c κs = search needs
+
+add-save-owner : tie.Need-add-save-owner
+add-save-owner c = let st = c .before .before .before .before .before .before .before .before .before .before .before .before .before .before .before .before .before .before .before in omega (arith, c .before .object-start .ensures, st .pre, st)
+
+save-owner-requires : tie.Need-save-owner-requires
+save-owner-requires c κs = search needs
+
+add-save-times : tie.Need-add-save-times
+add-save-times c = let st = c .before .before .before .before .before .before .before .before .before .before .before .before .before .before .before .before .before .before .before .before .before .before .before in omega (arith, c .before .before .before .before .before .object-start .ensures, st .pre, st)
+
+save-times-requires : tie.Need-save-times-requires
+save-times-requires c κs =
+    let st = c .before .before .before .before .before .before .before .before .before .before .before .before .before .before .before .before .before .before .before .before .before .before .before in
+    let s = st .args .store .now in
+    let at = c .before .before .before .before .before .object-start .result in
+    let inside : at + 8 + 12 ≤ length s = omega (arith, c .before .before .before .before .before .object-start .ensures, st .pre) in
+    let same = ap length (c .before .before .before .save-owner .ensures) ∙ overlay-length s (at + 8) _ (rw owner-size inside) in
+    omega (arith, c .before .before .before .before .before .object-start .ensures, st .pre, same)
+
+same-length : tie.Need-same-length
+same-length c = search needs
+
+returns : tie.Need-returns
+unfolding setAttributes withAttributes timesBytes
+returns c =
+    let st = c .before .before .before .before .before .before .before .before .before .before .before .before .before .before .before .before .before .before .before .before .before .before .before .before .before .before in
+    let a = st .args in
+    let s = a .store .now in
+    let w = withAttributes (a .clock) (a .a) (objectAt s (a .o .0)) in
+    rw (
+      c .before .before .save-times .ensures,
+      c .before .before .before .before .before .before .save-owner .ensures,
+      c .before .before .before .before .before .before .before .before .object-start .ensures,
+      c .before .before .before .before .before .before .before .before .before .before .time-set2 .ensures,
+      c .before .before .before .before .before .before .before .before .before .before .before .mtime-of .ensures,
+      c .before .before .before .before .before .before .before .before .before .before .before .before .before .time-set .ensures,
+      c .before .before .before .before .before .before .before .before .before .before .before .before .before .before .atime-of .ensures,
+      c .before .before .before .before .before .before .before .before .before .before .before .before .before .before .before .before .number-set3 .ensures,
+      c .before .before .before .before .before .before .before .before .before .before .before .before .before .before .before .before .before .gid-of .ensures,
+      c .before .before .before .before .before .before .before .before .before .before .before .before .before .before .before .before .before .before .before .number-set2 .ensures,
+      c .before .before .before .before .before .before .before .before .before .before .before .before .before .before .before .before .before .before .before .before .uid-of .ensures,
+      c .before .before .before .before .before .before .before .before .before .before .before .before .before .before .before .before .before .before .before .before .before .before .number-set .ensures,
+      c .before .before .before .before .before .before .before .before .before .before .before .before .before .before .before .before .before .before .before .before .before .before .before .mode-of .ensures,
+    )
+    (attributes-written s (a .o .0) w (λ k. c .before .before .before .before .before .before .before .before .before .before .before .before .before .before .before .before .before .before .before .before .before .before .before .before .before .slice-known .given k .fits) (st .pre) refl refl refl refl)
+
+pub set-attributes-spec : {M : Type 1} → statement M
+set-attributes-spec =
+    tie.close
+    (tie.spec
+    mode-of-requires
+    number-set-requires
+    uid-of-requires
+    number-set-requires-2
+    gid-of-requires
+    number-set-requires-3
+    atime-of-requires
+    time-set-requires
+    mtime-of-requires
+    time-set-requires-2
+    object-start-requires
+    add-save-owner
+    save-owner-requires
+    add-save-times
+    save-times-requires
+    same-length
+    returns)

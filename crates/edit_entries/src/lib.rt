@@ -1,0 +1,65 @@
+// What REMOVE, RMDIR and RENAME do to the store: an entry of a directory is removed or moved, and times are set.
+ghost use mathlib.Core.Path.{_≡_};
+ghost use Prim.Native.Nat.{_+_, _≤_};
+ghost use lib.ListN.{length};
+ghost use Rattle.kinds.specs.Layout.{objectLength};
+ghost use Rattle.spec.specs.Edits.{setAttributes, mtimeAndCtime, removeObject};
+ghost use Rattle.spec.specs.Image.{objectStart};
+ghost use Rattle.spec.specs.Procedures.{cut};
+ghost use Rattle.spec.specs.Procedures.Names.{touchDirectory};
+ghost use Rattle.spec.specs.Procedures.Removal.{renameEdit};
+ghost use Rattle.laws.proofs.GoodRecords.{GoodRecords};
+ghost use Rattle.edit_entries.specs.Records.{RemovableAt, MovableAt};
+use store_records::name::name_child;
+use kinds::call::Part;
+use kinds::numbers::NameNumber;
+use kinds::numbers::ObjectNumber;
+use kinds::object::Context;
+use kinds::object::Time;
+use edit_attributes::only_ctime;
+use edit_attributes::set_attributes;
+use edit_attributes::touch;
+use edit_names::move_name;
+use edit_names::remove_object;
+
+// Sets a directory's mtime and ctime.
+fn touch_directory(store: &mut [u8], clock: Time, d: ObjectNumber)
+    requires { ⌜ objectStart (d .0) + objectLength ≤ length (now store) ⌝ }
+    ensures { λ _. ⌜ now (store .exit) ≡ setAttributes (now (store .entry)) clock (d .0) mtimeAndCtime ⌝ }
+{
+    touch(store, clock, d);
+}
+
+// An object and its name are removed, and the directory's times are set.
+pub fn remove_edit(store: &mut [u8], context: Context, d: ObjectNumber, n: NameNumber)
+    requires { ⌜ GoodRecords (now store) ⌝ }
+    requires { ⌜ RemovableAt (now store) (d .0) (n .0) ⌝ }
+    ensures { λ _. ⌜ now (store .exit) ≡ touchDirectory (removeObject (now (store .entry)) (n .0)) context (d .0) ⌝ }
+{
+    let clock = context.clock;
+    remove_object(store, n);
+    touch_directory(store, clock, d);
+}
+
+// The name record is rewritten in place; the object's ctime and both directories' times are set.
+pub fn rename_edit(
+    store: &mut [u8],
+    context: Context,
+    source: ObjectNumber,
+    target: ObjectNumber,
+    n: NameNumber,
+    call: &[u8],
+    name: Part,
+)
+    requires { ⌜ GoodRecords (now store) ⌝ }
+    requires { ⌜ MovableAt (now store) (source .0) (target .0) (n .0) (name .length) ⌝ }
+    requires { ⌜ name .start + name .length ≤ length (now call) ⌝ }
+    ensures { λ _. ⌜ now (store .exit) ≡ renameEdit (now (store .entry)) context (source .0) (target .0) (n .0) (cut (now (call .entry)) name) ⌝ }
+{
+    let clock = context.clock;
+    let child = name_child(store, n);
+    move_name(store, n, target, call, name);
+    set_attributes(store, clock, child, only_ctime());
+    touch_directory(store, clock, source);
+    touch_directory(store, clock, target);
+}

@@ -1,0 +1,84 @@
+use mathlib.Core.Path.{sym, ap, _∙_}
+use native.Mathlib.Omega.{arith}
+use borrow.Author.Needs.{needs}
+use Rattle.fsck.proofs.Steps.{blank-of}
+use Rattle.rpc.specs.Meaning.{headerOf}
+use Rattle.entry_tests.proofs.Tests.{fails, passed-check, small-space, bad-clock, long-call, bad-store, bad-header, hears}
+use Rattle.entry_tests.proofs.open.Statement.{statement}
+use Rattle.entry_tests.proofs.open.Tie as tie
+
+returns : tie.Need-returns
+returns c =
+    let a = c .before .before .before .before .before .args in
+    small-space (a .call .now) (a .store .now) (a .reply .now) (a .context) (c .if1 .taken)
+
+returns-2 : tie.Need-returns-2
+returns-2 c =
+    let a = c .before .before .before .before .before .before .before .args in
+    bad-clock (a .call .now) (a .store .now) (a .reply .now) (a .context) (c .before .before .if1 .left) (c .if2 .taken)
+
+returns-3 : tie.Need-returns-3
+returns-3 c =
+    let a = c .before .before .before .before .before .before .before .before .args in
+    long-call (a .call .now) (a .store .now) (a .reply .now) (a .context) (c .before .before .before .if1 .left) (c .before .if2 .left) (c .if3 .taken)
+
+check-store-requires : tie.Need-check-store-requires
+check-store-requires c κs = (c .before .before .before .before .before .before .before .before .before .before .pre, blank-of 64)
+
+enum-told : tie.Need-enum-told
+enum-told c = search needs
+
+enum-told-2 : tie.Need-enum-told-2
+enum-told-2 c = search needs
+
+returns-4 : tie.Need-returns-4
+returns-4 c =
+    let a = c .before .before .before .before .before .before .before .before .before .before .before .before .before .args in
+    let s = a .store .now in
+    bad-store (a .call .now) s (a .reply .now) (a .context) (c .before .before .before .before .before .before .before .before .if1 .left) (c .before .before .before .before .before .before .if2 .left) (c .before .before .before .before .before .if3 .left)
+    (fails s (sym (c .enum-told2 .given .1) ∙ c .before .before .check-store .ensures .is))
+
+read-call-requires : tie.Need-read-call-requires
+read-call-requires c κs = search needs
+
+enum-known-read : tie.Need-enum-known-read
+enum-known-read c = search needs
+
+enum-told-3 : tie.Need-enum-told-3
+enum-told-3 c = search needs
+
+returns-5 : tie.Need-returns-5
+returns-5 c =
+    let a = c .before .before .before .before .before .before .before .before .before .before .before .before .before .before .before .before .args in
+    let s = a .store .now in
+    let e = passed-check s _ (sym (c .before .before .before .enum-told .given .1) ∙ c .before .before .before .before .before .check-store .ensures .is) in
+    bad-header (a .call .now) s (a .reply .now) (a .context) (c .before .before .before .before .before .before .before .before .before .before .before .if1 .left) (c .before .before .before .before .before .before .before .before .before .if2 .left) (c .before .before .before .before .before .before .before .before .if3 .left) e
+    _ (sym (c .before .before .read-call .ensures .0) ∙ ap headerOf (c .enum-told3 .given .1))
+
+returns-6 : tie.Need-returns-6
+returns-6 c =
+    let a = c .before .before .before .before .before .before .before .before .before .before .before .before .before .before .before .before .before .args in
+    let s = a .store .now in
+    let f = c .before .before .before .before .before .before .check-store .ensures in
+    let e = passed-check s _ (sym (c .before .before .before .before .enum-told .given .1) ∙ f .is) in
+    let f₁ = c .before .before .before .read-call .ensures in
+    hears (a .call .now) s (a .reply .now) (a .context) (c .before .before .before .before .before .before .before .before .before .before .before .before .if1 .left) (c .before .before .before .before .before .before .before .before .before .before .if2 .left) (c .before .before .before .before .before .before .before .before .before .if3 .left) e
+    _ _ _ _ (sym (f₁ .0) ∙ ap headerOf (c .before .read .given .1)) (f₁ .1) (f .map e) (λ i. c .before .before .before .before .before .before .before .before .before .before .before .before .before .before .before .shared-slice-known2 .given i .fits)
+    (record { seconds = let g = c .before .before .before .before .before .before .before .before .before .before .before .struct-known .given .0 in omega arith; nanoseconds = c .before .before .before .before .before .before .before .before .before .before .if2 .left })
+
+pub open-spec : {M : Type 1} → statement M
+open-spec =
+    tie.close
+    (tie.spec
+    returns
+    returns-2
+    returns-3
+    check-store-requires
+    enum-told
+    enum-told-2
+    returns-4
+    read-call-requires
+    enum-known-read
+    enum-told-3
+    returns-5
+    returns-6)

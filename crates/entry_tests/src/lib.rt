@@ -1,0 +1,55 @@
+// The tests of a call before anything is written.
+ghost use Rattle.fsck_objects.specs.Objects.{Blank};
+ghost use Rattle.entry_tests.specs.Opens.{Opens};
+use call_arguments::reading::ArgumentsRead;
+use call_whole::read_call;
+use fsck::check::check_store;
+use fsck::shape::Found;
+use kinds::call::Cursor;
+use kinds::call::Header;
+use kinds::numbers::Answer;
+use kinds::numbers::Limit;
+use kinds::object::Context;
+use rpc::header::HeaderRead;
+
+// What the tests find of a call: the number of the answer that refuses it, or its header, where that ends, and its arguments.
+pub enum Opened {
+    Refused(u32),
+    Heard(Header, Cursor, ArgumentsRead),
+}
+
+// Tests the reply space, the clock, the call's length, the store and the header, in this order. `used` is a map of
+// zeros; of a store that passes it gets the map of its used blocks.
+pub fn open(
+    call: &[u8],
+    store: &[u8],
+    reply: &[u8],
+    context: Context,
+    used: &mut [u8; 1024],
+) -> Opened
+    requires { ⌜ Blank 1024 (now used) ⌝ }
+    ensures { λ r. ⌜ Opens (now (call .entry)) (now (store .entry)) (now (reply .entry)) context (now (used .exit)) r ⌝ }
+{
+    let clock = context.clock;
+    if reply.len() < Limit::LEAST_REPLY_BYTES {
+        return Opened::Refused(Answer::REPLY_SPACE);
+    }
+    if clock.nanoseconds >= Limit::NANOSECONDS_END {
+        return Opened::Refused(Answer::CLOCK);
+    }
+    if call.len() > Limit::MOST_CALL_BYTES {
+        return Opened::Refused(Answer::CALL);
+    }
+    let mut parents = [0u8; 64];
+    let found = check_store(store, used, &mut parents);
+    let Found::Good(_) = found else {
+        return Opened::Refused(Answer::STORE);
+    };
+    let whole = read_call(call, 0);
+    let read = whole.header;
+    let arguments = whole.arguments;
+    let HeaderRead::Got(h, at) = read else {
+        return Opened::Refused(Answer::HEADER);
+    };
+    Opened::Heard(h, at, arguments)
+}

@@ -1,0 +1,218 @@
+-- The edits of SETATTR, WRITE, CREATE, MKDIR, REMOVE, RMDIR and RENAME, as the contents of files show them. Assumes nothing.
+use mathlib.Core.Path.{_≡_, refl, ap, _∙_}
+use mathlib.Core.Logic.{_≢_, _⊎_, ⊎-elim}
+use mathlib.Core.Bool.{true}
+use mathlib.Core.List.{List, []}
+use Prim.Native.Nat.{ℕ, _^_, _<_, min}
+use native.Mathlib.Omega.{arith}
+use lib.Dec.{lit<}
+use lib.ListN.{length, take, length-take}
+use Rattle.kinds.specs.Numbers.{REGULAR, DIRECTORY, mostTransferBytes}
+use Rattle.kinds.specs.declared.object.Object.{Object}
+use Rattle.kinds.specs.declared.object.Context.{Context}
+use Rattle.kinds.specs.declared.call.SetSize.{SetSize}
+use Rattle.kinds.specs.declared.call.SetSize.the-variants as SetSize
+use Rattle.kinds.specs.declared.call.Settable.{Settable}
+use Rattle.kinds.specs.declared.call.Guard.{Guard}
+use Rattle.spec.specs.Edits.{withAttributes, setAttributes, onlyCtime, mtimeAndCtime, resize, withGeneration, createObject, removeObject, moveName}
+use Rattle.spec.specs.Image.{Store, objects, names, blocks, objectAt, nameAt}
+use Rattle.spec.specs.Procedures.Attributes.{isGiven, sizeSet, sizeTouches, resizeTo, setattrEdit}
+use Rattle.spec.specs.Procedures.Data.{writeStore}
+use Rattle.spec.specs.Procedures.Names.{newObject, touchDirectory, newEdit, existingEdit}
+use Rattle.spec.specs.Procedures.Removal.{renameEdit}
+use Rattle.spec.specs.Room.{sizeOf, freeBlockCount}
+use Rattle.laws.proofs.ActGood.{regular-of}
+use Rattle.laws.proofs.BlockLists.{held-range}
+use Rattle.laws.proofs.CreateObject.{create-object, create-object-uses}
+use Rattle.laws.proofs.GoodRecords.{GoodRecords, GoodClock, StillGood, clock-fits, live-at, free-size, used-at, create-object-still}
+use Rattle.laws.proofs.Kept.{Sound}
+use Rattle.laws.proofs.MoveName.{move-name}
+use Rattle.laws.proofs.Passed.{SetattrPassed, WritePassed, NewRoom, RenamePassed, found-record}
+use Rattle.laws.proofs.Range.{Below, below-take}
+use Rattle.laws.proofs.RemoveObject.{remove-object}
+use Rattle.laws.proofs.SameReads.{freeBlockCount-reads}
+use Rattle.laws.proofs.SetAttributes.{FitsSettable, Allowed, set-attributes, only-ctime-fits, mtime-and-ctime-fits, size-touches-fits, new-fits, new-live}
+use Rattle.laws.proofs.Valid.{GoodName, Used}
+use Rattle.laws_contents.specs.Contents.{contents}
+use Rattle.laws_contents.specs.Written.{written, sizedTo}
+use Rattle.laws_contents.proofs.RecordEdits.{set-attributes-contents, move-name-contents, create-object-others, create-object-none}
+use Rattle.laws_contents.proofs.RemoveObject.{remove-object-others}
+use Rattle.laws_contents.proofs.SizeSet.{MaySize, resize-to-still, resize-to-contents, resize-to-others}
+use Rattle.laws_contents.proofs.WriteEdit.{write-store-written, write-store-others}
+
+module _ (s : Store) (g : GoodRecords s) (c : Context) (k : GoodClock (c .clock)) where
+  -- ---- SETATTR
+  setattr-size : (h : List ℕ) (a : Settable) (w : Guard) (o : ℕ) → SetattrPassed s h a w o → MaySize s o (a .size)
+  setattr-size h a w o q =
+      let l = q .reached .below in
+      record {
+        below = l;
+        regular = λ given. regular-of (blocks s) (objectAt s o) (live-at s g o l (q .reached .live)) (q .not-directory given);
+        small = q .allowed .size;
+        room = q .room;
+      }
+
+  -- attributes are in no file's contents
+  attributes-set : (a : Settable) (o : ℕ) → FitsSettable a → MaySize s o (a .size) → (p : ℕ) → p < objects s
+      → contents (setattrEdit s c o a) p ≡ contents (resizeTo s o (a .size)) p
+  unfolding setattrEdit
+  attributes-set a o f m p l =
+      let r = resize-to-still s g o (a .size) m in
+      set-attributes-contents (resizeTo s o (a .size)) (c .clock) o (sizeTouches a) (r .good .sound) (rw (r .shape .objects) (m .below))
+      (clock-fits (c .clock) k) (size-touches-fits a f) p (rw (r .shape .objects) l)
+
+  -- SETATTR cuts or pads the contents where it sets a size
+  pub setattr-contents : (h : List ℕ) (a : Settable) (w : Guard) (o : ℕ) → FitsSettable a → SetattrPassed s h a w o
+      → contents (setattrEdit s c o a) o ≡ sizedTo (contents s o) (a .size)
+  setattr-contents h a w o f q =
+      let m = setattr-size h a w o q in
+      attributes-set a o f m o (m .below) ∙ resize-to-contents s g o (a .size) m
+
+  -- and keeps those of every other file
+  pub setattr-others : (h : List ℕ) (a : Settable) (w : Guard) (o : ℕ) → FitsSettable a → SetattrPassed s h a w o
+      → (p : ℕ) → p < objects s → p ≢ o → contents (setattrEdit s c o a) p ≡ contents s p
+  setattr-others h a w o f q p l d =
+      let m = setattr-size h a w o q in
+      attributes-set a o f m p l ∙ resize-to-others s g o (a .size) m p l d
+
+  -- ---- WRITE
+  module _ (h : List ℕ) (offset count : ℕ) (bytes : List ℕ) (o : ℕ) (w : Below 256 bytes) (q : WritePassed s h offset count bytes o) where
+    moved : length (take (min count mostTransferBytes) bytes) ≡ min count mostTransferBytes
+    moved = length-take (min count mostTransferBytes) bytes ∙ omega (arith, q .counted)
+
+    moved-below : Below 256 (take (min count mostTransferBytes) bytes)
+    moved-below = below-take 256 bytes (min count mostTransferBytes) (lit< tt) w
+
+    -- WRITE writes the bytes that it moves into the contents
+    pub write-passed-written : contents (writeStore s c o offset (take (min count mostTransferBytes) bytes)) o
+        ≡ written (contents s o) offset (take (min count mostTransferBytes) bytes)
+    write-passed-written =
+        write-store-written s g c (clock-fits (c .clock) k) o offset (take (min count mostTransferBytes) bytes) (q .reached .below) (q .regular) moved-below
+        (λ z. rw moved (q .fits (omega (arith, moved)))) (λ z. rw moved (q .room (omega (arith, moved))))
+
+    -- and keeps those of every other file
+    pub write-passed-others : (p : ℕ) → p < objects s → p ≢ o → contents (writeStore s c o offset (take (min count mostTransferBytes) bytes)) p ≡ contents s p
+    write-passed-others =
+        write-store-others s g c (clock-fits (c .clock) k) o offset (take (min count mostTransferBytes) bytes) (q .reached .below) (q .regular) moved-below
+        (λ z. rw moved (q .fits (omega (arith, moved)))) (λ z. rw moved (q .room (omega (arith, moved))))
+
+  -- ---- a directory's times
+  touched : (t : Store) → Sound t → (d p : ℕ) → d < objects t → p < objects t → contents (touchDirectory t c d) p ≡ contents t p
+  touched t h d p l m = set-attributes-contents t (c .clock) d mtimeAndCtime h l (clock-fits (c .clock) k) mtime-and-ctime-fits p m
+
+  -- ---- CREATE of a name that is there: its size alone
+  pub existing-contents : (o : ℕ) (x : SetSize) → MaySize s o x → contents (existingEdit s c o x) o ≡ sizedTo (contents s o) x
+  existing-contents o SetSize.Keep m = refl
+  existing-contents o (SetSize.To n) m =
+      let r = resize-to-still s g o (SetSize.To n) m in
+      let l : o < objects (resize s o n) = rw (r .shape .objects) (m .below) in
+      touched (resize s o n) (r .good .sound) o o l l ∙ resize-to-contents s g o (SetSize.To n) m
+
+  -- and keeps the contents of every other file
+  pub existing-others : (o : ℕ) (x : SetSize) → MaySize s o x → (p : ℕ) → p < objects s → p ≢ o → contents (existingEdit s c o x) p ≡ contents s p
+  existing-others o SetSize.Keep m p l d = refl
+  existing-others o (SetSize.To n) m p l d =
+      let r = resize-to-still s g o (SetSize.To n) m in
+      touched (resize s o n) (r .good .sound) o p (rw (r .shape .objects) (m .below)) (rw (r .shape .objects) l)
+      ∙ resize-to-others s g o (SetSize.To n) m p l d
+
+  -- ---- CREATE and MKDIR of a new name
+  module _ (kind o n d : ℕ) (text : List ℕ) (a : Settable) (either : (kind ≡ REGULAR) ⊎ (kind ≡ DIRECTORY)) (sized : isGiven (a .size) ≡ true → kind ≡ REGULAR)
+      (room : NewRoom s (sizeSet (a .size) 0) o n) (below : d < objects s) (dir : objectAt s d .kind ≡ DIRECTORY) (good : GoodName text) (w : Below 256 text)
+      (f : FitsSettable a) (allow : Allowed a) where
+    -- the store with the new object, and its size to be set
+    abbrev born : Store
+    born = createObject s o n (newObject (c .clock) kind a) d text
+
+    word : kind < 2 ^ 32
+    word = ⊎-elim (λ (e : kind ≡ 1). omega arith) (λ (e : kind ≡ 2). omega arith) either
+
+    directory-word : d < 2 ^ 32
+    directory-word = let z = g .sound .shaped in omega arith
+
+    born-still : StillGood s born
+    unfolding newObject withAttributes
+    born-still =
+        create-object-still s g o n (newObject (c .clock) kind a) d text (room .object-below) (room .object-free) (room .generation-low) (room .name-below)
+        (new-fits (c .clock) kind a (clock-fits (c .clock) k) word f) (new-live (blocks s) (c .clock) kind a (k .nanoseconds) allow either) refl
+        below dir good w
+
+    born-size : MaySize born o (a .size)
+    unfolding newObject withAttributes withGeneration sizeOf
+    born-size =
+        let x = newObject (c .clock) kind a in
+        let h = g .sound in
+        let l = room .object-below in
+        let fits = new-fits (c .clock) kind a (clock-fits (c .clock) k) word f in
+        let e = create-object s o n x d text h l (room .name-below) fits directory-word (good .short) w in
+        let free : freeBlockCount born ≡ freeBlockCount s = freeBlockCount-reads s born (e .shape .blocks)
+        (λ q _. create-object-uses s o n x d text h l (room .name-below) fits directory-word (good .short) w (free-size s g o l (room .object-free)) refl q) in
+        let size : objectAt born o .size ≡ 0 = ap (λ (y : Object). y .size) (e .object) in
+        record {
+          below = rw (e .shape .objects) l;
+          regular = λ given. ap (λ (y : Object). y .kind) (e .object) ∙ sized given;
+          small = allow .size;
+          room = rw (size, free) (omega (arith, room .room));
+        }
+
+    -- the times of the directory are set last
+    new-touched : (p : ℕ) → p < objects s → contents (newEdit s c kind o n d text a) p ≡ contents (resizeTo born o (a .size)) p
+    unfolding newEdit
+    new-touched p l =
+        let r = resize-to-still born (born-still .good) o (a .size) born-size in
+        let e = born-still .shape in
+        touched (resizeTo born o (a .size)) (r .good .sound) d p (rw (r .shape .objects, e .objects) below) (rw (r .shape .objects, e .objects) l)
+
+    -- a new file's contents are zeros up to its size
+    pub new-contents : contents (newEdit s c kind o n d text a) o ≡ sizedTo [] (a .size)
+    unfolding newObject withAttributes
+    new-contents =
+        new-touched o (room .object-below) ∙ resize-to-contents born (born-still .good) o (a .size) born-size
+        ∙ ap (λ (z : List ℕ). sizedTo z (a .size))
+        (create-object-none s o n (newObject (c .clock) kind a) d text (g .sound) (room .object-below) (room .name-below)
+        (new-fits (c .clock) kind a (clock-fits (c .clock) k) word f) directory-word (good .short) w refl)
+
+    -- every other file keeps its contents
+    pub new-others : (p : ℕ) → p < objects s → p ≢ o → contents (newEdit s c kind o n d text a) p ≡ contents s p
+    new-others p l q =
+        new-touched p l ∙ resize-to-others born (born-still .good) o (a .size) born-size p (rw (born-still .shape .objects) l) q
+        ∙ create-object-others s o n (newObject (c .clock) kind a) d text (g .sound) (room .object-below) (room .name-below)
+        (new-fits (c .clock) kind a (clock-fits (c .clock) k) word f) directory-word (good .short) w p l q
+
+  -- ---- REMOVE and RMDIR: every other file keeps its contents
+  pub removed-others : (d n : ℕ) → n < names s → Used s n → d < objects s → (p : ℕ) → p < objects s → p ≢ nameAt s n .child
+      → contents (touchDirectory (removeObject s n) c d) p ≡ contents s p
+  removed-others d n l u below p m q =
+      let o = nameAt s n .child in
+      let w = used-at s g n l u in
+      let v = live-at s g o (w .0) (w .1) in
+      let e = remove-object s n o refl (g .sound) l (w .0) (v .generation) (held-range s o v) in
+      touched (removeObject s n) (e .sound) d p (rw (e .shape .objects) below) (rw (e .shape .objects) m) ∙ remove-object-others s g n l u p m q
+
+  -- ---- RENAME: every file keeps its contents
+  pub renamed-contents : (h text j title : List ℕ) (d e n : ℕ) → Below 256 title → RenamePassed s h text j title d e n
+      → (p : ℕ) → p < objects s → contents (renameEdit s c d e n title) p ≡ contents s p
+  unfolding renameEdit
+  renamed-contents h text j title d e n w q p l =
+      let (i, u, x, y) = found-record s d text n (q .found) in
+      let clock = clock-fits (c .clock) k in
+      let z = g .sound .shaped in
+      let o = nameAt s n .child in
+      let below = q .reached .below in
+      let beyond = q .target-reached .below in
+      let word : e < 2 ^ 32 = omega arith in
+      let t₁ = moveName s n e title in
+      let m₁ = move-name s n e title (g .sound) i word (q .target-good .short) w in
+      let e₁ = m₁ .shape in
+      let b₁ : o < objects t₁ = rw (e₁ .objects) (used-at s g n i u .0) in
+      let t₂ = setAttributes t₁ (c .clock) o onlyCtime in
+      let m₂ = set-attributes t₁ (c .clock) o onlyCtime (m₁ .sound) b₁ clock only-ctime-fits in
+      let e₂ = m₂ .shape in
+      let b₂ : d < objects t₂ = rw (e₂ .objects, e₁ .objects) below in
+      let t₃ = touchDirectory t₂ c d in
+      let m₃ = set-attributes t₂ (c .clock) d mtimeAndCtime (m₂ .sound) b₂ clock mtime-and-ctime-fits in
+      let e₃ = m₃ .shape in
+      touched t₃ (m₃ .sound) e p (rw (e₃ .objects, e₂ .objects, e₁ .objects) beyond) (rw (e₃ .objects, e₂ .objects, e₁ .objects) l)
+      ∙ touched t₂ (m₂ .sound) d p b₂ (rw (e₂ .objects, e₁ .objects) l)
+      ∙ set-attributes-contents t₁ (c .clock) o onlyCtime (m₁ .sound) b₁ clock only-ctime-fits p (rw (e₁ .objects) l)
+      ∙ move-name-contents s n e title (g .sound) i word (q .target-good .short) w p l

@@ -1,0 +1,24 @@
+use Rattle.spec.specs.Image.{nameLength}
+use borrow.Author.Needs.{needs}
+use Rattle.store_records.proofs.name.name_length.Statement.{statement}
+use Rattle.store_records.proofs.name.name_length.Tie as tie
+
+name-start-requires : tie.Need-name-start-requires
+name-start-requires c κs = search needs
+
+add-get-u32 : tie.Need-add-get-u32
+add-get-u32 c = search needs
+
+get-u32-requires : tie.Need-get-u32-requires
+get-u32-requires c κs = search needs
+
+cast-result : tie.Need-cast-result
+cast-result c = search needs
+
+returns : tie.Need-returns
+unfolding nameLength
+returns c = rw (c .get-u32 .ensures, c .before .name-start .ensures)
+
+pub name-length-spec : {M : Type 1} → statement M
+name-length-spec =
+    tie.close (tie.spec name-start-requires add-get-u32 get-u32-requires cast-result returns)
