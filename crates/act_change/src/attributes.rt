@@ -12,9 +12,12 @@ ghost use Rattle.store_blocks.specs.Ready.{Ready};
 ghost use Rattle.results.specs.Does.{Does};
 ghost use Rattle.act_change.specs.Makable.{Sizable};
 use crate::setting::check_setattr;
-use edit_size::size::resize;
 use check_handles::failure::fail_changing;
 use check_handles::handle::Reached;
+use check_make::answers::reached_status;
+use check_settable::is_given;
+use edit_attributes::set_attributes;
+use edit_size::size::resize;
 use kinds::call::Guard;
 use kinds::call::Part;
 use kinds::call::SetSize;
@@ -23,11 +26,8 @@ use kinds::call::Settable;
 use kinds::numbers::ObjectNumber;
 use kinds::numbers::Status;
 use kinds::object::Context;
-use check_make::answers::reached_status;
-use edit_attributes::set_attributes;
 use results::ObjectChange;
 use results::Reply;
-use check_settable::is_given;
 use store_attributes::before;
 
 // A time that the server sets where none is given.

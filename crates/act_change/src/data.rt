@@ -6,13 +6,13 @@ ghost use Rattle.spec.specs.Procedures.Data.{write};
 ghost use Rattle.results.specs.Does.{Does};
 ghost use Rattle.store_blocks.specs.Ready.{Ready};
 use crate::setting::check_write;
+use act_write::write_checked;
 use check_handles::failure::fail_changing;
 use check_handles::handle::Reached;
+use check_make::answers::reached_status;
 use kinds::call::Part;
 use kinds::object::Context;
-use check_make::answers::reached_status;
 use results::Reply;
-use act_write::write_checked;
 
 // WRITE: the file as it was and as it is, the bytes written and the verifier, or the status of the check that failed.
 pub fn write(

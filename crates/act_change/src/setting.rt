@@ -14,8 +14,12 @@ ghost use Rattle.check_handles.specs.Meaning.{reachedOf};
 use check_handles::handle::Reached;
 use check_handles::handle::reach;
 use check_handles::handle::reach_regular;
-use store_records::object::is_directory;
-use store_records::object::load_object;
+use check_room::is_past_end;
+use check_room::lacks_room_for_bytes;
+use check_room::lacks_room_for_size;
+use check_settable::bad_attributes;
+use check_settable::differs;
+use check_settable::is_given;
 use kinds::call::Guard;
 use kinds::call::Part;
 use kinds::call::SetSize;
@@ -23,12 +27,8 @@ use kinds::call::Settable;
 use kinds::numbers::Limit;
 use kinds::numbers::ObjectNumber;
 use kinds::numbers::Status;
-use check_room::is_past_end;
-use check_room::lacks_room_for_bytes;
-use check_room::lacks_room_for_size;
-use check_settable::bad_attributes;
-use check_settable::differs;
-use check_settable::is_given;
+use store_records::object::is_directory;
+use store_records::object::load_object;
 
 // Whether a size is given for a directory.
 fn sizes_directory(store: &[u8], o: ObjectNumber, size: SetSize) -> bool

@@ -14,14 +14,14 @@ ghost use Rattle.act_list.specs.Run.{cost, openRun, namedEntries, length
 use check_handles::failure::fail_showing;
 use check_handles::handle::Reached;
 use check_handles::handle::reach_directory;
-use store_records::counts::name_count;
-use store_records::counts::names_start;
 use kinds::call::Part;
 use kinds::layout::NameRecord;
 use kinds::numbers::Limit;
 use kinds::numbers::ObjectNumber;
 use kinds::numbers::Status;
 use results::Reply;
+use store_records::counts::name_count;
+use store_records::counts::names_start;
 
 // A run of entries: the room that is left, how many there are, and whether the next one did not fit.
 pub struct Run {

@@ -9,9 +9,6 @@ use act_change::attributes::setattr;
 use act_change::data::write;
 use act_change::names::create;
 use act_change::names::mkdir;
-use kinds::call::Arguments;
-use kinds::numbers::Status;
-use kinds::object::Context;
 use act_list::readdir;
 use act_read::data::commit;
 use act_read::data::read;
@@ -24,6 +21,9 @@ use act_read::volume::pathconf;
 use act_remove::act::remove;
 use act_remove::act::rename;
 use act_remove::act::rmdir;
+use kinds::call::Arguments;
+use kinds::numbers::Status;
+use kinds::object::Context;
 use results::Reply;
 
 // Runs a call, by what was read of its arguments.

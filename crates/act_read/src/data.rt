@@ -13,12 +13,12 @@ use check_handles::failure::fail_showing;
 use check_handles::failure::unchanged;
 use check_handles::handle::Reached;
 use check_handles::handle::reach_regular;
-use store_records::object::size_of;
 use kinds::call::Part;
 use kinds::numbers::Limit;
 use kinds::numbers::ObjectNumber;
 use kinds::object::Context;
 use results::Reply;
+use store_records::object::size_of;
 
 // How many bytes a read gives: those that are asked for, up to the most that one READ moves and to the end of the file.
 fn read_length(store: &[u8], o: ObjectNumber, offset: u64, count: u32) -> usize

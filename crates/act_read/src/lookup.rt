@@ -16,15 +16,15 @@ use check_handles::text::TextChecked;
 use check_handles::text::check_name;
 use check_handles::text::is_dot;
 use check_handles::text::is_dot_dot;
-use store_search::found::FoundName;
-use store_search::name::find_name;
-use store_search::name::parent_of;
-use store_records::name::name_child;
 use kinds::call::NameIn;
 use kinds::call::Part;
 use kinds::numbers::ObjectNumber;
 use kinds::numbers::Status;
 use results::Reply;
+use store_records::name::name_child;
+use store_search::found::FoundName;
+use store_search::name::find_name;
+use store_search::name::parent_of;
 
 // The directory and the object that was found in it.
 pub enum Looked {

@@ -11,11 +11,11 @@ ghost use Rattle.results.specs.Writable.{Writable};
 use check_handles::failure::fail_showing;
 use check_handles::handle::Reached;
 use check_handles::handle::reach;
-use store_records::object::is_directory;
 use kinds::call::Part;
 use kinds::numbers::Limit;
 use kinds::numbers::ObjectNumber;
 use results::Reply;
+use store_records::object::is_directory;
 
 pub fn getattr(store: &[u8], call: &[u8], h: Part) -> Reply
     requires { ⌜ GoodRecords (now store) ⌝ }

@@ -13,14 +13,14 @@ ghost use Rattle.act_read.specs.Parts.{roomOf};
 use check_handles::failure::fail_showing;
 use check_handles::handle::Reached;
 use check_handles::handle::reach;
-use store_search::object::available_count;
-use store_blocks::free_block_count;
-use store_records::counts::block_count;
-use store_records::counts::object_count;
 use kinds::call::Part;
 use kinds::layout::Block;
 use kinds::numbers::ObjectNumber;
 use results::Reply;
+use store_blocks::free_block_count;
+use store_records::counts::block_count;
+use store_records::counts::object_count;
+use store_search::object::available_count;
 
 // The room of a store. The map says which blocks are used.
 fn room(store: &[u8], used: &[u8; 1024], o: ObjectNumber) -> Reply

@@ -11,18 +11,18 @@ ghost use Rattle.laws.proofs.GoodRecords.{GoodRecords, StillGood};
 ghost use Rattle.store_blocks.specs.Blocks.{UsedMap};
 ghost use Rattle.results.specs.Does.{Does};
 ghost use Rattle.act_write.specs.Writable.{Writable, WritableSome};
+use check_handles::failure::unchanged;
+use edit_attributes::touch;
 use edit_data::write_file;
 use edit_size::size::resize;
-use check_handles::failure::unchanged;
-use store_records::object::size_of;
 use kinds::call::Part;
 use kinds::numbers::Limit;
 use kinds::numbers::ObjectNumber;
 use kinds::object::Context;
-use edit_attributes::touch;
 use results::ObjectChange;
 use results::Reply;
 use store_attributes::before;
+use store_records::object::size_of;
 
 // What WRITE does to the store: n bytes of the call, from `start` on, at an offset of a file.
 fn write_edit(

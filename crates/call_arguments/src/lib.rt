@@ -9,12 +9,12 @@ ghost use Rattle.call_arguments.specs.Reading.{argumentsOf};
 pub mod reading; // what reading arguments answers
 
 use crate::reading::ArgumentsRead;
-use call_end::finish;
 use call_by_handle::of_handle;
+use call_by_name::of_name;
+use call_end::finish;
 use kinds::call::Arguments;
 use kinds::call::Cursor;
 use kinds::numbers::Procedure;
-use call_by_name::of_name;
 use reader::Reader;
 
 // What the arguments of a procedure begin with; those of a procedure that is not served stay unread.

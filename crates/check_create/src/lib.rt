@@ -10,16 +10,16 @@ ghost use Rattle.check_make.specs.Meaning.{targetOf, statusOf};
 ghost use Rattle.check_create.specs.Meaning.{createOf};
 use check_handles::handle::Reached;
 use check_handles::handle::reach_directory;
-use kinds::call::How;
-use kinds::call::NameIn;
-use kinds::call::Part;
-use kinds::numbers::ObjectNumber;
-use kinds::numbers::Status;
 use check_make::answers::reached_status;
 use check_make::answers::target_status;
 use check_make::checks::Target;
 use check_make::checks::TargetChecked;
 use check_make::checks::check_attributed;
+use kinds::call::How;
+use kinds::call::NameIn;
+use kinds::call::Part;
+use kinds::numbers::ObjectNumber;
+use kinds::numbers::Status;
 
 // The directory and the target, or the status.
 pub enum CreateChecked {

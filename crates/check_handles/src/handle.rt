@@ -8,16 +8,16 @@ ghost use Rattle.spec.specs.Procedures.Data.{reachRegular};
 ghost use Rattle.spec.specs.Image.{objects};
 ghost use Rattle.laws.proofs.GoodRecords.{GoodRecords};
 ghost use Rattle.check_handles.specs.Meaning.{reachedOf};
+use kinds::call::Part;
+use kinds::numbers::Limit;
+use kinds::numbers::ObjectNumber;
+use kinds::numbers::Status;
 use store_records::counts::object_count;
 use store_records::counts::stamp_of;
 use store_records::object::generation_of;
 use store_records::object::is_directory;
 use store_records::object::is_live;
 use store_records::object::is_regular;
-use kinds::call::Part;
-use kinds::numbers::Limit;
-use kinds::numbers::ObjectNumber;
-use kinds::numbers::Status;
 
 pub enum Reached {
     At(ObjectNumber),

@@ -7,8 +7,8 @@ use crate::checks::MkdirChecked;
 use crate::checks::TargetChecked;
 use check_handles::handle::Reached;
 use check_handles::text::TextChecked;
-use kinds::numbers::Status;
 use check_room::RoomChecked;
+use kinds::numbers::Status;
 
 pub fn reached_status(answer: Reached) -> Status
     ensures { λ r. ⌜ r .0 ≡ statusOf (reachedOf answer) ⌝ }

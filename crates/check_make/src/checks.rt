@@ -21,22 +21,22 @@ use check_handles::handle::reach_directory;
 use check_handles::text::TextChecked;
 use check_handles::text::check_name;
 use check_handles::text::is_dots;
-use store_search::found::FoundName;
-use store_search::name::find_name;
-use store_records::name::name_child;
-use store_records::object::is_regular;
-use kinds::call::NameIn;
-use kinds::call::Part;
-use kinds::call::Settable;
-use kinds::numbers::NameNumber;
-use kinds::numbers::ObjectNumber;
-use kinds::numbers::Status;
 use check_room::RoomChecked;
 use check_room::lacks_room_for_size;
 use check_room::room_for_new;
 use check_settable::bad_attributes;
 use check_settable::is_given;
 use check_settable::size_set;
+use kinds::call::NameIn;
+use kinds::call::Part;
+use kinds::call::Settable;
+use kinds::numbers::NameNumber;
+use kinds::numbers::ObjectNumber;
+use kinds::numbers::Status;
+use store_records::name::name_child;
+use store_records::object::is_regular;
+use store_search::found::FoundName;
+use store_search::name::find_name;
 
 // What CREATE's checks find: records for a new file, or the file of that name.
 pub enum Target {

@@ -12,16 +12,16 @@ use check_handles::handle::reach_directory;
 use check_handles::text::TextChecked;
 use check_handles::text::check_name;
 use check_handles::text::is_dots;
-use store_search::found::FoundName;
-use store_search::name::find_name;
-use store_records::name::name_child;
-use store_records::object::is_directory;
+use check_tree::has_entries;
 use kinds::call::NameIn;
 use kinds::call::Part;
 use kinds::numbers::NameNumber;
 use kinds::numbers::ObjectNumber;
 use kinds::numbers::Status;
-use check_tree::has_entries;
+use store_records::name::name_child;
+use store_records::object::is_directory;
+use store_search::found::FoundName;
+use store_search::name::find_name;
 
 // The directory and the name record of what may be removed, or the status.
 pub enum Removable {

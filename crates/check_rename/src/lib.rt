@@ -12,15 +12,15 @@ use check_handles::handle::reach_directory;
 use check_handles::text::TextChecked;
 use check_handles::text::check_name;
 use check_handles::text::is_dots;
-use store_search::found::FoundName;
-use store_search::name::find_name;
-use store_records::name::name_child;
+use check_tree::is_within;
 use kinds::call::NameIn;
 use kinds::call::Part;
 use kinds::numbers::NameNumber;
 use kinds::numbers::ObjectNumber;
 use kinds::numbers::Status;
-use check_tree::is_within;
+use store_records::name::name_child;
+use store_search::found::FoundName;
+use store_search::name::find_name;
 
 // Both directories and the name record of what may be renamed, or the status.
 pub enum Renamable {

@@ -10,19 +10,19 @@ ghost use Rattle.spec.specs.Procedures.Names.{roomForNew};
 ghost use Rattle.laws.proofs.GoodRecords.{GoodRecords};
 ghost use Rattle.store_blocks.specs.Blocks.{UsedMap};
 ghost use Rattle.check_room.specs.Meaning.{roomOf};
-use store_search::found::FoundName;
-use store_search::found::FoundObject;
-use store_search::name::find_free_name;
-use store_search::object::find_available;
-use store_blocks::free_block_count;
-use store_records::object::size_of;
+use check_settable::size_set;
 use kinds::call::SetSize;
 use kinds::numbers::Limit;
 use kinds::numbers::NameNumber;
 use kinds::numbers::ObjectNumber;
 use kinds::numbers::Status;
+use store_blocks::free_block_count;
 use store_places::need;
-use check_settable::size_set;
+use store_records::object::size_of;
+use store_search::found::FoundName;
+use store_search::found::FoundObject;
+use store_search::name::find_free_name;
+use store_search::object::find_available;
 
 // A free object record and a free name record, or the status.
 pub enum RoomChecked {

@@ -4,13 +4,13 @@ ghost use Prim.Native.Nat.{_<_};
 ghost use Rattle.spec.specs.Image.{objects};
 ghost use Rattle.spec.specs.Procedures.Removal.{hasEntries, isWithin};
 ghost use Rattle.laws.proofs.GoodRecords.{GoodRecords};
-use store_search::name::is_in;
-use store_search::name::parent_of;
+use kinds::numbers::NameNumber;
+use kinds::numbers::ObjectNumber;
 use store_records::counts::name_count;
 use store_records::counts::object_count;
 use store_records::object::is_directory;
-use kinds::numbers::NameNumber;
-use kinds::numbers::ObjectNumber;
+use store_search::name::is_in;
+use store_search::name::parent_of;
 
 // Whether some name is in a directory.
 pub fn has_entries(store: &[u8], directory: ObjectNumber) -> bool

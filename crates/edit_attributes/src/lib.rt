@@ -7,14 +7,6 @@ ghost use Rattle.kinds.specs.Layout.{objectLength};
 ghost use Rattle.spec.specs.Bytes.{overlay, bytesOf};
 ghost use Rattle.spec.specs.Image.{objectStart};
 ghost use Rattle.spec.specs.Edits.{numberSet, timeSet, withAttributes, setAttributes, onlyCtime, mtimeAndCtime};
-use store_records::counts::object_start;
-use store_records::object::atime_of;
-use store_records::object::gid_of;
-use store_records::object::mode_of;
-use store_records::object::mtime_of;
-use store_records::object::save_time;
-use store_records::object::save_times;
-use store_records::object::uid_of;
 use kinds::call::SetNumber;
 use kinds::call::SetSize;
 use kinds::call::SetTime;
@@ -23,6 +15,14 @@ use kinds::layout::ObjectRecord;
 use kinds::numbers::ObjectNumber;
 use kinds::object::Object;
 use kinds::object::Time;
+use store_records::counts::object_start;
+use store_records::object::atime_of;
+use store_records::object::gid_of;
+use store_records::object::mode_of;
+use store_records::object::mtime_of;
+use store_records::object::save_time;
+use store_records::object::save_times;
+use store_records::object::uid_of;
 
 // A number that a call may set.
 pub fn number_set(a: SetNumber, old: u32) -> u32

@@ -11,11 +11,11 @@ ghost use Rattle.laws.proofs.BlockLists.{InRange};
 ghost use Rattle.laws.proofs.GoodRecords.{GoodRecords};
 ghost use Rattle.laws.proofs.Kept.{Sound};
 ghost use Rattle.laws.proofs.Valid.{Live};
-use store_records::block::byte_at;
-use store_records::block::clear_block;
 use kinds::layout::Block;
 use kinds::numbers::BlockNumber;
 use kinds::numbers::ObjectNumber;
+use store_records::block::byte_at;
+use store_records::block::clear_block;
 
 // Zeroes the blocks from place `start` to place `end` of a list.
 pub fn clear_blocks(store: &mut [u8], numbers: [u16; 16], start: usize, end: usize)

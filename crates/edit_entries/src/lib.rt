@@ -10,17 +10,17 @@ ghost use Rattle.spec.specs.Procedures.Names.{touchDirectory};
 ghost use Rattle.spec.specs.Procedures.Removal.{renameEdit};
 ghost use Rattle.laws.proofs.GoodRecords.{GoodRecords};
 ghost use Rattle.edit_entries.specs.Records.{RemovableAt, MovableAt};
-use store_records::name::name_child;
-use kinds::call::Part;
-use kinds::numbers::NameNumber;
-use kinds::numbers::ObjectNumber;
-use kinds::object::Context;
-use kinds::object::Time;
 use edit_attributes::only_ctime;
 use edit_attributes::set_attributes;
 use edit_attributes::touch;
 use edit_names::move_name;
 use edit_names::remove_object;
+use kinds::call::Part;
+use kinds::numbers::NameNumber;
+use kinds::numbers::ObjectNumber;
+use kinds::object::Context;
+use kinds::object::Time;
+use store_records::name::name_child;
 
 // Sets a directory's mtime and ctime.
 fn touch_directory(store: &mut [u8], clock: Time, d: ObjectNumber)

@@ -10,6 +10,13 @@ ghost use Rattle.spec.specs.Procedures.{cut};
 ghost use Rattle.laws.proofs.GoodRecords.{GoodRecords};
 ghost use Rattle.laws.proofs.Valid.{Used};
 use edit_data::clear_blocks;
+use kinds::call::Part;
+use kinds::layout::ObjectRecord;
+use kinds::numbers::Kind;
+use kinds::numbers::NameNumber;
+use kinds::numbers::ObjectNumber;
+use kinds::object::Object;
+use store_places::need;
 use store_records::counts::object_start;
 use store_records::name::clear_name;
 use store_records::name::name_child;
@@ -18,13 +25,6 @@ use store_records::object::blocks_of;
 use store_records::object::generation_of;
 use store_records::object::save_object;
 use store_records::object::size_of;
-use kinds::call::Part;
-use kinds::layout::ObjectRecord;
-use kinds::numbers::Kind;
-use kinds::numbers::NameNumber;
-use kinds::numbers::ObjectNumber;
-use kinds::object::Object;
-use store_places::need;
 
 // An object in a record that has been free: the record's generation stays.
 fn with_generation(generation: u32, v: Object) -> Object

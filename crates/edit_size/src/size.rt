@@ -12,14 +12,14 @@ ghost use Rattle.store_blocks.specs.Blocks.{UsedMap};
 ghost use Rattle.edit_size.specs.Sized.{sized};
 use edit_data::clear_blocks;
 use edit_data::clear_tail;
-use store_blocks::free_blocks;
-use store_records::object::load_object;
-use store_records::object::save_object;
-use store_records::object::size_of;
 use kinds::numbers::Limit;
 use kinds::numbers::ObjectNumber;
 use kinds::object::Object;
+use store_blocks::free_blocks;
 use store_places::need;
+use store_records::object::load_object;
+use store_records::object::save_object;
+use store_records::object::size_of;
 
 // The block numbers of a file that had `before` blocks and is to have `after`: the first of its own, then of the added ones, then 65535.
 fn resized_blocks(own: [u16; 16], added: [u16; 16], before: usize, after: usize) -> [u16; 16]

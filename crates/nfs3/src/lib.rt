@@ -2,15 +2,15 @@
 ghost use mathlib.Core.Path.{_≡_};
 ghost use Rattle.spec.specs.Serve.{serve, check, format};
 ghost use Rattle.nfs3.specs.Answers.{answerOf, timeOf, contextOf, Formats, Serves};
+use entry_reply::respond;
+use entry_tests::Opened;
+use entry_tests::open;
 use fsck::check::check_store;
 use fsck::format::format_store;
 use fsck::shape::Found;
 use kinds::numbers::Answer;
 use kinds::object::Context;
 use kinds::object::Time;
-use entry_tests::Opened;
-use entry_tests::open;
-use entry_reply::respond;
 
 // Answers a call: 2, 3, 4, 1 or 5, which change nothing, or 0 with the length of the reply.
 #[no_mangle]

@@ -12,12 +12,12 @@ ghost use Rattle.laws.proofs.Range.{Below};
 ghost use Rattle.results.specs.Writable.{Listable};
 ghost use Rattle.xdr.specs.Wrote.{Wrote};
 ghost use Rattle.reply_entries.specs.Entries.{PaddedName, entry, dots, entryIn, namedEntries, Sent};
-use store_search::name::parent_of;
-use store_records::counts::name_count;
-use store_records::counts::names_start;
 use kinds::layout::NameRecord;
 use kinds::numbers::NameNumber;
 use kinds::numbers::ObjectNumber;
+use store_records::counts::name_count;
+use store_records::counts::names_start;
+use store_search::name::parent_of;
 use xdr::write::put_word;
 
 // Where the next entry is written, and how many more are sent.

@@ -7,14 +7,14 @@ ghost use Rattle.spec.specs.Handles.{attributes, handleOf};
 ghost use Rattle.results.specs.Meaning.{changeIn, handleChangeIn};
 ghost use Rattle.results.specs.Writable.{Showable, ShowableChange};
 ghost use Rattle.xdr.specs.Wrote.{Wrote};
-use store_records::counts::stamp_of;
-use store_records::object::generation_of;
 use kinds::numbers::ObjectNumber;
 use kinds::object::Attributes;
 use kinds::object::Before;
 use results::HandleChange;
 use results::ObjectChange;
 use store_attributes::attributes;
+use store_records::counts::stamp_of;
+use store_records::object::generation_of;
 use xdr::write::put_word;
 use xdr::write::put_words;
 

@@ -5,7 +5,10 @@ ghost use Prim.Native.Nat.{_<_, _≤_};
 ghost use Rattle.spec.specs.Image.{objects, objectAt};
 ghost use Rattle.spec.specs.Handles.{shownSize, usedBytes, linkCount, attributes, before};
 ghost use Rattle.laws.proofs.GoodRecords.{GoodRecords};
-use store_search::name::subdirectory_count;
+use kinds::numbers::ObjectNumber;
+use kinds::object::Attributes;
+use kinds::object::Before;
+use store_places::need;
 use store_records::counts::stamp_of;
 use store_records::object::atime_of;
 use store_records::object::ctime_of;
@@ -16,10 +19,7 @@ use store_records::object::mode_of;
 use store_records::object::mtime_of;
 use store_records::object::size_of;
 use store_records::object::uid_of;
-use kinds::numbers::ObjectNumber;
-use kinds::object::Attributes;
-use kinds::object::Before;
-use store_places::need;
+use store_search::name::subdirectory_count;
 
 // The size that is shown: a directory's is 512.
 pub fn shown_size(store: &[u8], o: ObjectNumber) -> u32

@@ -7,9 +7,9 @@ ghost use Rattle.spec.specs.Image.{blocks};
 ghost use Rattle.spec.specs.Room.{isFreeBlock, freeBlocks, freeBlockCount};
 ghost use Rattle.store_records.specs.Shaped.{Shaped};
 ghost use Rattle.store_blocks.specs.Blocks.{UsedMap, blockList};
-use store_records::counts::block_count;
 use kinds::numbers::BlockNumber;
 use kinds::numbers::Limit;
+use store_records::counts::block_count;
 
 fn is_free_block(store: &[u8], map: &[u8; 1024], r: BlockNumber) -> bool
     requires { ⌜ Shaped (now store) ⌝ }

@@ -12,17 +12,17 @@ ghost use Rattle.store_records.specs.Text.{textOf};
 ghost use Rattle.store_search.specs.Found.{foundName};
 use crate::found::FoundName;
 use crate::found::one_if;
+use kinds::call::Part;
+use kinds::layout::NameRecord;
+use kinds::numbers::Limit;
+use kinds::numbers::NameNumber;
+use kinds::numbers::ObjectNumber;
 use store_records::counts::name_count;
 use store_records::counts::names_start;
 use store_records::name::is_used_name;
 use store_records::name::name_child;
 use store_records::name::name_directory;
 use store_records::object::is_directory;
-use kinds::call::Part;
-use kinds::layout::NameRecord;
-use kinds::numbers::Limit;
-use kinds::numbers::NameNumber;
-use kinds::numbers::ObjectNumber;
 
 fn is_free_name(store: &[u8], n: NameNumber) -> bool
     requires { ⌜ nameStart (now store) (n .0) + nameRecordLength ≤ length (now store) ⌝ }

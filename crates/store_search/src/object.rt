@@ -9,12 +9,12 @@ ghost use Rattle.store_records.specs.Shaped.{Shaped};
 ghost use Rattle.store_search.specs.Found.{foundObject};
 use crate::found::FoundObject;
 use crate::found::one_if;
-use store_records::counts::object_count;
-use store_records::object::generation_of;
-use store_records::object::kind_of;
 use kinds::numbers::Kind;
 use kinds::numbers::Limit;
 use kinds::numbers::ObjectNumber;
+use store_records::counts::object_count;
+use store_records::object::generation_of;
+use store_records::object::kind_of;
 
 pub fn is_available(store: &[u8], o: ObjectNumber) -> bool
     requires { ⌜ objectStart (o .0) + objectLength ≤ length (now store) ⌝ }
