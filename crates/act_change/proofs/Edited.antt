@@ -34,7 +34,8 @@ pub sized-still : (s : Store) (o : ℕ) (x : SetSize) → GoodRecords s → Siza
 sized-still s o SetSize.Keep g z = still-refl s g
 sized-still s o (SetSize.To n) g z = resize-still s g o n (z .below) (z .regular refl) (z .small) (z .room)
 
-pub sized-kind : (s : Store) (o : ℕ) (x : SetSize) → GoodRecords s → Sizable s o x → (i : ℕ) → i < objects s → objectAt (resizeTo s o x) i .kind ≡ objectAt s i .kind
+pub sized-kind : (s : Store) (o : ℕ) (x : SetSize) → GoodRecords s → Sizable s o x → (i : ℕ) → i < objects s → objectAt (resizeTo s o x) i .kind
+    ≡ objectAt s i .kind
 sized-kind s o SetSize.Keep g z i l = refl
 sized-kind s o (SetSize.To n) g z i l =
     let r = z .regular refl in
@@ -52,7 +53,8 @@ setattr-sizable s h a g o r p =
     }
 
 -- one call moves no more bytes than its data has
-pub few-moved : (call : List ℕ) (p : Part) (count : ℕ) → p .start + p .length ≤ length call → count ≡ length (cut call p) → min count mostTransferBytes ≤ p .length
+pub few-moved : (call : List ℕ) (p : Part) (count : ℕ) → p .start + p .length ≤ length call → count ≡ length (cut call p)
+    → min count mostTransferBytes ≤ p .length
 few-moved call p count h e = omega (arith, part-length call (p .start) (p .length) h)
 
 pub write-writable : (s : Store) (h : List ℕ) (offset count : ℕ) (bytes : List ℕ) (o : ℕ) → WritePassed s h offset count bytes o

@@ -16,7 +16,8 @@ use Rattle.spec.specs.Procedures.Attributes.{resizeTo}
 use Rattle.spec.specs.Procedures.Names.{newObject, newEdit, existingEdit}
 use Rattle.spec.specs.Room.{uses, sizeOf, freeBlockCount}
 use Rattle.laws.proofs.CreateObject.{create-object, create-object-uses}
-use Rattle.laws.proofs.GoodRecords.{GoodRecords, StillGood, GoodClock, clock-fits, still-refl, still-trans, free-size, set-attributes-still, resize-still, create-object-still}
+use Rattle.laws.proofs.GoodRecords.{GoodRecords, StillGood, GoodClock, clock-fits, still-refl, still-trans, free-size, set-attributes-still}
+use Rattle.laws.proofs.GoodRecords.{resize-still, create-object-still}
 use Rattle.laws.proofs.Kept.{BothSet}
 use Rattle.laws.proofs.Range.{Below}
 use Rattle.laws.proofs.SameReads.{isFreeBlock-reads, freeBlockCount-reads}
@@ -25,7 +26,8 @@ use Rattle.store_blocks.specs.Blocks.{UsedMap}
 use Rattle.act_change.specs.Makable.{Sizable, Makable}
 use Rattle.act_change.proofs.Edited.{sized-still, sized-kind}
 
-module _ (s : Store) (c : Context) (kind o n d : ℕ) (text : List ℕ) (a : Settable) (g : GoodRecords s) (m : Makable s c kind o n d text a) (w : Below 256 text) where
+module _ (s : Store) (c : Context) (kind o n d : ℕ) (text : List ℕ) (a : Settable) (g : GoodRecords s) (m : Makable s c kind o n d text a)
+    (w : Below 256 text) where
   abbrev pub created : Store
   created = createObject s o n (newObject (c .clock) kind a) d text
 
@@ -41,7 +43,8 @@ module _ (s : Store) (c : Context) (kind o n d : ℕ) (text : List ℕ) (a : Set
       (new-fits (c .clock) kind a (clock-fits (c .clock) (m .clock)) kind-fits (m .fits))
       (new-live (blocks s) (c .clock) kind a (m .clock .nanoseconds) (m .allowed) (m .either)) refl (m .below) (m .directory) (m .good) w
 
-  created-set : BothSet s o (withGeneration (objectAt s o .generation) (newObject (c .clock) kind a)) n (record { directory = d; child = o; text = text }) created
+  created-set : BothSet s o (withGeneration (objectAt s o .generation) (newObject (c .clock) kind a)) n
+      (record { directory = d; child = o; text = text }) created
   created-set =
       let r = m .room in
       let z = g .sound .shaped in
@@ -80,7 +83,8 @@ module _ (s : Store) (c : Context) (kind o n d : ℕ) (text : List ℕ) (a : Set
   directory-stays =
       let r = m .room in
       let other = created-set .other-objects d (m .below) (λ q. omega (arith, r .object-free, m .directory, ap (λ (i : ℕ). objectAt s i .kind) q)) in
-      sized-kind created o (a .size) (created-still .good) created-sizable d (rw (created-set .shape .objects) (m .below)) ∙ ap (λ (y : Object). y .kind) other ∙ m .directory
+      sized-kind created o (a .size) (created-still .good) created-sizable d (rw (created-set .shape .objects) (m .below)) ∙ ap
+      (λ (y : Object). y .kind) other ∙ m .directory
 
   pub new-still : StillGood s (newEdit s c kind o n d text a)
   unfolding newEdit
@@ -89,7 +93,8 @@ module _ (s : Store) (c : Context) (kind o n d : ℕ) (text : List ℕ) (a : Set
       let q = sized-still created o (a .size) (created-still .good) created-sizable in
       let h = still-trans s created t created-still q in
       still-trans s t (newEdit s c kind o n d text a) h
-      (set-attributes-still t (h .good) (c .clock) d mtimeAndCtime (rw (h .shape .objects) (m .below)) (omega (arith, directory-stays)) (m .clock) mtime-and-ctime-fits mtime-and-ctime-allowed)
+      (set-attributes-still t (h .good) (c .clock) d mtimeAndCtime (rw (h .shape .objects) (m .below)) (omega (arith, directory-stays)) (m .clock)
+      mtime-and-ctime-fits mtime-and-ctime-allowed)
 
 -- the store that CREATE leaves where a file has the name
 pub existing-still : (s : Store) (c : Context) (o : ℕ) (x : SetSize) → GoodRecords s → GoodClock (c .clock) → Sizable s o x → StillGood s (existingEdit s c o x)
@@ -99,4 +104,5 @@ existing-still s c o (SetSize.To n) g k z =
     let r = resize-still s g o n (z .below) (z .regular refl) (z .small) (z .room) in
     let kind = sized-kind s o (SetSize.To n) g z o (z .below) ∙ z .regular refl in
     still-trans s t (existingEdit s c o (SetSize.To n)) r
-    (set-attributes-still t (r .good) (c .clock) o mtimeAndCtime (rw (r .shape .objects) (z .below)) (omega (arith, kind)) k mtime-and-ctime-fits mtime-and-ctime-allowed)
+    (set-attributes-still t (r .good) (c .clock) o mtimeAndCtime (rw (r .shape .objects) (z .below)) (omega (arith, kind)) k mtime-and-ctime-fits
+    mtime-and-ctime-allowed)

@@ -35,7 +35,8 @@ how-settable (How.Unchecked a) f = f
 how-settable (How.Guarded a) f = f
 how-settable (How.Exclusive verifier) f = only-ctime-fits
 
-pub mkdir-makable : (s : Store) (c : Context) (h text : List ℕ) (a : Settable) (d o n : ℕ) → GoodClock (c .clock) → FitsSettable a → MkdirPassed s h text a d o n
+pub mkdir-makable : (s : Store) (c : Context) (h text : List ℕ) (a : Settable) (d o n : ℕ) → GoodClock (c .clock) → FitsSettable a
+    → MkdirPassed s h text a d o n
     → Makable s c DIRECTORY o n d text a
 mkdir-makable s c h text a d o n k f p =
     record {
@@ -50,7 +51,8 @@ mkdir-makable s c h text a d o n k f p =
       allowed = p .allowed;
     }
 
-module _ (s : Store) (h text : List ℕ) (manner : How) (a : Settable) (d : ℕ) (t : Target) (p : CreatePassed s h text manner d (madeOf t)) (e : a ≡ settableOf manner) where
+module _ (s : Store) (h text : List ℕ) (manner : How) (a : Settable) (d : ℕ) (t : Target) (p : CreatePassed s h text manner d (madeOf t))
+    (e : a ≡ settableOf manner) where
   pub create-makable : (c : Context) (o : ObjectNumber) (n : NameNumber) → t ≡ Target.New o n → GoodClock (c .clock) → FitsHow manner
       → Makable s c REGULAR (o .0) (n .0) d text a
   create-makable c o n is k f =

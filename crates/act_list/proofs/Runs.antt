@@ -183,7 +183,8 @@ run-fits given room k (e ∷ es) =
     (λ u. let p = run-fits given (room - price) (k + 1) es in
     rw (run-takes given room k e es t u, above-takes given e es t, fit-takes room e after u)
     (omega (arith, p .0), p .1 ∙ ap not (sym (eqb·suc-suc (length (fitting 24 (room - price) after)) (length after)))))
-    (λ u. rw (run-ends given room k e es t u, above-takes given e es t, fit-ends room e after u) (sym (add-zero k), sym (ap not (eqb·zero-suc (length after))))))
+    (λ u. rw (run-ends given room k e es t u, above-takes given e es t, fit-ends room e after u)
+    (sym (add-zero k), sym (ap not (eqb·zero-suc (length after))))))
     (λ t. rw (run-over given (openRun room k) e es t, above-over given e es t) (run-fits given room k es))
 
 pub start-fits : (given room : ℕ) (es : List Entry) (run : Run) → run ≡ runOf given (openRun room 0) es → Fits given room 0 es run

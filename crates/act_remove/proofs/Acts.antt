@@ -39,7 +39,8 @@ pub still-showable : (s t u : Store) (d : ℕ) → StillGood s t → d < objects
 still-showable s t u d a l e = rw e (record { good = a .good; object = omega (arith, a .shape .objects) })
 
 -- a change is made of what was read before, and of the store that is left
-pub change-made : (s t u : Store) (d : ObjectNumber) (b : Before) → b ≡ before s (d .0) → u ≡ t → changeIn u (record { before = b; object = d }) ≡ change s t (d .0)
+pub change-made : (s t u : Store) (d : ObjectNumber) (b : Before) → b ≡ before s (d .0) → u ≡ t → changeIn u (record { before = b; object = d })
+    ≡ change s t (d .0)
 unfolding change
 change-made s t u d b e g = rw (e, g)
 
@@ -101,7 +102,8 @@ module _ (s : Store) (c : Context) (v : Valid s) (g : GoodRecords s) (k : GoodCl
       → removableOf r ≡ checkRmdir s (cut call (p .directory)) (cut call (p .name)) → Removing s c (d .0) (n .0)
   rmdir-found r d n is e = removing-directory (d .0) (n .0) (sym e ∙ ap removableOf is)
 
-  pub rename-found : (q : NameIn) → q .name .start + q .name .length ≤ length call → (r : Renamable) (d e : ObjectNumber) (n : NameNumber) → r ≡ Renamable.At d e n
+  pub rename-found : (q : NameIn) → q .name .start + q .name .length ≤ length call → (r : Renamable) (d e : ObjectNumber) (n : NameNumber)
+      → r ≡ Renamable.At d e n
       → renamableOf r ≡ checkRename s (cut call (p .directory)) (cut call (p .name)) (cut call (q .directory)) (cut call (q .name))
       → Moving s c (d .0) (e .0) (n .0) (q .name .length) (cut call (q .name))
   rename-found q fits r d e n is x = moving q (d .0) (e .0) (n .0) fits (sym x ∙ ap renamableOf is)

@@ -64,8 +64,11 @@ remove-entry s h text =
     (λ d n. bind (refuseIf (isDirectory s (nameAt s n .child)) ACCES) (λ _. passed (d, n)))
 
 pub rmdir-entry : (s : Store) (h text : List ℕ)
-    → checkRmdir s h text ≡ bind (checkEntry s h text INVAL) (λ p. bind (refuseIf (not (isDirectory s (nameAt s (p .1) .child))) NOTDIR) (λ _. bind (refuseIf (hasEntries s (nameAt s (p .1) .child)) NOTEMPTY) (λ _. passed (p .0, p .1))))
+    → checkRmdir s h text ≡ bind (checkEntry s h text INVAL)
+    (λ p. bind (refuseIf (not (isDirectory s (nameAt s (p .1) .child))) NOTDIR)
+    (λ _. bind (refuseIf (hasEntries s (nameAt s (p .1) .child)) NOTEMPTY) (λ _. passed (p .0, p .1))))
 unfolding checkRmdir checkEntry
 rmdir-entry s h text =
     entry-then (reachDirectory s h) (checkName text) (refuseIf (isDots text) INVAL) (λ d. present NOENT (findName s d text))
-    (λ d n. bind (refuseIf (not (isDirectory s (nameAt s n .child))) NOTDIR) (λ _. bind (refuseIf (hasEntries s (nameAt s n .child)) NOTEMPTY) (λ _. passed (d, n))))
+    (λ d n. bind (refuseIf (not (isDirectory s (nameAt s n .child))) NOTDIR)
+    (λ _. bind (refuseIf (hasEntries s (nameAt s n .child)) NOTEMPTY) (λ _. passed (d, n))))

@@ -134,14 +134,16 @@ module _ (s : Store) (o : ℕ) (f : Below 256 s) (h : objectStart o + objectLeng
   unfolding objectAt objectFrom
   owner-kept =
       joined s (objectStart o + 8) (objectStart o + 16) 8 4 _ _ (omega arith)
-      (joined s (objectStart o + 8) (objectStart o + 12) 4 4 _ _ (omega arith) (bytes-kept s f 4 (objectStart o + 8) (omega arith)) (bytes-kept s f 4 (objectStart o + 12) (omega arith)))
+      (joined s (objectStart o + 8) (objectStart o + 12) 4 4 _ _ (omega arith) (bytes-kept s f 4 (objectStart o + 8) (omega arith))
+      (bytes-kept s f 4 (objectStart o + 12) (omega arith)))
       (bytes-kept s f 4 (objectStart o + 16) (omega arith))
 
   times-kept : timesBytes (objectAt s o) ≡ part s (objectStart o + 24) 24
   unfolding timesBytes objectAt objectFrom
   times-kept =
       joined s (objectStart o + 24) (objectStart o + 40) 16 8 _ _ (omega arith)
-      (joined s (objectStart o + 24) (objectStart o + 32) 8 8 _ _ (omega arith) (time-kept (objectStart o + 24) (omega arith)) (time-kept (objectStart o + 32) (omega arith)))
+      (joined s (objectStart o + 24) (objectStart o + 32) 8 8 _ _ (omega arith) (time-kept (objectStart o + 24) (omega arith))
+      (time-kept (objectStart o + 32) (omega arith)))
       (time-kept (objectStart o + 40) (omega arith))
 
   atime-kept : timeBytes (objectAt s o .atime) ≡ part s (objectStart o + 24) 8
@@ -164,7 +166,8 @@ module _ (s : Store) (o : ℕ) (f : Below 256 s) (h : objectStart o + objectLeng
       let p : objectStart o + 24 + 8 ≡ objectStart o + 32 = omega arith in
       let atime : timeBytes (v .atime) ≡ part s (objectStart o + 24) 8 = atime-kept in
       sym (sym (attributes-written s o w f h refl refl refl refl)
-      ∙ ap (λ (z : Store). overlay z (objectStart o + 24) (timeBytes (v .atime) ++ timeBytes clock ++ timeBytes clock)) (overlay-kept s (objectStart o + 8) 12 _ owner-kept (omega arith))
+      ∙ ap (λ (z : Store). overlay z (objectStart o + 24) (timeBytes (v .atime) ++ timeBytes clock ++ timeBytes clock))
+      (overlay-kept s (objectStart o + 8) 12 _ owner-kept (omega arith))
       ∙ ap (overlay s (objectStart o + 24)) (append-assoc (timeBytes (v .atime)) (timeBytes clock) (timeBytes clock))
       ∙ skip s (objectStart o + 24) 8 _ _ atime (omega arith)
       ∙ ap (λ (k : ℕ). overlay s k (timeBytes clock ++ timeBytes clock)) p)

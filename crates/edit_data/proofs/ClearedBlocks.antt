@@ -19,7 +19,8 @@ module _ (s : Store) (numbers : List ℕ) (start end : ℕ) (h : Sound s) (few :
   pub place-range : (k : ℕ) → start ≤ k → k < end → getD numbers k 0 < blocks s
   place-range k a b =
       let e : start + (k - start) ≡ k = omega arith in
-      rw e at (rw (getD-part numbers start (end - start) (k - start) (omega arith)) at (range (k - start) (omega (arith, part-length numbers start (end - start) (omega arith)))))
+      rw e at (rw (getD-part numbers start (end - start) (k - start) (omega arith)) at
+      (range (k - start) (omega (arith, part-length numbers start (end - start) (omega arith)))))
 
   -- the blocks before place k zeroed
   abbrev pub cleared : ℕ → Store
@@ -43,7 +44,8 @@ module _ (s : Store) (numbers : List ℕ) (start end : ℕ) (h : Sound s) (few :
       omega arith
 
   -- and is zeroed
-  pub cleared-next : (k : ℕ) (t u : Store) → start ≤ k → k < end → t ≡ cleared k → u ≡ overlay t (blockStart t (getD numbers k 0)) (zeros 512) → u ≡ cleared (k + 1)
+  pub cleared-next : (k : ℕ) (t u : Store) → start ≤ k → k < end → t ≡ cleared k → u ≡ overlay t (blockStart t (getD numbers k 0)) (zeros 512)
+      → u ≡ cleared (k + 1)
   unfolding clearBlocks
   cleared-next k t u a b p q =
       let e : start + (k - start) ≡ k = omega arith in

@@ -43,7 +43,8 @@ module _ {s : Store} {o offset : ℕ} {call : List ℕ} {start n : ℕ} (w : Wri
   -- the first k bytes written
   written-kept : (k : ℕ) → k ≤ n → RecordsKept s (writeFile s o offset (part call start k))
   written-kept k h =
-      write-file s o offset (part call start k) (w .good .sound) record-live (below-part 256 call start k (lit< tt) (w .bytes)) (rw (front-length k h) (omega arith))
+      write-file s o offset (part call start k) (w .good .sound) record-live (below-part 256 call start k (lit< tt) (w .bytes))
+      (rw (front-length k h) (omega arith))
 
   pub written-shape : (k : ℕ) (t : Store) → k ≤ n → t ≡ writeFile s o offset (part call start k) → SameShape s t
   written-shape k t h e = rw e (written-kept k h .shape)

@@ -9,7 +9,8 @@ use Rattle.kinds.specs.Objects.{freeObject}
 use Rattle.kinds.specs.declared.object.Object.{Object}
 use Rattle.spec.specs.Bytes.{part, bytesOf, zeros}
 use Rattle.spec.specs.Edits.{clearBlocks, removeObject}
-use Rattle.spec.specs.Image.{Store, objects, names, blocks, objectAt, timeBytes, headBytes, timesBytes, halvesBytes, objectBytes, putObject, nameAt, putName, freeName}
+use Rattle.spec.specs.Image.{Store, objects, names, blocks, objectAt, timeBytes, headBytes, timesBytes, halvesBytes, objectBytes, putObject, nameAt}
+use Rattle.spec.specs.Image.{putName, freeName}
 use Rattle.spec.specs.Room.{sizeOf, need, held}
 use Rattle.laws.proofs.BlockLists.{InRange, held-range}
 use Rattle.laws.proofs.BlockWrites.{clear-blocks}

@@ -67,7 +67,8 @@ module _ {s : Store} {o size : ℕ} {v : Object} {before after : ℕ} (r : Resiz
   tail-kept start end t h e = rw e (clear-tail s o (r .good .sound) live-record start end (omega (arith, old-size)))
 
   -- what is written, one after the other
-  resized-run : (start end : ℕ) (xs ys : List ℕ) → min (sizeOf s o) size ≡ start → max (sizeOf s o) size ≡ end → freedBlocks s o size ++ addedBlocks s o size ≡ xs
+  resized-run : (start end : ℕ) (xs ys : List ℕ) → min (sizeOf s o) size ≡ start → max (sizeOf s o) size ≡ end
+      → freedBlocks s o size ++ addedBlocks s o size ≡ xs
       → keptBlocks s o size ++ addedBlocks s o size ≡ ys → (t u z : Store) (numbers : List ℕ) (w : Object) → t ≡ clearTail s o start end → u ≡ clearBlocks t xs
       → numbers ≡ blockNumbers ys → w ≡ sized size numbers v → z ≡ putObject u o w → z ≡ resize s o size
   unfolding resize withSize sized
@@ -93,7 +94,8 @@ module _ {s : Store} {o size : ℕ} {v : Object} {before after : ℕ} (r : Resiz
     shrunk-range t e =
         rw (tail-kept size (v .size) t h e .shape .blocks, ← freed-own) (range-drop (blocks s) (need size) (held s o) (held-range s o live-record))
 
-    pub shrunk : (t u z : Store) (numbers : List ℕ) (w : Object) → t ≡ clearTail s o size (v .size) → u ≡ clearBlocks t (part (v .blocks) after (before - after))
+    pub shrunk : (t u z : Store) (numbers : List ℕ) (w : Object) → t ≡ clearTail s o size (v .size)
+        → u ≡ clearBlocks t (part (v .blocks) after (before - after))
         → numbers ≡ blockNumbers (take after (take before (v .blocks)) ++ take (after - before) (v .blocks)) → w ≡ sized size numbers v → z ≡ putObject u o w
         → z ≡ resize s o size
     shrunk =
@@ -104,7 +106,8 @@ module _ {s : Store} {o size : ℕ} {v : Object} {before after : ℕ} (r : Resiz
         (ap₂ (λ (xs ys : List ℕ). xs ++ ys) kept-own (none-added ∙ sym (ap (λ (n : ℕ). take n (v .blocks)) e)))
 
   -- ---- a size that is not below the old one; the free blocks are listed as an object record lists them
-  module _ (h : v .size ≤ size) (room : need size - need (sizeOf s o) ≤ freeBlockCount s) (listed : List ℕ) (p : listed ≡ blockList (after - before) (freeBlocks s)) where
+  module _ (h : v .size ≤ size) (room : need size - need (sizeOf s o) ≤ freeBlockCount s) (listed : List ℕ)
+      (p : listed ≡ blockList (after - before) (freeBlocks s)) where
     none-freed : freedBlocks s o size ≡ []
     none-freed =
         let n = held-length s o (objectAt-fits s o (r .good .sound .bytes)) (omega (arith, old-small, old-size)) in

@@ -22,7 +22,8 @@ use Rattle.laws.proofs.Valid.{LiveObject, live-size}
 use Rattle.edit_attributes.proofs.Kept.{object-kept}
 
 -- the numbers that an object holds, and 65535 in its other places, are all its numbers
-numbers-same : (v : Object) (r : ℕ) → LiveObject r v → length (v .blocks) ≡ 16 → need (v .size) ≤ 16 → blockNumbers (take (need (v .size)) (v .blocks)) ≡ v .blocks
+numbers-same : (v : Object) (r : ℕ) → LiveObject r v → length (v .blocks) ≡ 16 → need (v .size) ≤ 16
+    → blockNumbers (take (need (v .size)) (v .blocks)) ≡ v .blocks
 numbers-same v r l k b =
     let n = need (v .size) in
     let rs = take n (v .blocks) in

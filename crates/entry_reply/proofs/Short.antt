@@ -37,7 +37,8 @@ stopped-short p xid stat =
     (by-bool (eqb stat 2) (λ t. rw (t, words-length) (lit≤ tt)) (λ t. rw t (lit≤ tt)))
 
 -- ---- the results of a procedure
-renamed-short : (s : Store) (status : ℕ) (c d : HandleChange) → length (words (status ∷ wccOption (handleChangeIn s c) ++ wccOption (handleChangeIn s d))) ≤ 4200
+renamed-short : (s : Store) (status : ℕ) (c d : HandleChange)
+    → length (words (status ∷ wccOption (handleChangeIn s c) ++ wccOption (handleChangeIn s d))) ≤ 4200
 renamed-short s status c d =
     let k = change-small s c in
     let l = change-small s d in
@@ -63,11 +64,13 @@ module _ (s : Store) (p : ℕ) where
   body-short (Reply.Found o d) w = lit≤ tt
   body-short (Reply.Granted o bits) w = lit≤ tt
   body-short (Reply.GotBytes o eof offset n) w =
-      bytes-short (0 ∷ postOp (attributes s (o .0)) ++ (length (readFile s (o .0) offset n) ∷ bit eof ∷ [])) (readFile s (o .0) offset n) refl (rw readFile-length (w .few))
+      bytes-short (0 ∷ postOp (attributes s (o .0)) ++ (length (readFile s (o .0) offset n) ∷ bit eof ∷ [])) (readFile s (o .0) offset n) refl
+      (rw readFile-length (w .few))
   body-short (Reply.Wrote c count verifier) w = lit≤ tt
   body-short (Reply.Created o d) w = lit≤ tt
   body-short (Reply.Listed d eof cookie n) w =
-      listed-short (0 ∷ postOp (attributes s (d .0)) ++ hyper 0) (entriesBytes (take n (entriesAbove cookie (entries s (d .0))))) (0 ∷ bit eof ∷ []) refl refl (w .few)
+      listed-short (0 ∷ postOp (attributes s (d .0)) ++ hyper 0) (entriesBytes (take n (entriesAbove cookie (entries s (d .0))))) (0 ∷ bit eof ∷ [])
+      refl refl (w .few)
   body-short (Reply.GotRoom o total free objects available) w = lit≤ tt
   body-short (Reply.GotLimits o) w = lit≤ tt
   body-short (Reply.GotNaming o) w = lit≤ tt

@@ -73,7 +73,8 @@ module _ (s s₅ s₆ s₇ : List ℕ) (stamp p q r z : ℕ) (clock : Time) (m :
   three-length : length (bytesOf 4 1 ++ bytesOf 4 stamp ++ bytesOf 4 p) ≡ 12
   three-length = simp (length-append, bytes-length)
 
-  run-front : s₅ ≡ frontOf s stamp p clock → s₅ ≡ bytesOf 4 1 ++ bytesOf 4 stamp ++ bytesOf 4 p ++ objectBytes (rootObject clock) ++ zeros (z + 4 + (nameRecordLength * q + 4 + 512 * r))
+  run-front : s₅ ≡ frontOf s stamp p clock → s₅ ≡ bytesOf 4 1 ++ bytesOf 4 stamp ++ bytesOf 4 p ++ objectBytes (rootObject clock) ++ zeros
+      (z + 4 + (nameRecordLength * q + 4 + 512 * r))
   unfolding putObject frontOf
   run-front e =
       let v = objectBytes (rootObject clock) in
@@ -91,22 +92,27 @@ module _ (s s₅ s₆ s₇ : List ℕ) (stamp p q r z : ℕ) (clock : Time) (m :
       let f₃ = overlay-more s 0 (b₁ ++ b₂) b₃ s₂ s₃ 8 (omega arith) l₂ f₂ refl in
       let f₄ = overlay-more s 0 (b₁ ++ b₂ ++ b₃) v s₃ s₄ 12 (omega arith) three-length f₃ refl in
       let w : length s - objectStart 1 ≡ k = omega arith in
-      let f₅ = overlay-more s 0 (b₁ ++ b₂ ++ b₃ ++ v) (zeros k) s₄ s₅ (objectStart 1) (omega arith) l₄ f₄ (e ∙ ap (λ (n : ℕ). overlay s₄ (objectStart 1) (zeros n)) w) in
+      let f₅ = overlay-more s 0 (b₁ ++ b₂ ++ b₃ ++ v) (zeros k) s₄ s₅ (objectStart 1) (omega arith) l₄ f₄
+      (e ∙ ap (λ (n : ℕ). overlay s₄ (objectStart 1) (zeros n)) w) in
       f₅ ∙ whole s (b₁ ++ b₂ ++ b₃ ++ v ++ zeros k) (long-all (b₁ ++ b₂ ++ b₃ ++ v) k (length s) l₄ (omega arith))
 
-  run-counts : (at bt : ℕ) → s₅ ≡ frontOf s stamp p clock → at ≡ objectsHead + objectLength * p → bt ≡ namesHead + objectLength * p + nameRecordLength * q → s₆ ≡ overlay s₅ at (bytesOf 4 q)
+  run-counts : (at bt : ℕ) → s₅ ≡ frontOf s stamp p clock → at ≡ objectsHead + objectLength * p
+      → bt ≡ namesHead + objectLength * p + nameRecordLength * q → s₆ ≡ overlay s₅ at (bytesOf 4 q)
       → s₇ ≡ overlay s₆ bt (bytesOf 4 r)
-      → s₇ ≡ bytesOf 4 1 ++ bytesOf 4 stamp ++ bytesOf 4 p ++ objectBytes (rootObject clock) ++ zeros z ++ bytesOf 4 q ++ zeros (nameRecordLength * q) ++ bytesOf 4 r ++ zeros (512 * r)
+      → s₇ ≡ bytesOf 4 1 ++ bytesOf 4 stamp ++ bytesOf 4 p ++ objectBytes (rootObject clock) ++ zeros z ++ bytesOf 4 q ++ zeros
+      (nameRecordLength * q) ++ bytesOf 4 r ++ zeros (512 * r)
   run-counts at bt e u w e₆ e₇ =
       let xs = bytesOf 4 1 ++ bytesOf 4 stamp ++ bytesOf 4 p ++ objectBytes (rootObject clock) in
       let l₅ : length xs ≡ objectStart 1 = simp (length-append, bytes-length, object-length) in
-      let f₆ = step s₅ s₆ xs (bytesOf 4 q) (z + 4 + (nameRecordLength * q + 4 + 512 * r)) z 4 (nameRecordLength * q + 4 + 512 * r) at (run-front e) e₆ refl (omega arith) (bytes-length 4 q) in
+      let f₆ = step s₅ s₆ xs (bytesOf 4 q) (z + 4 + (nameRecordLength * q + 4 + 512 * r)) z 4 (nameRecordLength * q + 4 + 512 * r) at (run-front e)
+      e₆ refl (omega arith) (bytes-length 4 q) in
       let ys = xs ++ zeros z ++ bytesOf 4 q in
       let l₆ : length ys ≡ 96 + z = simp (length-append, bytes-length, object-length, length-replicate) (omega arith) in
       step s₆ s₇ ys (bytesOf 4 r) (nameRecordLength * q + 4 + 512 * r) (nameRecordLength * q) 4 (512 * r) bt f₆ e₇ refl (omega arith) (bytes-length 4 r)
 
 pub format-run : (s s₅ s₆ s₇ : List ℕ) (stamp p q r at bt : ℕ) (clock : Time) → 1 ≤ p → length s ≡ imageLength p q r → s₅ ≡ frontOf s stamp p clock
-    → at ≡ objectsHead + objectLength * p → bt ≡ namesHead + objectLength * p + nameRecordLength * q → s₆ ≡ overlay s₅ at (bytesOf 4 q) → s₇ ≡ overlay s₆ bt (bytesOf 4 r) → s₇ ≡ formatted stamp p q r clock
+    → at ≡ objectsHead + objectLength * p → bt ≡ namesHead + objectLength * p + nameRecordLength * q → s₆ ≡ overlay s₅ at (bytesOf 4 q)
+    → s₇ ≡ overlay s₆ bt (bytesOf 4 r) → s₇ ≡ formatted stamp p q r clock
 unfolding formatted
 format-run s s₅ s₆ s₇ stamp p q r at bt clock h l e u w e₆ e₇ =
     run-counts s s₅ s₆ s₇ stamp p q r (objectLength * (p - 1)) clock (omega arith) l at bt e u w e₆ e₇ ∙ rw (words-three, words-one, words-one)

@@ -41,7 +41,13 @@ shaped-by s e =
 pub shape-good : (s : Store) → Shaped s → goodShape s ≡ true
 unfolding goodShape goodCounts
 shape-good s t =
-    rw (eq-eqb (volumes s) 1 (t .one), le-leb 1 (objects s) (t .least), le-leb (objects s) 64 (t .few), le-leb (names s) 128 (t .few-names), le-leb (blocks s) 1024 (t .few-blocks))
+    rw (
+      eq-eqb (volumes s) 1 (t .one),
+      le-leb 1 (objects s) (t .least),
+      le-leb (objects s) 64 (t .few),
+      le-leb (names s) 128 (t .few-names),
+      le-leb (blocks s) 1024 (t .few-blocks),
+    )
     (eq-eqb (length s) (imageLength (objects s) (names s) (blocks s)) (t .long))
 
 -- a store that is not shaped so
@@ -50,7 +56,8 @@ unfolding shapeOf
 shape-bad s f = by-bool (goodShape s) (λ e. absurd (f (shaped-by s e))) (λ e. sym (ap (λ (t : Bool). foundIf t s) e))
 
 -- a store that is, with the counts that were read
-pub shape-counts : (s : Store) (p q r : ℕ) → p ≡ objects s → q ≡ names s → r ≡ blocks s → Shaped s → Good (record { objects = p; names = q; blocks = r }) ≡ shapeOf s
+pub shape-counts : (s : Store) (p q r : ℕ) → p ≡ objects s → q ≡ names s → r ≡ blocks s → Shaped s
+    → Good (record { objects = p; names = q; blocks = r }) ≡ shapeOf s
 unfolding shapeOf
 shape-counts s p q r a b c t = rw (a, b, c) (sym (ap (λ (x : Bool). foundIf x s) (shape-good s t)))
 

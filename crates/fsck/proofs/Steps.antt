@@ -164,7 +164,8 @@ module _ (s : Store) (p : ℕ) (parents : List ℕ) (a : Parents s p parents) wh
       }
 
   -- ---- the steps written down
-  pub note-more : (depths : List ℕ) (at d up : ℕ) → Noted s p depths at d → getD depths at 0 ≡ 0 → up ≡ getD parents at 0 - 1 → Noted s p (set depths at (d + 1)) up (d - 1)
+  pub note-more : (depths : List ℕ) (at d up : ℕ) → Noted s p depths at d → getD depths at 0 ≡ 0 → up ≡ getD parents at 0 - 1
+      → Noted s p (set depths at (d + 1)) up (d - 1)
   note-more depths at d up n e u =
       let q : up ≡ parent s at = u ∙ sym (a .are at (n .below)) in
       let z = unknown depths (n .known) at e in

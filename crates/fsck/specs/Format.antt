@@ -20,7 +20,8 @@ answerFor length p q r nanoseconds = cond (ltb nanoseconds 1000000000) (cond (go
 -- the volume, the number of objects and the root, and all else zero
 unfoldable pub frontOf : Store → ℕ → ℕ → Time → Store
 frontOf s stamp p clock =
-    overlay (putObject (overlay (overlay (overlay s 0 (bytesOf 4 1)) stampOffset (bytesOf 4 stamp)) objectCountOffset (bytesOf 4 p)) 0 (rootObject clock)) (objectStart 1) (zeros (length s - objectStart 1))
+    overlay (putObject (overlay (overlay (overlay s 0 (bytesOf 4 1)) stampOffset (bytesOf 4 stamp)) objectCountOffset (bytesOf 4 p)) 0
+    (rootObject clock)) (objectStart 1) (zeros (length s - objectStart 1))
 
 -- a number and a buffer are what format gives
 pub record Leaves (f : Formatted) (number : ℕ) (store : List ℕ) : Type 0 where

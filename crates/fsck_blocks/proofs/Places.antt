@@ -80,7 +80,8 @@ pub marks-all : (s : Store) (used : List ℕ) → MarkedBy s (objects s) used �
     → UsedBy s (objects s) used
 unfolding placesBelow
 marks-all s used m e =
-    let f = sum-same (blocks s) (λ r. getD used r 0) (usesBelow s (objects s)) (λ r h. let a = m .marks r h in let b = mark-most (usesBelow s (objects s) r) in omega arith) (sym e) in
+    let f = sum-same (blocks s) (λ r. getD used r 0) (usesBelow s (objects s))
+    (λ r h. let a = m .marks r h in let b = mark-most (usesBelow s (objects s) r) in omega arith) (sym e) in
     record { long = m .long; uses = f; once = λ r h. let a = m .marks r h in let b = mark-small (usesBelow s (objects s) r) in omega arith }
 
 -- fewer: one is
@@ -111,7 +112,8 @@ marks-from m from n h = record { most = λ i l. let e : 0 + (from + i) ≡ from 
 pub used-once : (s : Store) (used : List ℕ) → UsedBy s (objects s) used → every (blocks s) (isUsedOnce s) ≡ true
 unfolding isUsedOnce uses
 used-once s used m =
-    every-all (isUsedOnce s) (blocks s) (λ r h. let u = m .uses r h in let w = m .once r h in le-leb (sum (objects s) (λ i. times r (held s i))) 1 (omega arith))
+    every-all (isUsedOnce s) (blocks s) (λ r h. let u = m .uses r h in let w = m .once r h in le-leb (sum (objects s) (λ i. times r (held s i))) 1
+    (omega arith))
 
 -- all objects pass: no block is used twice where as many are marked as there are places
 pub told-all : (s : Store) (used : List ℕ) (total marked count limit : ℕ) → count ≡ objects s → limit ≡ blocks s → total ≡ placesBelow s count

@@ -73,7 +73,8 @@ one-more zero z = absurd (z refl)
 one-more (suc k) z = omega arith
 
 -- ---- one test more, where the store fails if it is true
-told-or : {facts more : Type 0} {s : Store} (t u : Bool) → Told (not t) s facts → (facts → u ≡ false → more) → (u ≡ true → passes s ≡ false) → Told (not (t || u)) s more
+told-or : {facts more : Type 0} {s : Store} (t u : Bool) → Told (not t) s facts → (facts → u ≡ false → more) → (u ≡ true → passes s ≡ false)
+    → Told (not (t || u)) s more
 told-or true u a f g = told-false (a .no refl)
 told-or false true a f g = told-false (g refl)
 told-or false false a f g = told-true (f (a .yes refl) refl)
@@ -96,7 +97,8 @@ module _ (s : Store) (t : Shaped s) (n h : ℕ) (w : New s n h) where
   other m l f =
       by-bool (isSame s n m)
       (λ e. by-bool (isUsedName s m)
-      (λ u. let v = used-before m l u in absurd (f u (same-hash s t n m (w .itself .below) (v .below) (used-good s t n (w .itself)) (used-good s t m v) e ∙ sym (w .hashed))))
+      (λ u. let v = used-before m l u in absurd
+      (f u (same-hash s t n m (w .itself .below) (v .below) (used-good s t n (w .itself)) (used-good s t m v) e ∙ sym (w .hashed))))
       (λ u. true-false (sym (alike s n m e .used) ∙ u)))
       (λ e. e)
 
@@ -116,8 +118,10 @@ module _ (s : Store) (t : Shaped s) (n h : ℕ) (w : New s n h) where
   unfolding isDistinct
   walk-same m l e =
       let v = w .itself in
-      let b = count-two (isNamed s (nameAt s n .directory) (nameAt s n .text)) (names s) n m l (v .below) e (same-self s t n (v .below) (used-good s t n v) (v .used)) in
-      fails-distinct s n (v .below) (rw (v .used) (ne-eqb (count (names s) (isNamed s (nameAt s n .directory) (nameAt s n .text))) 1 (λ q. absurd (omega arith))))
+      let b = count-two (isNamed s (nameAt s n .directory) (nameAt s n .text)) (names s) n m l (v .below) e
+      (same-self s t n (v .below) (used-good s t n v) (v .used)) in
+      fails-distinct s n (v .below) (rw (v .used)
+      (ne-eqb (count (names s) (isNamed s (nameAt s n .directory) (nameAt s n .text))) 1 (λ q. absurd (omega arith))))
 
   walk-on : (i j k : ℕ) (found : Bool) → i ≡ suc j → hash s j ≡ h → Walked s n h found i → k ≡ last s j (hash s j) → Walked s n h (found || isSame s n j) k
   walk-on i j k found q g a e =
@@ -134,7 +138,8 @@ module _ (s : Store) (t : Shaped s) (n h : ℕ) (w : New s n h) where
         at = λ z. last-at s h j (k - 1) (sym r ∙ one-more k z);
       }
 
-  pub walk-step : (i k : ℕ) (found : Bool) → (i ≡ 0 → ⊥) → Walked s n h found i → k ≡ last s (i - 1) (hash s (i - 1)) → Walked s n h (found || isSame s n (i - 1)) k
+  pub walk-step : (i k : ℕ) (found : Bool) → (i ≡ 0 → ⊥) → Walked s n h found i → k ≡ last s (i - 1) (hash s (i - 1))
+      → Walked s n h (found || isSame s n (i - 1)) k
   walk-step i k found z a e = walk-on i (i - 1) k found (one-more i z) (a .at z .1) a e
 
 -- ---- the chains before the first record, after a free one and after a used one

@@ -46,7 +46,8 @@ short-text xs e =
 -- the stated length is that of the text, unless the text runs out of the store
 long-text : (s : Store) (n : ℕ) → Shaped s → n < names s → length (nameAt s n .text) ≤ 32 → nameLength s n ≤ 32
 unfolding nameAt nameFrom nameLength
-long-text s n t h l = ⊎-elim (λ (q : 32 < beAt s (nameStart s n + 8) 4). let w = part-long s (nameStart s n + 12) (beAt s (nameStart s n + 8) 4) (omega (arith, t .long)) q in absurd (omega arith)) (λ (q : beAt s (nameStart s n + 8) 4 ≤ 32). q) (lt-or-le 32 (beAt s (nameStart s n + 8) 4))
+long-text s n t h l = ⊎-elim (λ (q : 32 < beAt s (nameStart s n + 8) 4). let w = part-long s (nameStart s n + 12) (beAt s (nameStart s n + 8) 4)
+    (omega (arith, t .long)) q in absurd (omega arith)) (λ (q : beAt s (nameStart s n + 8) 4 ≤ 32). q) (lt-or-le 32 (beAt s (nameStart s n + 8) 4))
 
 pub used-well : (s : Store) (n : ℕ) → Shaped s → n < names s → goodUsed s n ≡ true → UsedWell s n
 unfolding goodUsed

@@ -97,7 +97,8 @@ module _ (s : Store) (at n : ℕ) (fits : at + 32 ≤ length s) (least : 1 ≤ n
   text-yes dots d e = rw (named, d) (padded-yes (goodBytes (part s at n)) (isZero (part s (at + n) (32 - n))) (not (isDots (part s at n))) e)
 
 -- ---- the bytes of two parts, by their numbers and half by half
-pub same-number : (s : Store) (a b w : ℕ) → Below 256 s → a + w ≤ length s → b + w ≤ length s → eqb (beAt s a w) (beAt s b w) ≡ sameBytes (part s a w) (part s b w)
+pub same-number : (s : Store) (a b w : ℕ) → Below 256 s → a + w ≤ length s → b + w ≤ length s → eqb (beAt s a w) (beAt s b w)
+    ≡ sameBytes (part s a w) (part s b w)
 unfolding beAt
 same-number s a b w f h l =
     by-bool (sameBytes (part s a w) (part s b w))
@@ -128,7 +129,8 @@ same-quarters s a b h l t u v w et eu ev ew =
     let x : a + 16 + 8 ≡ a + 24 = omega arith in
     let y : b + 16 + 8 ≡ b + 24 = omega arith in
     let front : t && u ≡ sameBytes (part s a 16) (part s b 16) = rw (et, eu) (same-halves s a b 8 8 (omega arith) (omega arith)) in
-    let back : v && w ≡ sameBytes (part s (a + 16) 16) (part s (b + 16) 16) = rw (ev, ew, ← x, ← y) (same-halves s (a + 16) (b + 16) 8 8 (omega arith) (omega arith)) in
+    let back : v && w ≡ sameBytes (part s (a + 16) 16) (part s (b + 16) 16) =
+    rw (ev, ew, ← x, ← y) (same-halves s (a + 16) (b + 16) 8 8 (omega arith) (omega arith)) in
     ap₂ (λ (i j : Bool). i && j) front back ∙ same-halves s a b 16 16 (omega arith) (omega arith)
 
 -- ---- a free record, whose length is 0

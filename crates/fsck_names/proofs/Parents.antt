@@ -114,7 +114,8 @@ module _ (s : Store) (t : Shaped s) (n : ℕ) (l : n < names s) (u : isUsedName 
       record {
         long = simp length-set (a .long);
         marks = λ r q. by-cases (ℕ-discrete r c)
-            (λ (x : r ≡ c). rw (x, getD-set-same parents c (d + 1) 0 i, lowest-hit (isNaming s c) n (n + 1) o (names-child c (sym e)) (omega arith)) (ap (λ (k : ℕ). k + 1) g))
+            (λ (x : r ≡ c). rw (x, getD-set-same parents c (d + 1) 0 i, lowest-hit (isNaming s c) n (n + 1) o (names-child c (sym e)) (omega arith))
+            (ap (λ (k : ℕ). k + 1) g))
             (λ (x : r ≢ c). getD-set-other parents c r (d + 1) 0 x ∙ a .marks r q
             ∙ ap (markOf s) (sym (lowest-skip (isNaming s r) n (names-other r (λ y. x (sym y ∙ sym e))))));
         once = λ r q. by-cases (ℕ-discrete r c)

@@ -106,9 +106,11 @@ module _ (s : Store) (t : Shaped s) where
         let q : nameLength s m ≡ nameLength s n = a .long ∙ long-of n h w in
         whole m l v ∙ ap₂ (λ (x : List ℕ) (k : ℕ). x ++ replicate (32 - k) 0) (a .text) q ∙ sym (whole n h w)
 
-    alike-by : isUsedName s m ≡ true → nameAt s m .directory ≡ nameAt s n .directory → part s (nameStart s m + 12) 32 ≡ part s (nameStart s n + 12) 32 → Alike s n m
+    alike-by : isUsedName s m ≡ true → nameAt s m .directory ≡ nameAt s n .directory → part s (nameStart s m + 12) 32 ≡ part s (nameStart s n + 12)
+        32 → Alike s n m
     alike-by u d e =
-        let x = padded-same (nameAt s m .text) (nameAt s n .text) (32 - nameLength s m) (32 - nameLength s n) (v .bytes) (w .bytes) (sym (whole m l v) ∙ e ∙ whole n h w) in
+        let x = padded-same (nameAt s m .text) (nameAt s n .text) (32 - nameLength s m) (32 - nameLength s n) (v .bytes) (w .bytes)
+        (sym (whole m l v) ∙ e ∙ whole n h w) in
         record { used = u; directory = d; long = sym (long-of m l v) ∙ ap length x; text = x }
 
     pub same-hash : isSame s n m ≡ true → hash s m ≡ hash s n
@@ -128,7 +130,8 @@ module _ (s : Store) (t : Shaped s) where
         (λ f. f ∙ sym e))
 
     -- as the code finds it
-    pub same-found : (p a b x y : ℕ) (t : Bool) → p ≡ objects s → a ≡ namesHead + objectLength * p + nameRecordLength * m → b ≡ namesHead + objectLength * p + nameRecordLength * n
+    pub same-found : (p a b x y : ℕ) (t : Bool) → p ≡ objects s → a ≡ namesHead + objectLength * p + nameRecordLength * m
+        → b ≡ namesHead + objectLength * p + nameRecordLength * n
         → x ≡ nameAt s m .directory → y ≡ nameAt s n .directory → t ≡ sameBytes (part s (a + 12) 32) (part s (b + 12) 32) → isUsedName s m ≡ true
         → eqb x y && t ≡ isSame s n m
     same-found p a b x y t ep ea eb ex ey et u = rw (et, ex, ey, ea, eb, ep) (same-is u)
@@ -140,16 +143,27 @@ pub word-low : (b : List ℕ) (at : ℕ) → at + 8 ≤ length b
     ≡ wordAt b at
 unfolding lowFirst beOf digits part
 word-low b at h =
-    rw (part-cons b at 7 (omega arith), part-cons b (suc at) 6 (omega arith), part-cons b (suc (suc at)) 5 (omega arith), part-cons b (suc (suc (suc at))) 4 (omega arith), part-cons b (suc (suc (suc (suc at)))) 3 (omega arith), part-cons b (suc (suc (suc (suc (suc at))))) 2 (omega arith), part-cons b (suc (suc (suc (suc (suc (suc at)))))) 1 (omega arith), part-cons b (suc (suc (suc (suc (suc (suc (suc at))))))) 0 (omega arith))
+    rw (
+      part-cons b at 7 (omega arith),
+      part-cons b (suc at) 6 (omega arith),
+      part-cons b (suc (suc at)) 5 (omega arith),
+      part-cons b (suc (suc (suc at))) 4 (omega arith),
+      part-cons b (suc (suc (suc (suc at)))) 3 (omega arith),
+      part-cons b (suc (suc (suc (suc (suc at))))) 2 (omega arith),
+      part-cons b (suc (suc (suc (suc (suc (suc at)))))) 1 (omega arith),
+      part-cons b (suc (suc (suc (suc (suc (suc (suc at))))))) 0 (omega arith),
+    )
     (simp towards-suc (omega arith))
 
-pub hash-by : (s : Store) (p n at d a b e f u v w x : ℕ) → p ≡ objects s → at ≡ namesHead + objectLength * p + nameRecordLength * n → d ≡ nameAt s n .directory → a ≡ wordAt s (at + 12)
+pub hash-by : (s : Store) (p n at d a b e f u v w x : ℕ) → p ≡ objects s → at ≡ namesHead + objectLength * p + nameRecordLength * n
+    → d ≡ nameAt s n .directory → a ≡ wordAt s (at + 12)
     → b ≡ wordAt s (at + 20) → e ≡ wordAt s (at + 28) → f ≡ wordAt s (at + 36) → u ≡ joined d a → v ≡ joined u b → w ≡ joined v e
     → x ≡ joined w f → (x / 2 ^ 32 * 2104504639 + x % 2 ^ 32 * 1511612125) / 2 ^ 27 % 256 ≡ hash s n
 unfolding hash mix
 hash-by s p n at d a b e f u v w x ep eat ed ea eb ee ef eu ev ew ex =
     let t = nameStart s n + 12 in
-    let word : (i q : ℕ) → i + 8 ≤ 32 → q ≡ t + i → wordAt s q ≡ wordAt (part s t 32) i = λ i q h z. ap (wordAt s) z ∙ ap lowFirst (sym (part-part s t 32 i 8 h)) in
+    let word : (i q : ℕ) → i + 8 ≤ 32 → q ≡ t + i → wordAt s q ≡ wordAt (part s t 32) i = λ i q h z. ap (wordAt s) z ∙ ap lowFirst
+    (sym (part-part s t 32 i 8 h)) in
     rw (
       ex,
       ew,

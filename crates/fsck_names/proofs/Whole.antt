@@ -84,4 +84,5 @@ distinct-all s t parents head next a =
 
     one : (n : ℕ) → n < names s → isUsedName s n ≡ true → eqb (count (names s) (isNamed s (nameAt s n .directory) (nameAt s n .text))) 1 ≡ true
     one n l u =
-        eq-eqb _ _ (count-one (isNamed s (nameAt s n .directory) (nameAt s n .text)) (names s) n l (same-self s t n l (well n l u) u) (λ m h d. no-other n m l h u d))
+        eq-eqb _ _ (count-one (isNamed s (nameAt s n .directory) (nameAt s n .text)) (names s) n l (same-self s t n l (well n l u) u)
+        (λ m h d. no-other n m l h u d))

@@ -90,7 +90,8 @@ module _ (s : Store) (o count k : ℕ) (t : Shaped s) (a : LiveAt s o count) (h 
       ≡ sum (blocks s) (λ r. times r (take k (objectAt s o .blocks))) + 1
   places-more l =
       let x = getD (objectAt s o .blocks) k 0 in
-      let e = sum-ext (blocks s) (λ r. times r (take (k + 1) (objectAt s o .blocks))) (λ r. times r (take k (objectAt s o .blocks)) + bit (eqb x r)) (λ r q. times-next (objectAt s o .blocks) r k short) in
+      let e = sum-ext (blocks s) (λ r. times r (take (k + 1) (objectAt s o .blocks))) (λ r. times r (take k (objectAt s o .blocks)) + bit (eqb x r))
+      (λ r q. times-next (objectAt s o .blocks) r k short) in
       let f = sum-add (blocks s) (λ r. times r (take k (objectAt s o .blocks))) (λ r. bit (eqb x r)) in
       let g = sum-one x (blocks s) l in
       omega arith
@@ -119,7 +120,8 @@ module _ (s : Store) (o count k : ℕ) (t : Shaped s) (a : LiveAt s o count) (h 
   unfolding goodObject goodLive goodBlock goodFields
   mark-out l =
       let g : goodBlock (blocks s) (objectAt s o) k ≡ false = rw (lt-ltb k (need (objectAt s o .size)) (omega (arith, a .needs)), le-ltb _ _ l) in
-      fails-object s o (a .below) (rw (a .live, every-fails (goodBlock (blocks s) (objectAt s o)) k 16 g (omega (arith, a .most))) (and-false (goodFields (objectAt s o))))
+      fails-object s o (a .below) (rw (a .live, every-fails (goodBlock (blocks s) (objectAt s o)) k 16 g (omega (arith, a .most)))
+      (and-false (goodFields (objectAt s o))))
 
 -- four numbers are below a bound
 pub record InRange (l x y z w : ℕ) : Type 0 where

@@ -38,7 +38,8 @@ fields-size-of v e =
 pub fields-size : (v : Object) → goodFields v ≡ true → v .size ≤ 8192
 unfolding goodFields
 fields-size v e =
-    fields-size-of v (and-both (ltb (v .generation) 4294967295 && leb (v .mode) 4095 && goodTime (v .atime) && goodTime (v .mtime) && goodTime (v .ctime)) (goodSize v) e .1)
+    fields-size-of v (and-both (ltb (v .generation) 4294967295 && leb (v .mode) 4095 && goodTime (v .atime) && goodTime (v .mtime) && goodTime
+    (v .ctime)) (goodSize v) e .1)
 
 pub fields-need : (v : Object) → goodFields v ≡ true → need (v .size) ≤ 16
 fields-need v e = let l = fields-size v e in omega arith

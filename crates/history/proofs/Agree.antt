@@ -113,7 +113,13 @@ module _ (P Q σ : ℕ) (v w : View) (o q k d : ℕ) (t : List ℕ) (T : Tree P 
           ind-yes (used? w p) (omega (arith, ap (λ (x : ℕ). length (w .text x)) e, ap length (B .nam .text), B .some)),
         ))
         (λ n. let s = B .nam .other p (λ e. n (sym e)) in
-        omega (arith, ap bit (ne-eqb q p n), A .each p, ind-same (used? v p) (used? w p) (λ u. omega (arith, ap length (s .text))) (λ u. omega (arith, ap length (s .text)))));
+        omega (
+          arith,
+          ap bit (ne-eqb q p n),
+          A .each p,
+          ind-same (used? v p) (used? w p) (λ u. omega (arith, ap length (s .text)))
+              (λ u. omega (arith, ap length (s .text))),
+        ));
     lines =
         let m = map-all (lineOf σ v) (lineOf σ w) (A .order) (all-map (λ p u. added-line p u) (A .order) (all-used v (A .order) (A .each))) in
         let r = same-root σ v w (kept 0 (omega (arith, T .flat .root))) in
@@ -133,7 +139,8 @@ module _ (P Q σ : ℕ) (v : View) (T : Tree P Q v) (q : ℕ) (u : Used v q) whe
   pub own : (p : ℕ) → Used v p → lineOf σ v p .standing ≡ under (handleIn σ v (v .dir q)) (v .text q) → p ≡ q
   own p x h =
       let g : handleIn σ v (v .dir p) ≡ handleIn σ v (v .dir q) = cc in
-      let e = same-object σ (v .dir p) (v .gen (v .dir p)) (v .dir q) (v .gen (v .dir q)) (within (v .dir p) (T .flat .dirs p x)) (within (v .dir q) (T .flat .dirs q u)) g in
+      let e = same-object σ (v .dir p) (v .gen (v .dir p)) (v .dir q) (v .gen (v .dir q)) (within (v .dir p) (T .flat .dirs p x))
+      (within (v .dir q) (T .flat .dirs q u)) g in
       one-entry P Q v (T .flat) (v .dir q) (v .text q) p q (x, e, cc) (u, refl, refl)
 
   pub not-root : rootLine σ v .standing ≡ under (handleIn σ v (v .dir q)) (v .text q) → ⊥
@@ -226,8 +233,10 @@ module _ (P Q σ : ℕ) (v w : View) (q e : ℕ) (t : List ℕ) (T : Tree P Q v)
   moved-agrees = record {
     order = A .order;
     each = λ p. A .each p ∙ ind-same (used? v p) (used? w p)
-        (λ u. by-cases (ℕ-discrete p q) (λ x. omega (arith, M .some, ap (λ (y : ℕ). length (w .text y)) x, ap length (M .nam .text))) (λ n. omega (arith, ap length (M .nam .other p n .text))))
-        (λ u. by-cases (ℕ-discrete p q) (λ x. omega (arith, M .used, ap (λ (y : ℕ). length (v .text y)) x)) (λ n. omega (arith, ap length (M .nam .other p n .text))));
+        (λ u. by-cases (ℕ-discrete p q) (λ x. omega (arith, M .some, ap (λ (y : ℕ). length (w .text y)) x, ap length (M .nam .text)))
+        (λ n. omega (arith, ap length (M .nam .other p n .text))))
+        (λ u. by-cases (ℕ-discrete p q) (λ x. omega (arith, M .used, ap (λ (y : ℕ). length (v .text y)) x))
+        (λ n. omega (arith, ap length (M .nam .other p n .text))));
     lines = ap (moveLines E (v .text q) (handleIn σ v e) t) (A .lines) ∙ moved-lines (A .order) (all-used v (A .order) (A .each));
   }
 

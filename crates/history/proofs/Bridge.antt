@@ -20,7 +20,8 @@ use Rattle.history.proofs.View.{Live, Used, At, at?, entries, entry-by}
 use Rattle.history.proofs.Tree.{Flat, Tree, lone, live-bound, path-short}
 use Rattle.history.proofs.Room.{Room}
 use Rattle.history.proofs.Walk.{path-walk, walk-path}
-use Rattle.history.proofs.Seen.{view, heldBy, kind-at, dir-at, child-at, text-at, held-at, live-in, used-in, held-in, uses-same, text-long, namings-same, entries-same, above-same}
+use Rattle.history.proofs.Seen.{view, heldBy, kind-at, dir-at, child-at, text-at, held-at, live-in, used-in, held-in, uses-same, text-long}
+use Rattle.history.proofs.Seen.{namings-same, entries-same, above-same}
 
 module _ (s : Store) (K : Valid s) where
   used-name : (n : ℕ) → Used (view s) n → UsedName s n

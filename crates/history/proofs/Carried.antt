@@ -52,7 +52,11 @@ module _ (σ p q r : ℕ) (s : Store) (L : Ledger) (I : Inv σ p q r s L) where
     where
       go : Tree p q (view s) → (x : Option ℕ) → naming (names s) (view s) d ≡ x → Live (view s) (directoryAt (view s) x)
       go T none z = omega (arith, T .flat .root)
-      go T (some n) z = omega (arith, T .flat .dirs n (holds-true (names? (view s) n d) (lowest-passes (λ n. holds (names? (view s) n d)) (names s) n z .passes) .0))
+      go T (some n) z = omega (
+        arith,
+        T .flat .dirs n
+            (holds-true (names? (view s) n d) (lowest-passes (λ n. holds (names? (view s) n d)) (names s) n z .passes) .0),
+      )
 
   look-live : (d : ℕ) (text : List ℕ) (o : ℕ) → Live (view s) d → lookIn s d text ≡ passed o → Live (view s) o
   unfolding lookIn
@@ -85,7 +89,8 @@ module _ (σ p q r : ℕ) (s : Store) (L : Ledger) (I : Inv σ p q r s L) where
       let l : Live (view s) d = omega (arith, kind-at s d (w .below)) in
       subst (Live (view s)) (ap (λ (y : ℕ × ℕ). y .1) is) (look-live d text o l e₃))))
 
-  lookup-shown : (call reply : List ℕ) (place : NameIn) → Answer call reply (Call.Lookup place) (Spec.lookup s (cut call (place .directory)) (cut call (place .name)) .result)
+  lookup-shown : (call reply : List ℕ) (place : NameIn)
+      → Answer call reply (Call.Lookup place) (Spec.lookup s (cut call (place .directory)) (cut call (place .name)) .result)
       → isOk reply ≡ true → Current σ (view s) (foundHandle reply)
   unfolding Spec.lookup handleOf
   lookup-shown call reply place A t = go (checkLookup s h text) refl A
@@ -97,7 +102,8 @@ module _ (σ p q r : ℕ) (s : Store) (L : Ledger) (I : Inv σ p q r s L) where
       text = cut call (place .name)
 
       go : (x : Checked (ℕ × ℕ)) → checkLookup s h text ≡ x
-          → Answer call reply (Call.Lookup place) (settle s (failShowing s h) x (λ f. unchanged s (found (handleOf s (f .1)) (attributes s (f .1)) (attributes s (f .0)))) .result)
+          → Answer call reply (Call.Lookup place) (settle s (failShowing s h) x
+          (λ f. unchanged s (found (handleOf s (f .1)) (attributes s (f .1)) (attributes s (f .0)))) .result)
           → Current σ (view s) (foundHandle reply)
       go (refused n) e A =
           let b = sure-lookup s h text n e in
@@ -131,7 +137,8 @@ module _ (σ p q r : ℕ) (s : Store) (L : Ledger) (I : Inv σ p q r s L) where
     unfolding act
     carried h (lookup place e) =
         carried-by (Call.Lookup place) (foundHandle (replyTo s x)) e (λ k.
-        subst (λ (u : Store). Current σ (view u) (foundHandle (replyTo s x))) (sym (lookup-store s (cut (x .call) (place .directory)) (cut (x .call) (place .name))))
+        subst (λ (u : Store). Current σ (view u) (foundHandle (replyTo s x)))
+        (sym (lookup-store s (cut (x .call) (place .directory)) (cut (x .call) (place .name))))
         (lookup-shown (x .call) (replyTo s x) place (answer-to σ p q r s L I x (Call.Lookup place) k) t))
     carried h (create place manner e) =
         carried-by (Call.Create place manner) (madeHandle (replyTo s x)) e (λ k.

@@ -66,7 +66,8 @@ new-each : (s : Store) (d : ℕ) (text : List ℕ) (invalid : Bool) → checkNew
 unfolding checkNew
 new-each s d text invalid e = go (checkName text) (isDots text) invalid e
   where
-    go : (c : Checked (Unit {0})) (t u : Bool) → bind c (λ _. bind (refuseIf t 17) (λ _. refuseIf u 22)) ≡ passed tt → (c ≡ passed tt) × (t ≡ false) × (u ≡ false)
+    go : (c : Checked (Unit {0})) (t u : Bool) → bind c (λ _. bind (refuseIf t 17) (λ _. refuseIf u 22)) ≡ passed tt
+        → (c ≡ passed tt) × (t ≡ false) × (u ≡ false)
     go (refused n) t u e = let z : _≡_ {A = ℕ} 0 1 = cc in absurd (omega arith)
     go (passed _) true u e = let z : _≡_ {A = ℕ} 0 1 = cc in absurd (omega arith)
     go (passed _) false true e = let z : _≡_ {A = ℕ} 0 1 = cc in absurd (omega arith)

@@ -93,7 +93,8 @@ module _ (σ p q r : ℕ) (s : Store) (L : Ledger) (I : Inv σ p q r s L) where
   T = tree σ p q r s L I
 
   live-bit : (i : ℕ) → i < objects s → ind (live? (view s) i) ≡ bit (isLive s i)
-  live-bit i l = ap bit (holds-same (live? (view s) i) (isLive s i) (λ v. true-live s i (omega (arith, kind-at s i l))) (λ e. omega (arith, kind-at s i l, live-true s i e)))
+  live-bit i l = ap bit (holds-same (live? (view s) i) (isLive s i) (λ v. true-live s i (omega (arith, kind-at s i l)))
+      (λ e. omega (arith, kind-at s i l, live-true s i e)))
 
   -- ---- the records that have a line are the live ones, and the files among them those that have a file's
   line-object : (l : Line) → List·Memᴰ l (L .book) → Live (view s) (objectIn (l .handle)) × (view s .kind (objectIn (l .handle)) ≡ l .kind)
@@ -124,7 +125,8 @@ module _ (σ p q r : ℕ) (s : Store) (L : Ledger) (I : Inv σ p q r s L) where
 
   pub living-count : living p (view s) ≡ liveObjects s
   unfolding liveObjects
-  living-count = ap (λ (n : ℕ). sum n (λ i. ind (live? (view s) i))) (sym (I .objs)) ∙ sum-ext (objects s) (λ i. ind (live? (view s) i)) (λ i. bit (isLive s i)) live-bit
+  living-count = ap (λ (n : ℕ). sum n (λ i. ind (live? (view s) i))) (sym (I .objs)) ∙ sum-ext (objects s) (λ i. ind (live? (view s) i))
+      (λ i. bit (isLive s i)) live-bit
 
   line-living : linedObjects p (L .book) ≡ living p (view s)
   unfolding linedObjects
@@ -147,7 +149,8 @@ module _ (σ p q r : ℕ) (s : Store) (L : Ledger) (I : Inv σ p q r s L) where
         arith,
         total-map N (lineOf σ v) (A .order),
         total-times q (λ _. 1) (A .order) below,
-        sum-ext q (λ n. times n (A .order) * 1) (λ n. bit (isUsedName s n)) (λ n l. mul-one (times n (A .order)) ∙ A .each n ∙ used-bit n (omega (arith, I .nams))),
+        sum-ext q (λ n. times n (A .order) * 1) (λ n. bit (isUsedName s n))
+            (λ n l. mul-one (times n (A .order)) ∙ A .each n ∙ used-bit n (omega (arith, I .nams))),
         ap (λ (k : ℕ). count k (isUsedName s)) (I .nams),
       )
     where
@@ -228,7 +231,8 @@ module _ (σ p q r : ℕ) (s : Store) (L : Ledger) (I : Inv σ p q r s L) where
       (λ v. inr (omega (arith, ind-no (live? (view s) o) v)))
 
   -- ---- spent records
-  last-gen : (i : ℕ) → i < p → (isAmong (lastHandle σ i) (L .given) && not (isLined (lastHandle σ i) (L .book)) ≡ true) ↔ ((view s .kind i ≡ 0) × (view s .gen i ≡ 4294967295))
+  last-gen : (i : ℕ) → i < p → (isAmong (lastHandle σ i) (L .given) && not (isLined (lastHandle σ i) (L .book)) ≡ true) ↔
+      ((view s .kind i ≡ 0) × (view s .gen i ≡ 4294967295))
   unfolding T
   last-gen i l = (
     (λ e. let (a, b) = and-both (isAmong (lastHandle σ i) (L .given)) (not (isLined (lastHandle σ i) (L .book))) e in
@@ -253,7 +257,8 @@ module _ (σ p q r : ℕ) (s : Store) (L : Ledger) (I : Inv σ p q r s L) where
   )
 
   -- a record is available, live or spent
-  one-of : (i : ℕ) → i < p → bit (isAvailable s i) + (ind (live? (view s) i) + bit (isAmong (lastHandle σ i) (L .given) && not (isLined (lastHandle σ i) (L .book)))) ≡ 1
+  one-of : (i : ℕ) → i < p → bit (isAvailable s i)
+      + (ind (live? (view s) i) + bit (isAmong (lastHandle σ i) (L .given) && not (isLined (lastHandle σ i) (L .book)))) ≡ 1
   unfolding isAvailable
   one-of i l =
       let k : i < objects s = omega (arith, I .objs) in

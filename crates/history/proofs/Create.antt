@@ -50,12 +50,14 @@ pub record Made (σ p q r : ℕ) (s t : Store) (L : Ledger) (reply : List ℕ) :
   pub owes : Owes σ p q r s t L
   pub shown : isOk reply ≡ true → Current σ (view t) (madeHandle reply)
 
-module _ (σ p q r : ℕ) (s : Store) (L : Ledger) (I : Inv σ p q r s L) (c : Context) (clock : GoodClock (c .clock)) (call reply : List ℕ) (bytes : Below 256 call) where
+module _ (σ p q r : ℕ) (s : Store) (L : Ledger) (I : Inv σ p q r s L) (c : Context) (clock : GoodClock (c .clock)) (call reply : List ℕ)
+    (bytes : Below 256 call) where
   cut-below : (x : _) → Below 256 (cut call x)
   cut-below x = below-part 256 call (x .start) (x .length) (lit< tt) bytes
 
   -- the handle of CREATE's or MKDIR's reply
-  pub made-handle : (a : Arguments) (t : Store) (o d : ℕ) → Answer call reply a (created (handleOf t o) (attributes t o) (change s t d)) → madeHandle reply ≡ handleOf t o
+  pub made-handle : (a : Arguments) (t : Store) (o d : ℕ) → Answer call reply a (created (handleOf t o) (attributes t o) (change s t d))
+      → madeHandle reply ≡ handleOf t o
   unfolding handleOf
   made-handle a t o d A =
       ap madeHandle (A .is) ∙ made-is (A .xid) (A .procedure) (stamp t) o (objectAt t o .generation) (attributes t o) (change s t d)
@@ -66,7 +68,8 @@ module _ (σ p q r : ℕ) (s : Store) (L : Ledger) (I : Inv σ p q r s L) (c : C
   shown-handle a t M J o d l A = (o, l, made-handle a t o d A ∙ handle-seen σ p q r t M J o (live-in t o l))
 
   -- a refusal
-  failed-made : (a : Arguments) (h : List ℕ) (n : ℕ) → 0 < n → n < 4294967296 → Answer call reply a (failChanging s h n) → Made σ p q r s s (note call reply L) reply
+  failed-made : (a : Arguments) (h : List ℕ) (n : ℕ) → 0 < n → n < 4294967296 → Answer call reply a (failChanging s h n)
+      → Made σ p q r s s (note call reply L) reply
   failed-made a h n l m A =
       record {
         owes = subst (Owes σ p q r s s) (sym (note-failed call reply a _ A n (changing-says s h n) l m L)) (keeps-refl σ p q r s L I .owes);
@@ -91,7 +94,8 @@ module _ (σ p q r : ℕ) (s : Store) (L : Ledger) (I : Inv σ p q r s L) (c : C
     -- of a new file, and of one that is there
     made-new : (a : Settable) (d o n : ℕ) → FitsSettable a → Reached s h d → objectAt s d .kind ≡ 2 → GoodName text → Allowed a
         → findName s d text ≡ none → NewRoom s (sizeSet (a .size) 0) o n
-        → Answer call reply (Call.Create place manner) (createEdit s c d text a (new o n) .result) → Made σ p q r s (createEdit s c d text a (new o n) .store) (note call reply L) reply
+        → Answer call reply (Call.Create place manner) (createEdit s c d text a (new o n) .result)
+        → Made σ p q r s (createEdit s c d text a (new o n) .store) (note call reply L) reply
     unfolding h text
     made-new a d o n f w dk good ok z room A =
         let k = directory-kind σ p q r s L I c clock h text d w dk (cut-below (place .directory)) in
@@ -107,7 +111,8 @@ module _ (σ p q r : ℕ) (s : Store) (L : Ledger) (I : Inv σ p q r s L) (c : C
           shown = λ _. shown-handle (Call.Create place manner) (newEdit s c 1 o n d text a) _ (step .owes .inv) o d alive A;
         }
 
-    made-there : (a : Settable) (d o m : ℕ) → Reached s h d → objectAt s d .kind ≡ 2 → Allowed a → findName s d text ≡ some m → nameAt s m .child ≡ o → ExistingPassed s a o
+    made-there : (a : Settable) (d o m : ℕ) → Reached s h d → objectAt s d .kind ≡ 2 → Allowed a → findName s d text ≡ some m → nameAt s m .child ≡ o
+        → ExistingPassed s a o
         → Answer call reply (Call.Create place manner) (createEdit s c d text a (existing o) .result)
         → Made σ p q r s (createEdit s c d text a (existing o) .store) (note call reply L) reply
     unfolding h text
@@ -133,7 +138,8 @@ module _ (σ p q r : ℕ) (s : Store) (L : Ledger) (I : Inv σ p q r s L) (c : C
         fits-of (How.Guarded a) e f d t k = f
         fits-of (How.Exclusive verifier) e f d t k = only-ctime-fits
 
-        target : (d : ℕ) (t : Target) → CreatePassed s h text manner d t → Answer call reply (Call.Create place manner) (createEdit s c d text (settableOf manner) t .result)
+        target : (d : ℕ) (t : Target) → CreatePassed s h text manner d t → Answer call reply (Call.Create place manner)
+            (createEdit s c d text (settableOf manner) t .result)
             → Made σ p q r s (createEdit s c d text (settableOf manner) t .store) (note call reply L) reply
         target d (new o n) k A =
             let (z, room) = k .target in
@@ -187,8 +193,10 @@ module _ (σ p q r : ℕ) (s : Store) (L : Ledger) (I : Inv σ p q r s L) (c : C
     mkdir-made A = go (checkMkdir s g name a) refl A
       where
         go : (x : Checked (ℕ × ℕ × ℕ)) → checkMkdir s g name a ≡ x
-            → Answer call reply (Call.Mkdir place a) (settle s (failChanging s g) x (λ p. createdIn s (newEdit s c 2 (p .1) (p .2) (p .0) name a) (p .0) (p .1)) .result)
-            → Made σ p q r s (settle s (failChanging s g) x (λ p. createdIn s (newEdit s c 2 (p .1) (p .2) (p .0) name a) (p .0) (p .1)) .store) (note call reply L) reply
+            → Answer call reply (Call.Mkdir place a) (settle s (failChanging s g) x
+            (λ p. createdIn s (newEdit s c 2 (p .1) (p .2) (p .0) name a) (p .0) (p .1)) .result)
+            → Made σ p q r s (settle s (failChanging s g) x (λ p. createdIn s (newEdit s c 2 (p .1) (p .2) (p .0) name a) (p .0) (p .1)) .store)
+            (note call reply L) reply
         go (refused n) e A =
             let b = sure-mkdir s g name a n e in
             failed-made (Call.Mkdir place a) g n (b .0) (b .1) A

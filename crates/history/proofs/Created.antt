@@ -82,7 +82,13 @@ module _ (P Q : ℕ) (v w : View) (o q k d : ℕ) (t : List ℕ) (T : Tree P Q v
           (λ h. omega (arith, entries-set Q v w q d o t (B .nam) (B .in-names) e u, T .flat .apart e u, ind-no (at? w q e u) h));
     };
     leads = λ i l. by-cases (ℕ-discrete i o)
-        (λ e. let r = T .leads d (omega (arith, B .parent)) in
-        (q ∷ r .0, ((omega (arith, B .some, ap length (B .nam .text)), B .nam .child ∙ sym e), subst (λ (x : ℕ). Path w x (r .0)) (sym (B .nam .dir)) (path-created (r .0) d (r .1)))))
+        (λ e. let r = T .leads d (omega (arith, B .parent)) in (
+          q ∷ r .0,
+          (
+            (omega (arith, B .some, ap length (B .nam .text)), B .nam .child ∙ sym e),
+            subst (λ (x : ℕ). Path w x (r .0)) (sym (B .nam .dir))
+                (path-created (r .0) d (r .1)),
+          ),
+        ))
         (λ n. let r = T .leads i (omega (arith, B .obj .other i n .0)) in (r .0, path-created (r .0) i (r .1)));
   }

@@ -15,7 +15,8 @@ pub word-in : (ws rest : List ℕ) (k : ℕ) → k < length ws → getD ws k 0 <
 unfolding words beAt
 word-in [] rest k l b = absurd (omega arith)
 word-in (w ∷ ws) rest zero l b =
-    ap beOf (ap (λ (x : List ℕ). part x 0 4) (append-assoc (bytesOf 4 w) (words ws) rest) ∙ part-left (bytesOf 4 w) (words ws ++ rest) 0 4 (omega (arith, bytes-length 4 w)) ∙ part-whole (bytesOf 4 w) 4 (bytes-length 4 w))
+    ap beOf (ap (λ (x : List ℕ). part x 0 4) (append-assoc (bytesOf 4 w) (words ws) rest) ∙ part-left (bytesOf 4 w) (words ws ++ rest) 0 4
+    (omega (arith, bytes-length 4 w)) ∙ part-whole (bytesOf 4 w) 4 (bytes-length 4 w))
     ∙ be-bytes 4 w b
 word-in (w ∷ ws) rest (suc k) l b =
     let e : 4 * suc k ≡ 4 + 4 * k = omega arith in
@@ -32,7 +33,8 @@ handle-of h e f =
     let b = bytes-kept h f 4 4 (omega arith) in
     let c = bytes-kept h f 4 8 (omega arith) in
     sym (part-whole h 12 e) ∙ part-add h 0 4 8 ∙ ap (λ (x : List ℕ). part h 0 4 ++ x) (part-add h 4 4 4)
-    ∙ (λ i. sym a i ++ (sym b i ++ sym c i)) ∙ ap (λ (x : List ℕ). bytesOf 4 (beAt h 0 4) ++ (bytesOf 4 (beAt h 4 4) ++ x)) (sym (append-nil (bytesOf 4 (beAt h 8 4))))
+    ∙ (λ i. sym a i ++ (sym b i ++ sym c i)) ∙ ap (λ (x : List ℕ). bytesOf 4 (beAt h 0 4) ++ (bytesOf 4 (beAt h 4 4) ++ x))
+    (sym (append-nil (bytesOf 4 (beAt h 8 4))))
 
 module _ (stamp o generation : ℕ) where
   three : List ℕ

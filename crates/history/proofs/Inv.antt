@@ -16,7 +16,8 @@ use Rattle.kinds.specs.Objects.{freeObject}
 use Rattle.laws.proofs.BlockLists.{held-range}
 use Rattle.laws.proofs.BlockWrites.{write-file}
 use Rattle.laws.proofs.CreateObject.{newName, create-object}
-use Rattle.laws.proofs.GoodRecords.{GoodRecords, GoodClock, clock-fits, valid-records, live-at, set-attributes-still, resize-still, write-file-still, create-object-still, remove-object-still, move-name-still}
+use Rattle.laws.proofs.GoodRecords.{GoodRecords, GoodClock, clock-fits, valid-records, live-at, set-attributes-still, resize-still, write-file-still}
+use Rattle.laws.proofs.GoodRecords.{create-object-still, remove-object-still, move-name-still}
 use Rattle.laws.proofs.Kept.{NameSet, BothSet}
 use Rattle.laws.proofs.MoveName.{movedName, move-name}
 use Rattle.laws.proofs.Range.{Below}
@@ -190,7 +191,8 @@ write-inv σ p q r s L I o offset xs l b n =
 -- ---- the third edit: an object and its name
 module _ (σ p q r : ℕ) (s : Store) (L : Ledger) (I : Inv σ p q r s L) (o n : ℕ) (v : Object) (d : ℕ) (text : List ℕ)
     (in-objs : o < objects s) (in-names : n < names s) (was-free : objectAt s o .kind ≡ 0) (low : objectAt s o .generation < 4294967295)
-    (was-blank : nameLength s n ≡ 0) (fits : FitsObject v) (live : LiveObject (blocks s) v) (empty : v .size ≡ 0) (name : GoodName text) (below : Below 256 text)
+    (was-blank : nameLength s n ≡ 0) (fits : FitsObject v) (live : LiveObject (blocks s) v) (empty : v .size ≡ 0) (name : GoodName text)
+    (below : Below 256 text)
     (parent : view s .kind d ≡ 2) (absent : entries (names s) (view s) d text ≡ 0) where
   g : GoodRecords s
   g = good σ p q r s L I
@@ -226,7 +228,11 @@ module _ (σ p q r : ℕ) (s : Store) (L : Ledger) (I : Inv σ p q r s L) (o n :
       }
 
   pub create-inv : Owes σ p q r s (createObject s o n v d text)
-      (record { book = record { handle = handleIn σ (view s) o; kind = v .kind; standing = under (handleIn σ (view s) d) text } ∷ L .book; given = handleIn σ (view s) o ∷ L .given })
+      (record {
+        book = record { handle = handleIn σ (view s) o; kind = v .kind; standing = under (handleIn σ (view s) d) text } ∷ L .book;
+        given =
+            handleIn σ (view s) o ∷ L .given;
+      })
   unfolding t
   create-inv =
       let T = tree σ p q r s L I in
@@ -247,12 +253,17 @@ module _ (σ p q r : ℕ) (s : Store) (L : Ledger) (I : Inv σ p q r s L) (o n :
             };
         grew = record {
           older = λ i. by-cases (ℕ-discrete i o) (λ x. rw x (omega (arith, created-of .obj .gen))) (λ x. omega (arith, created-of .obj .other i x .1));
-          stays = λ i l x. by-cases (ℕ-discrete i o) (λ y. absurd (omega (arith, ap (view s .kind) y, created-of .was-free))) (λ y. created-of .obj .other i y .0);
+          stays = λ i l x. by-cases (ℕ-discrete i o) (λ y. absurd (omega (arith, ap (view s .kind) y, created-of .was-free)))
+              (λ y. created-of .obj .other i y .0);
         };
       }
 
   pub create-keeps : Keeps σ p q r s (createObject s o n v d text)
-      (record { book = record { handle = handleIn σ (view s) o; kind = v .kind; standing = under (handleIn σ (view s) d) text } ∷ L .book; given = handleIn σ (view s) o ∷ L .given })
+      (record {
+        book = record { handle = handleIn σ (view s) o; kind = v .kind; standing = under (handleIn σ (view s) d) text } ∷ L .book;
+        given =
+            handleIn σ (view s) o ∷ L .given;
+      })
   create-keeps =
       record {
         owes = create-inv;
@@ -387,7 +398,8 @@ module _ (σ p q r : ℕ) (s : Store) (L : Ledger) (I : Inv σ p q r s L) (n d :
         inv =
             record {
               valid = valid-by p q m
-                  (move-name-still s mg n d text ml (omega (arith, ap length (text-at s n ml), text-long s (I .valid .good-names) n ml)) md (sym (kind-at s d md) ∙ parent) name below .good)
+                  (move-name-still s mg n d text ml (omega (arith, ap length (text-at s n ml), text-long s (I .valid .good-names) n ml)) md
+                  (sym (kind-at s d md) ∙ parent) name below .good)
                   (e .objects ∙ I .objs) (e .names ∙ I .nams) (moved-tree p q (view s) (view m) n d text T moved-of);
               bytes = turned .sound .bytes;
               mark = e .stamp ∙ I .mark;

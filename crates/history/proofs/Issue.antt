@@ -54,7 +54,8 @@ live-same v w i e = ind-same (live? w i) (live? v i) (λ h. omega arith) (λ h. 
 pub moved-issues : (P Q σ : ℕ) (v w : View) (q e : ℕ) (t : List ℕ) (given : List (List ℕ)) → Moved P Q v w q e t → Issues P σ v given → Issues P σ w given
 moved-issues P Q σ v w q e t given M = issues-same P σ v w given (λ i. omega (arith, M .gens i, live-same v w i (M .kinds i)))
 
-pub removed-issues : (P Q σ : ℕ) (v w : View) (o q d c : ℕ) (given : List (List ℕ)) → Tree P Q v → Removed P Q v w o q d c → Issues P σ v given → Issues P σ w given
+pub removed-issues : (P Q σ : ℕ) (v w : View) (o q d c : ℕ) (given : List (List ℕ)) → Tree P Q v → Removed P Q v w o q d c → Issues P σ v given
+    → Issues P σ w given
 removed-issues P Q σ v w o q d c given T N = issues-same P σ v w given (λ i. by-cases (ℕ-discrete i o)
     (λ e. rw e (omega (
       arith,
@@ -65,12 +66,14 @@ removed-issues P Q σ v w o q d c given T N = issues-same P σ v w given (λ i. 
     (λ n. let x = N .obj .other i n in omega (arith, x .1, live-same v w i (x .0))))
 
 -- the object of an issued handle is in range, and so is its generation
-pub issued-small : (P σ : ℕ) (v : View) (given : List (List ℕ)) → Issues P σ v given → (o g : ℕ) → g < issued v o → (o < P) × (o < 4294967296) × (g < 4294967296)
+pub issued-small : (P σ : ℕ) (v : View) (given : List (List ℕ)) → Issues P σ v given → (o g : ℕ) → g < issued v o
+    → (o < P) × (o < 4294967296) × (g < 4294967296)
 issued-small P σ v given A o g l =
     let k : o < P = by-cases (decLt o P) (λ x. x) (λ n. absurd (omega (arith, A .past o (omega arith)))) in
     (k, omega (arith, A .small), omega (arith, A .few o))
 
-module _ (P Q σ : ℕ) (v w : View) (o q k d : ℕ) (t : List ℕ) (given : List (List ℕ)) (B : Created P Q v w o q k d t) (low : v .gen o < last) (A : Issues P σ v given) where
+module _ (P Q σ : ℕ) (v w : View) (o q k d : ℕ) (t : List ℕ) (given : List (List ℕ)) (B : Created P Q v w o q k d t) (low : v .gen o < last)
+    (A : Issues P σ v given) where
   one-more : issued w o ≡ suc (v .gen o)
   one-more = omega (arith, B .obj .gen, ind-yes (live? w o) (omega (arith, B .obj .kind, B .live)))
 

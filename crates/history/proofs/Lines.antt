@@ -1,7 +1,8 @@
 -- What the invariant says of the book's lines: they are the store's objects and names, one each. Assumes nothing.
 use mathlib.Core.Path.{_≡_, refl, sym, ap, _∙_, subst}
 use mathlib.Core.Logic.{_↔_, _⊎_, inl, inr, by-cases, ⊎-elim}
-use mathlib.Core.List.{List, [], _∷_, _++_, map, List·Memᴰ, List·Memᴰ·head, List·Memᴰ·tail, List·Memᴰ·cases-cons, List·Memᴰ·not-nil, List·Memᴰ·append-cases, List·Memᴰ·eq-of-singleton, Memᴰ·append-left, Memᴰ·append-right, Memᴰ·map, Memᴰ·of-map, Memᴰ·cast}
+use mathlib.Core.List.{List, [], _∷_, _++_, map, List·Memᴰ, List·Memᴰ·head, List·Memᴰ·tail, List·Memᴰ·cases-cons, List·Memᴰ·not-nil}
+use mathlib.Core.List.{List·Memᴰ·append-cases, List·Memᴰ·eq-of-singleton, Memᴰ·append-left, Memᴰ·append-right, Memᴰ·map, Memᴰ·of-map, Memᴰ·cast}
 use Prim.Native.Nat.{ℕ, zero, suc, _+_, _*_, _≤_, _<_}
 use native.Mathlib.Decide.{ℕ-discrete}
 use native.Mathlib.Nat.{not-suc-le-zero, zero-mul, one-mul, add-mul}
@@ -67,7 +68,8 @@ total-times n f (x ∷ xs) h =
     let a = sum-single n x f (h .0) in
     let b = total-times n f xs (h .1) in
     let c = sum-add n (λ i. bit (eqb x i) * f i) (λ i. times i xs * f i) in
-    let d = sum-ext n (λ i. (bit (eqb x i) + times i xs) * f i) (λ i. bit (eqb x i) * f i + times i xs * f i) (λ i l. add-mul (bit (eqb x i)) (times i xs) (f i)) in
+    let d = sum-ext n (λ i. (bit (eqb x i) + times i xs) * f i) (λ i. bit (eqb x i) * f i + times i xs * f i)
+    (λ i l. add-mul (bit (eqb x i)) (times i xs) (f i)) in
     omega arith
 
 -- ---- members, and how often they stand in a list
@@ -101,15 +103,18 @@ module _ (σ p q r : ℕ) (s : Store) (L : Ledger) (I : Inv σ p q r s L) where
   unfolding A
   in-book l = (
     (λ m. ⊎-elim
-        (λ (x : List·Memᴰ l (map (lineOf σ (view s)) (A .order))). let (n, k, e) = Memᴰ·of-map (lineOf σ (view s)) (A .order) x in inr (n, order-used n (member-times n (A .order) k), e))
+        (λ (x : List·Memᴰ l (map (lineOf σ (view s)) (A .order))). let (n, k, e) = Memᴰ·of-map (lineOf σ (view s)) (A .order) x in inr
+        (n, order-used n (member-times n (A .order) k), e))
         (λ (x : List·Memᴰ l (rootLine σ (view s) ∷ [])). inl (List·Memᴰ·eq-of-singleton x))
         (List·Memᴰ·append-cases (map (lineOf σ (view s)) (A .order)) (subst (λ (b : Book). List·Memᴰ l b) (A .lines) m))),
     (λ x. subst (λ (b : Book). List·Memᴰ l b) (sym (A .lines)) (go x)),
   )
     where
-      go : (l ≡ rootLine σ (view s)) ⊎ ((n : ℕ) × Used (view s) n × (lineOf σ (view s) n ≡ l)) → List·Memᴰ l (map (lineOf σ (view s)) (A .order) ++ (rootLine σ (view s) ∷ []))
+      go : (l ≡ rootLine σ (view s)) ⊎ ((n : ℕ) × Used (view s) n × (lineOf σ (view s) n ≡ l))
+          → List·Memᴰ l (map (lineOf σ (view s)) (A .order) ++ (rootLine σ (view s) ∷ []))
       go (inl e) = Memᴰ·append-right (map (lineOf σ (view s)) (A .order)) (List·Memᴰ·head e)
-      go (inr (n, u, e)) = Memᴰ·append-left (rootLine σ (view s) ∷ []) (Memᴰ·cast (sym e) (Memᴰ·map (lineOf σ (view s)) (times-member n (A .order) (omega (arith, A .each n, ind-yes (used? (view s) n) u)))))
+      go (inr (n, u, e)) = Memᴰ·append-left (rootLine σ (view s) ∷ [])
+          (Memᴰ·cast (sym e) (Memᴰ·map (lineOf σ (view s)) (times-member n (A .order) (omega (arith, A .each n, ind-yes (used? (view s) n) u)))))
 
   -- the handle of a live object has a line, of its type, and every line is one of a live object
   pub current-lined : (o : ℕ) → Live (view s) o → HasLine (L .book) (handleIn σ (view s) o) (view s .kind o)
@@ -123,7 +128,8 @@ module _ (σ p q r : ℕ) (s : Store) (L : Ledger) (I : Inv σ p q r s L) where
   unfolding T
   lined-current h kind (l, m, e, f) = go (in-book l .0 m)
     where
-      go : (l ≡ rootLine σ (view s)) ⊎ ((n : ℕ) × Used (view s) n × (lineOf σ (view s) n ≡ l)) → (o : ℕ) × Live (view s) o × (h ≡ handleIn σ (view s) o) × (view s .kind o ≡ kind)
+      go : (l ≡ rootLine σ (view s)) ⊎ ((n : ℕ) × Used (view s) n × (lineOf σ (view s) n ≡ l))
+          → (o : ℕ) × Live (view s) o × (h ≡ handleIn σ (view s) o) × (view s .kind o ≡ kind)
       go (inl x) = (0, omega (arith, T .flat .root), sym e ∙ ap (λ (y : Line). y .handle) x, ap (λ (y : Line). y .kind) (sym x) ∙ f)
       go (inr (n, u, x)) = (view s .child n, T .flat .ends n u, sym e ∙ ap (λ (y : Line). y .handle) (sym x), ap (λ (y : Line). y .kind) x ∙ f)
 
@@ -146,7 +152,8 @@ module _ (σ p q r : ℕ) (s : Store) (L : Ledger) (I : Inv σ p q r s L) where
       let l = used-in s n u in
       let k = T .flat .dirs n u in
       let e = dir-at s n l in
-      handle-seen σ p q r s L I (nameAt s n .directory) (live-in s (nameAt s n .directory) (omega (arith, ap (view s .kind) e))) ∙ ap (handleIn σ (view s)) (sym e)
+      handle-seen σ p q r s L I (nameAt s n .directory) (live-in s (nameAt s n .directory) (omega (arith, ap (view s .kind) e))) ∙ ap
+      (handleIn σ (view s)) (sym e)
 
   child-handle : (n : ℕ) → Used (view s) n → handleOf s (nameAt s n .child) ≡ handleIn σ (view s) (view s .child n)
   unfolding T
@@ -167,7 +174,8 @@ module _ (σ p q r : ℕ) (s : Store) (L : Ledger) (I : Inv σ p q r s L) where
     (λ x. let (l, m, e, f) = x in back l e f (in-book l .0 m)),
   )
     where
-      back : (l : Line) → l .handle ≡ h → l .standing ≡ under d text → (l ≡ rootLine σ (view s)) ⊎ ((n : ℕ) × Used (view s) n × (lineOf σ (view s) n ≡ l)) → StoredName s d h text
+      back : (l : Line) → l .handle ≡ h → l .standing ≡ under d text
+          → (l ≡ rootLine σ (view s)) ⊎ ((n : ℕ) × Used (view s) n × (lineOf σ (view s) n ≡ l)) → StoredName s d h text
       back l e f (inl x) = let y : asRoot ≡ under d text = ap (λ (z : Line). z .standing) (sym x) ∙ f in let z : _≡_ {A = ℕ} 0 1 = cc in absurd (omega arith)
       back l e f (inr (n, u, x)) =
           let k = used-in s n u in

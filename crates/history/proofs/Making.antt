@@ -43,11 +43,16 @@ handle-seen σ p q r s L I o l = λ i. handleBytes (I .mark i) o (sym (gen-at s 
 -- the ledger with the line of a new object
 abbrev pub withLine : ℕ → Store → Ledger → ℕ → ℕ → ℕ → List ℕ → Ledger
 withLine σ s L o kind d text =
-    record { book = record { handle = handleIn σ (view s) o; kind = kind; standing = under (handleIn σ (view s) d) text } ∷ L .book; given = handleIn σ (view s) o ∷ L .given }
+    record {
+      book = record { handle = handleIn σ (view s) o; kind = kind; standing = under (handleIn σ (view s) d) text } ∷ L .book;
+      given =
+          handleIn σ (view s) o ∷ L .given;
+    }
 
 module _ (σ p q r : ℕ) (s : Store) (L : Ledger) (I : Inv σ p q r s L) (c : Context) (clock : GoodClock (c .clock)) where
   -- ---- a new object
-  module _ (kind o n d : ℕ) (text : List ℕ) (a : Settable) (which : (kind ≡ 1) ⊎ (kind ≡ 2)) (room : NewRoom s (sizeSet (a .size) 0) o n) (f : FitsSettable a) (ok : Allowed a)
+  module _ (kind o n d : ℕ) (text : List ℕ) (a : Settable) (which : (kind ≡ 1) ⊎ (kind ≡ 2)) (room : NewRoom s (sizeSet (a .size) 0) o n)
+      (f : FitsSettable a) (ok : Allowed a)
       (good : GoodName text) (below : Below 256 text) (parent : view s .kind d ≡ 2) (absent : entries (names s) (view s) d text ≡ 0)
       (file : isGiven (a .size) ≡ true → kind ≡ 1) where
     v : Object
@@ -82,7 +87,8 @@ module _ (σ p q r : ℕ) (s : Store) (L : Ledger) (I : Inv σ p q r s L) (c : C
     first : Keeps σ p q r s t (withLine σ s L o (v .kind) d text)
     unfolding t
     first =
-        create-keeps σ p q r s L I o n v d text (room .object-below) (room .name-below) (room .object-free) (room .generation-low) (room .name-free) v-fits v-live v-size good below parent absent
+        create-keeps σ p q r s L I o n v d text (room .object-below) (room .name-below) (room .object-free) (room .generation-low) (room .name-free)
+        v-fits v-live v-size good below parent absent
 
     K : Ledger
     K = withLine σ s L o (v .kind) d text
@@ -90,7 +96,8 @@ module _ (σ p q r : ℕ) (s : Store) (L : Ledger) (I : Inv σ p q r s L) (c : C
     made-kind : view t .kind o ≡ kind
     unfolding t
     made-kind =
-        created-of σ p q r s L I o n v d text (room .object-below) (room .name-below) (room .object-free) (room .generation-low) (room .name-free) v-fits v-live v-size good below parent absent .obj .kind
+        created-of σ p q r s L I o n v d text (room .object-below) (room .name-below) (room .object-free) (room .generation-low) (room .name-free)
+        v-fits v-live v-size good below parent absent .obj .kind
         ∙ v-kind
 
     dl : d < objects s
@@ -102,7 +109,8 @@ module _ (σ p q r : ℕ) (s : Store) (L : Ledger) (I : Inv σ p q r s L) (c : C
     made-size : sizeOf t o ≡ 0
     unfolding t sizeOf withGeneration
     made-size =
-        ap (λ (x : Object). x .size) (create-object s o n v d text (Inv.good σ p q r s L I .sound) (room .object-below) (room .name-below) v-fits d-small (good .short) below .object) ∙ v-size
+        ap (λ (x : Object). x .size) (create-object s o n v d text (Inv.good σ p q r s L I .sound) (room .object-below) (room .name-below) v-fits
+        d-small (good .short) below .object) ∙ v-size
 
     was-empty : objectAt s o .size ≡ 0
     was-empty = free-size s (Inv.good σ p q r s L I) o (room .object-below) (room .object-free)
@@ -110,8 +118,10 @@ module _ (σ p q r : ℕ) (s : Store) (L : Ledger) (I : Inv σ p q r s L) (c : C
     same-free : freeBlockCount t ≡ freeBlockCount s
     unfolding t
     same-free =
-        freeBlockCount-reads s t (create-object s o n v d text (Inv.good σ p q r s L I .sound) (room .object-below) (room .name-below) v-fits d-small (good .short) below .shape .blocks)
-        (λ b _. create-object-uses s o n v d text (Inv.good σ p q r s L I .sound) (room .object-below) (room .name-below) v-fits d-small (good .short) below was-empty v-size b)
+        freeBlockCount-reads s t (create-object s o n v d text (Inv.good σ p q r s L I .sound) (room .object-below) (room .name-below) v-fits d-small
+        (good .short) below .shape .blocks)
+        (λ b _. create-object-uses s o n v d text (Inv.good σ p q r s L I .sound) (room .object-below) (room .name-below) v-fits d-small
+        (good .short) below was-empty v-size b)
 
     second : Keeps σ p q r t (resizeTo t o (a .size)) K
     unfolding K
@@ -160,8 +170,13 @@ module _ (σ p q r : ℕ) (s : Store) (L : Ledger) (I : Inv σ p q r s L) (c : C
     line-added o kind z =
         add-new (handleIn σ (view s) o) kind h text L
         (ap (λ (x : List ℕ). someAt x text (L .book)) directory-handle
-        ∙ none-at p q σ (view s) (tree σ p q r s L I) (L .book) (I .agrees) d text directory-kind (ap (λ (x : ℕ). entries x (view s) d text) (sym (I .nams)) ∙ z))
-        ∙ ap (λ (x : List ℕ). record { book = record { handle = handleIn σ (view s) o; kind = kind; standing = under x text } ∷ L .book; given = handleIn σ (view s) o ∷ L .given }) directory-handle
+        ∙ none-at p q σ (view s) (tree σ p q r s L I) (L .book) (I .agrees) d text directory-kind
+        (ap (λ (x : ℕ). entries x (view s) d text) (sym (I .nams)) ∙ z))
+        ∙ ap (λ (x : List ℕ). record {
+          book = record { handle = handleIn σ (view s) o; kind = kind; standing = under x text } ∷ L .book;
+          given =
+              handleIn σ (view s) o ∷ L .given;
+        }) directory-handle
 
     pub line-there : (g : List ℕ) (kind n : ℕ) → At (view s) n d text → add g kind h text L ≡ L
     line-there g kind n e =
@@ -179,4 +194,5 @@ module _ (σ p q r : ℕ) (s : Store) (L : Ledger) (I : Inv σ p q r s L) (c : C
       go (SetSize.To n) m e =
           let first = resize-inv σ p q r s L I o n k m e in
           keeps-trans σ p q r s (resize s o n) _ L L first
-          (touch-inv σ p q r (resize s o n) L (first .owes .inv) (c .clock) o mtimeAndCtime (omega (arith, first .kinds o (omega arith))) clock mtime-and-ctime-fits mtime-and-ctime-allowed)
+          (touch-inv σ p q r (resize s o n) L (first .owes .inv) (c .clock) o mtimeAndCtime (omega (arith, first .kinds o (omega arith))) clock
+          mtime-and-ctime-fits mtime-and-ctime-allowed)

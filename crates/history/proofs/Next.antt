@@ -18,7 +18,8 @@ use Rattle.spec.specs.Image.{Store, objects, objectAt, Name}
 use Rattle.spec.specs.Procedures.{cut, act}
 use Rattle.spec.specs.Serve.{formatted}
 use Rattle.laws.proofs.Error.{getattr-store, lookup-store, access-store, read-store, readdir-store, fsstat-store, fsinfo-store, pathconf-store, commit-store}
-use Rattle.laws.proofs.Formatted.{FormatAsked, formatted-stamp, formatted-objects, formatted-names, formatted-blocks, formatted-below, formatted-root, formatted-free, formatted-name, formatted-valid}
+use Rattle.laws.proofs.Formatted.{FormatAsked, formatted-stamp, formatted-objects, formatted-names, formatted-blocks, formatted-below, formatted-root}
+use Rattle.laws.proofs.Formatted.{formatted-free, formatted-name, formatted-valid}
 use Rattle.laws.proofs.Range.{Below}
 use Rattle.laws.proofs.RecordRange.{below-part}
 use Rattle.laws.proofs.GoodRecords.{GoodClock}
@@ -59,12 +60,15 @@ module _ (σ p q r : ℕ) (s : Store) (L : Ledger) (I : Inv σ p q r s L) where
     act-owes Call.Null f A = quiet s _ refl (note-quiet call reply Call.Null L (A .reads) refl)
     act-owes (Call.Getattr h) f A = quiet _ _ (getattr-store s (cut call h)) (note-quiet call reply (Call.Getattr h) L (A .reads) refl)
     act-owes (Call.Setattr h a g) f A =
-        subst (Owes σ p q r s _) (sym (note-quiet call reply (Call.Setattr h a g) L (A .reads) refl)) (setattr-keeps σ p q r s L I c clock (cut call h) a g f .owes)
-    act-owes (Call.Lookup x) f A = quiet _ _ (lookup-store s (cut call (x .directory)) (cut call (x .name))) (note-quiet call reply (Call.Lookup x) L (A .reads) refl)
+        subst (Owes σ p q r s _) (sym (note-quiet call reply (Call.Setattr h a g) L (A .reads) refl))
+        (setattr-keeps σ p q r s L I c clock (cut call h) a g f .owes)
+    act-owes (Call.Lookup x) f A = quiet _ _ (lookup-store s (cut call (x .directory)) (cut call (x .name)))
+        (note-quiet call reply (Call.Lookup x) L (A .reads) refl)
     act-owes (Call.Access h n) f A = quiet _ _ (access-store s (cut call h) n) (note-quiet call reply (Call.Access h n) L (A .reads) refl)
     act-owes (Call.Read h o n) f A = quiet _ _ (read-store s (cut call h) o n) (note-quiet call reply (Call.Read h o n) L (A .reads) refl)
     act-owes (Call.Write h o n b) f A =
-        subst (Owes σ p q r s _) (sym (note-quiet call reply (Call.Write h o n b) L (A .reads) refl)) (write-keeps σ p q r s L I c clock (cut call h) o n (cut call b) (cut-below b) .owes)
+        subst (Owes σ p q r s _) (sym (note-quiet call reply (Call.Write h o n b) L (A .reads) refl))
+        (write-keeps σ p q r s L I c clock (cut call h) o n (cut call b) (cut-below b) .owes)
     act-owes (Call.Create x m) f A = create-made σ p q r s L I c clock call reply bytes x m f A .owes
     act-owes (Call.Mkdir x a) f A = mkdir-made σ p q r s L I c clock call reply bytes x a f A .owes
     act-owes (Call.Remove x) f A = remove-owes σ p q r s L I c clock call reply bytes x A
@@ -94,7 +98,8 @@ module _ (σ p q r : ℕ) (s : Store) (L : Ledger) (I : Inv σ p q r s L) where
       let a = k .0 in
       let z = acted s x a (k .1) (passes-valid s (I .valid)) in
       subst (λ (u : Store). Owes σ p q r s u (note (x .call) (replyTo s x) L)) (sym (z .store))
-      (act-owes (x .context) (clocked x a l (k .1)) (x .call) (replyTo s x) (l .bytes) a (asked-fits (x .call) (l .bytes) a (k .1 .reads)) (answer-to x a (k .1))))
+      (act-owes (x .context) (clocked x a l (k .1)) (x .call) (replyTo s x) (l .bytes) a (asked-fits (x .call) (l .bytes) a (k .1 .reads))
+      (answer-to x a (k .1))))
       (served s x (passes-valid s (I .valid)))
 
 -- any list of requests
@@ -131,7 +136,12 @@ module _ (σ p q r : ℕ) (clock : Time) (h : FormatAsked σ p q r clock) where
   unfolding s
   none-used n u =
       let l = used-in s n u in
-      omega (arith, ap length (text-at s n l), ap (λ (v : Name). length (v .text)) (formatted-name σ p q r clock h n (omega (arith, formatted-names σ p q r clock h)) .all))
+      omega (
+        arith,
+        ap length (text-at s n l),
+        ap (λ (v : Name). length (v .text))
+            (formatted-name σ p q r clock h n (omega (arith, formatted-names σ p q r clock h)) .all),
+      )
 
   root-issued : issued (view s) 0 ≡ 1
   root-issued = omega (arith, root-gen, ind-yes (live? (view s) 0) (omega (arith, root-kind)))

@@ -26,9 +26,11 @@ use Rattle.spec.specs.Image.{Store, objects, names, objectAt, nameAt}
 use Rattle.spec.specs.Procedures.{cut, act}
 use Rattle.spec.specs.Procedures.Attributes.{isGiven, sizeSet, badAttributes, lacksRoom, differs, checkSetattr, setattrEdit, edited, setattr}
 use Rattle.spec.specs.Procedures.Data.{reachRegular, grown, checkWrite, writeDone, write}
-use Rattle.spec.specs.Procedures.Names.{Target, existing, isNew, roomForNew, checkNew, checkExisting, checkAttributed, checkCreate, createEdit, settableOf, create, checkMkdir, mkdir, createdIn, newEdit}
+use Rattle.spec.specs.Procedures.Names.{Target, existing, isNew, roomForNew, checkNew, checkExisting, checkAttributed, checkCreate, createEdit}
+use Rattle.spec.specs.Procedures.Names.{settableOf, create, checkMkdir, mkdir, createdIn, newEdit}
 use Rattle.spec.specs.Results.{Result, failChanging, settle}
-use Rattle.spec.specs.Room.{isRegular, isDirectory, isAvailable, isUsedName, sizeOf, need, freeBlockCount, availableCount, availableObject, freeNameCount, availableName, findName}
+use Rattle.spec.specs.Room.{isRegular, isDirectory, isAvailable, isUsedName, sizeOf, need, freeBlockCount, availableCount, availableObject}
+use Rattle.spec.specs.Room.{freeNameCount, availableName, findName}
 use Rattle.laws.proofs.Count.{by-bool, sum-at, lowest-passes, lowest-none, true-false}
 use Rattle.laws.proofs.Error.{statusOf}
 use Rattle.laws.proofs.Searches.{count-nothing}
@@ -127,7 +129,8 @@ module _ (σ p q r : ℕ) (s : Store) (L : Ledger) (I : Inv σ p q r s L) where
       let result : Checked ℕ → Result = λ y. settle s (failChanging s hb) y (λ o. edited s o (setattrEdit s c o a)) .result in
       let A = answer-to σ p q r s L I x (Call.Setattr h a g) k in
       by-room (x .call) (replyTo s x) (Call.Setattr h a g) _ A (BlocksMissing p r s L old size) (missing? old size)
-      (λ m. subst (λ (y : Checked ℕ). Says (result y) 28) (sym (checks ∙ ap (λ (t : Bool). bind (refuseIf t 28) (λ _. passed o)) (missing-yes old size m))) (changing-says s hb 28))
+      (λ m. subst (λ (y : Checked ℕ). Says (result y) 28)
+      (sym (checks ∙ ap (λ (t : Bool). bind (refuseIf t 28) (λ _. passed o)) (missing-yes old size m))) (changing-says s hb 28))
       (λ m. subst (λ (y : Checked ℕ). Says (result y) 0) (sym (checks ∙ ap (λ (t : Bool). bind (refuseIf t 28) (λ _. passed o)) (missing-no old size m)))
       (changed-says 0 _))
 
@@ -149,7 +152,8 @@ module _ (σ p q r : ℕ) (s : Store) (L : Ledger) (I : Inv σ p q r s L) where
       let result : Checked ℕ → Result = λ y. settle s (failChanging s hb) y (λ o. writeDone s c o offset (take (min n mostTransferBytes) sent)) .result in
       let A = answer-to σ p q r s L I x (Call.Write h offset n bytes) k in
       by-room (x .call) (replyTo s x) (Call.Write h offset n bytes) _ A (BlocksMissing p r s L old size) (missing? old size)
-      (λ b. subst (λ (y : Checked ℕ). Says (result y) 28) (sym (checks ∙ ap (λ (t : Bool). bind (refuseIf t 28) (λ _. passed o)) (missing-yes old size b))) (changing-says s hb 28))
+      (λ b. subst (λ (y : Checked ℕ). Says (result y) 28)
+      (sym (checks ∙ ap (λ (t : Bool). bind (refuseIf t 28) (λ _. passed o)) (missing-yes old size b))) (changing-says s hb 28))
       (λ b. subst (λ (y : Checked ℕ). Says (result y) 0) (sym (checks ∙ ap (λ (t : Bool). bind (refuseIf t 28) (λ _. passed o)) (missing-no old size b)))
       (wrote-says _ _ _))
 
@@ -195,7 +199,8 @@ module _ (σ p q r : ℕ) (s : Store) (L : Ledger) (I : Inv σ p q r s L) where
   unfolding roomForNew availableObject availableName availableCount freeNameCount
   room-there size m =
       let (o, e) = lowest-found (objects s) (isAvailable s) (some-of (objectsLeft σ p L) (count (objects s) (isAvailable s)) objects-left (λ z. m (inl z))) in
-      let (n, f) = lowest-found (names s) (λ n. not (isUsedName s n)) (some-of (namesLeft q L) (count (names s) (λ n. not (isUsedName s n))) names-left (λ z. m (inr (inl z)))) in
+      let (n, f) = lowest-found (names s) (λ n. not (isUsedName s n))
+      (some-of (namesLeft q L) (count (names s) (λ n. not (isUsedName s n))) names-left (λ z. m (inr (inl z)))) in
       ((o, n), rw (e, f, missing-no 0 size (λ z. m (inr (inr (omega arith))))))
     where
       some-of : (a b : ℕ) → a ≡ b → (a ≡ 0 → ⊥) → 0 < b
@@ -216,13 +221,15 @@ module _ (σ p q r : ℕ) (s : Store) (L : Ledger) (I : Inv σ p q r s L) where
       let result : Checked (ℕ × Target) → Result = λ y. settle s (failChanging s h) y (λ p. createEdit s c (p .0) text (settableOf manner) (p .1)) .result in
       let A = answer-to σ p q r s L I x (Call.Create place manner) k in
       by-room (x .call) (replyTo s x) (Call.Create place manner) _ A (RoomMissing σ p q r s L size) (room? size)
-      (λ m. subst (λ (y : Checked (ℕ × Target)). Says (result y) 28) (sym (checks ∙ ap (λ (t : Checked (ℕ × ℕ)). bind (isNew t) (λ t. passed (d, t))) (room-full size m))) (changing-says s h 28))
+      (λ m. subst (λ (y : Checked (ℕ × Target)). Says (result y) 28)
+      (sym (checks ∙ ap (λ (t : Checked (ℕ × ℕ)). bind (isNew t) (λ t. passed (d, t))) (room-full size m))) (changing-says s h 28))
       (λ m. let (y, e) = room-there size m in
       subst (λ (y : Checked (ℕ × Target)). Says (result y) 0) (sym (checks ∙ ap (λ (t : Checked (ℕ × ℕ)). bind (isNew t) (λ t. passed (d, t))) e))
       (created-says _ _ _))
     where
       either : (manner ≡ How.Unchecked a) ⊎ (manner ≡ How.Guarded a)
-          → checkCreate s (cut (x .call) (place .directory)) (cut (x .call) (place .name)) manner ≡ bind (isNew (roomForNew s (sizeSet (a .size) 0))) (λ t. passed (d, t))
+          → checkCreate s (cut (x .call) (place .directory)) (cut (x .call) (place .name)) manner ≡ bind (isNew (roomForNew s (sizeSet (a .size) 0)))
+          (λ t. passed (d, t))
       either (_⊎_.inl e) = rw (e₁, e, e₂, e₃)
       either (_⊎_.inr e) = rw (e₁, e, e₂, e₃)
 
@@ -261,7 +268,8 @@ module _ (σ p q r : ℕ) (s : Store) (L : Ledger) (I : Inv σ p q r s L) where
       let c = x .context in
       let rest : Checked (ℕ × ℕ) → Checked (ℕ × ℕ × ℕ) = λ y. bind y (λ p. passed (d, p .0, p .1)) in
       let checks : checkMkdir s h text a ≡ rest (roomForNew s 0) = rw (e₁, e₂, e₃) in
-      let result : Checked (ℕ × ℕ × ℕ) → Result = λ y. settle s (failChanging s h) y (λ p. createdIn s (newEdit s c 2 (p .1) (p .2) (p .0) text a) (p .0) (p .1)) .result in
+      let result : Checked (ℕ × ℕ × ℕ) → Result = λ y. settle s (failChanging s h) y
+      (λ p. createdIn s (newEdit s c 2 (p .1) (p .2) (p .0) text a) (p .0) (p .1)) .result in
       let A = answer-to σ p q r s L I x (Call.Mkdir place a) k in
       by-room (x .call) (replyTo s x) (Call.Mkdir place a) _ A (RoomMissing σ p q r s L 0) (room? 0)
       (λ m. subst (λ (y : Checked (ℕ × ℕ × ℕ)). Says (result y) 28) (sym (checks ∙ ap rest (room-full 0 m))) (changing-says s h 28))

@@ -27,14 +27,19 @@ module _ (σ p q r : ℕ) (s : Store) (L : Ledger) (I : Inv σ p q r s L) where
   stored-of : (ns : List ℕ) (o : ℕ) → Path (view s) o ns → StoredPath s o ns
   stored-of [] o a = a
   stored-of (n ∷ ns) o a =
-      let l = used-in s n (a .0 .0) in
-      ((l, used-of s (I .valid .good-names) n l (a .0 .0), sym (child-at s n l) ∙ a .0 .1), stored-of ns (nameAt s n .directory) (subst (λ (d : ℕ). Path (view s) d ns) (dir-at s n l) (a .1)))
+      let l = used-in s n (a .0 .0) in (
+        (l, used-of s (I .valid .good-names) n l (a .0 .0), sym (child-at s n l) ∙ a .0 .1),
+        stored-of ns (nameAt s n .directory) (subst (λ (d : ℕ). Path (view s) d ns) (dir-at s n l) (a .1)),
+      )
 
   of-stored : (ns : List ℕ) (o : ℕ) → StoredPath s o ns → Path (view s) o ns
   of-stored [] o a = a
   of-stored (n ∷ ns) o (a, b) =
-      let (l, u, e) = a in
-      ((of-used s (I .valid .good-names) n l u, child-at s n l ∙ e), subst (λ (d : ℕ). Path (view s) d ns) (sym (dir-at s n l)) (of-stored ns (nameAt s n .directory) b))
+      let (l, u, e) = a in (
+        (of-used s (I .valid .good-names) n l u, child-at s n l ∙ e),
+        subst (λ (d : ℕ). Path (view s) d ns) (sym (dir-at s n l))
+            (of-stored ns (nameAt s n .directory) b),
+      )
 
   one-path : (o : ℕ) → Live (view s) o → (ns : List ℕ) × Path (view s) o ns × ((ms : List ℕ) → Path (view s) o ms → ms ≡ ns) × (suc (length ns) ≤ liveObjects s)
   unfolding T
@@ -75,18 +80,21 @@ module _ (σ p q r : ℕ) (s : Store) (L : Ledger) (I : Inv σ p q r s L) where
   same : (i j : ℕ) → Live (view s) i → Live (view s) j → handleIn σ (view s) i ≡ handleIn σ (view s) j → i ≡ j
   same i j a b e = same-object σ i (view s .gen i) j (view s .gen j) (small i a) (small j b) e
 
-  of-lines : (ls : List Line) (o : ℕ) → Live (view s) o → BookPath (L .book) (handleIn σ (view s) o) ls → (ns : List ℕ) × (ls ≡ map line ns) × Path (view s) o ns
+  of-lines : (ls : List Line) (o : ℕ) → Live (view s) o → BookPath (L .book) (handleIn σ (view s) o) ls
+      → (ns : List ℕ) × (ls ≡ map line ns) × Path (view s) o ns
   unfolding line T
   of-lines [] o v (l, m, e, f) = go (in-book σ p q r s L I l .0 m)
     where
-      go : (l ≡ rootLine σ (view s)) ⊎ ((n : ℕ) × Used (view s) n × (lineOf σ (view s) n ≡ l)) → (ns : List ℕ) × (_≡_ {A = List Line} [] (map line ns)) × Path (view s) o ns
+      go : (l ≡ rootLine σ (view s)) ⊎ ((n : ℕ) × Used (view s) n × (lineOf σ (view s) n ≡ l))
+          → (ns : List ℕ) × (_≡_ {A = List Line} [] (map line ns)) × Path (view s) o ns
       go (inl x) = ([], refl, same o 0 v (omega (arith, T .flat .root)) (sym e ∙ ap (λ (k : Line). k .handle) x))
       go (inr (n, u, x)) = absurd (clash (l .standing) (handleIn σ (view s) (view s .dir n)) (view s .text n) f (ap (λ (k : Line). k .standing) (sym x)))
   of-lines (l ∷ ls) o v (m, e, (d, text, f, w)) = go (in-book σ p q r s L I l .0 m)
       (λ j a x. of-lines ls j a (subst (λ (h : List ℕ). BookPath (L .book) h ls) x w))
     where
       go : (l ≡ rootLine σ (view s)) ⊎ ((n : ℕ) × Used (view s) n × (lineOf σ (view s) n ≡ l))
-          → ((j : ℕ) → Live (view s) j → d ≡ handleIn σ (view s) j → (ns : List ℕ) × (ls ≡ map line ns) × Path (view s) j ns) → (ns : List ℕ) × (l ∷ ls ≡ map line ns) × Path (view s) o ns
+          → ((j : ℕ) → Live (view s) j → d ≡ handleIn σ (view s) j → (ns : List ℕ) × (ls ≡ map line ns) × Path (view s) j ns)
+          → (ns : List ℕ) × (l ∷ ls ≡ map line ns) × Path (view s) o ns
       go (inl x) r = absurd (clash (l .standing) d text (ap (λ (k : Line). k .standing) x) f)
       go (inr (n, u, x)) r =
           let y : under d text ≡ under (handleIn σ (view s) (view s .dir n)) (view s .text n) = sym f ∙ ap (λ (k : Line). k .standing) (sym x) in

@@ -48,9 +48,18 @@ module _ (P Q : ℕ) (v w : View) (o q d c : ℕ) (T : Tree P Q v) (G : Removed 
           omega (arith, T .flat .ends p x, ap (w .kind) (G .nam .other p n .child), kept (v .child p) (spared p x n));
       never = omega (arith, namings-set Q v w q d c [] (G .nam) row 0, T .flat .never, removed-name 0);
       once = λ i z l. let (n, x) = alive i l in let h = namings-set Q v w q d c [] (G .nam) row i in
-          omega (arith, namings-set Q v w q d c [] (G .nam) row i, T .flat .once i z x, removed-name i, ind-no (names? v q i) (λ h. n (sym (h .1) ∙ G .named .1)));
+          omega (
+            arith,
+            namings-set Q v w q d c [] (G .nam) row i,
+            T .flat .once i z x,
+            removed-name i,
+            ind-no (names? v q i) (λ h. n (sym (h .1) ∙ G .named .1)),
+          );
       apart = λ e u. omega (arith, entries-set Q v w q d c [] (G .nam) row e u, T .flat .apart e u, ind-no (at? w q e u) (λ h. still q (h .0) .0 refl));
     };
-    leads = λ i l. let (n, x) = alive i l in let r = T .leads i x in
-        (r .0, path-avoids v w o (λ p u m. G .nam .other p (λ e. m (ap (v .child) e ∙ G .named .1))) (r .0) i (r .1) (avoid-empty v o (G .not-root) (G .empty) (r .0) i n (r .1)));
+    leads = λ i l. let (n, x) = alive i l in let r = T .leads i x in (
+      r .0,
+      path-avoids v w o (λ p u m. G .nam .other p (λ e. m (ap (v .child) e ∙ G .named .1))) (r .0) i (r .1)
+          (avoid-empty v o (G .not-root) (G .empty) (r .0) i n (r .1)),
+    );
   }

@@ -21,7 +21,8 @@ use Rattle.spec.specs.Image.{Store, objects, objectAt, nameAt}
 use Rattle.spec.specs.Procedures.{cut}
 use Rattle.spec.specs.Procedures.Attributes.{edited}
 use Rattle.spec.specs.Procedures.Names.{touchDirectory}
-use Rattle.spec.specs.Procedures.Removal.{checkRemove, hasEntries, checkRmdir, removeFrom, remove, rmdir, isWithin, checkRename, renameEdit, failRenaming, renamedTo, rename}
+use Rattle.spec.specs.Procedures.Removal.{checkRemove, hasEntries, checkRmdir, removeFrom, remove, rmdir, isWithin, checkRename, renameEdit}
+use Rattle.spec.specs.Procedures.Removal.{failRenaming, renamedTo, rename}
 use Rattle.spec.specs.Results.{failChanging, settle}
 use Rattle.spec.specs.Room.{isDirectory, above}
 use Rattle.laws.proofs.Count.{by-bool, true-false, some-none}
@@ -57,9 +58,11 @@ module _ (σ p q r : ℕ) (s : Store) (L : Ledger) (I : Inv σ p q r s L) (c : C
         let other : d ≢ nameAt s n .child = λ e. empty n (at .0) (at .1 ∙ e) in
         let t = removeObject s n in
         let M : Ledger = record { book = strikeLines (handleIn σ (view s) (view s .dir n)) (view s .text n) (L .book); given = L .given } in
-        let second = touch-inv σ p q r t M (first .inv) (c .clock) d mtimeAndCtime (omega (arith, away .obj .other d other .0)) clock mtime-and-ctime-fits mtime-and-ctime-allowed in
+        let second = touch-inv σ p q r t M (first .inv) (c .clock) d mtimeAndCtime (omega (arith, away .obj .other d other .0)) clock
+        mtime-and-ctime-fits mtime-and-ctime-allowed in
         let e : handleIn σ (view s) (view s .dir n) ≡ h = ap (handleIn σ (view s)) (at .1) ∙ sym (directory-handle σ p q r s L I c clock h text d w dk hb) in
-        let book : M ≡ record { book = strikeLines h text (L .book); given = L .given } = λ i. record { book = strikeLines (e i) (at .2 i) (L .book); given = L .given } in
+        let book : M ≡ record { book = strikeLines h text (L .book); given = L .given } =
+        λ i. record { book = strikeLines (e i) (at .2 i) (L .book); given = L .given } in
         subst (Owes σ p q r s (touchDirectory t c d)) book (owes-trans σ p q r s t (touchDirectory t c d) M M first (second .owes))
 
   -- no name is in a file, or in a directory without entries
@@ -103,7 +106,8 @@ module _ (σ p q r : ℕ) (s : Store) (L : Ledger) (I : Inv σ p q r s L) (c : C
   clear o e l k f qs a =
       let T = tree σ p q r s L I in
       by-bool (isDirectory s o)
-      (λ t. let none : some-below (objects s) (λ j. eqb (above s j e) o) ≡ false = ap (λ (b : Bool). b && some-below (objects s) (λ j. eqb (above s j e) o)) (sym t) ∙ f in
+      (λ t. let none : some-below (objects s) (λ j. eqb (above s j e) o) ≡ false =
+      ap (λ (b : Bool). b && some-below (objects s) (λ j. eqb (above s j e) o)) (sym t) ∙ f in
       outside p q (view s) (T .flat) p o e qs (single p q (view s) (T .flat) e k) (omega (arith, path-short p q (view s) T qs e a, live-bound p (view s))) a
       (λ j m z. eqb-false (above s j e) o (some-none (λ j. eqb (above s j e) o) (objects s) j none (omega (arith, I .objs)))
       (sym (above-same s (I .valid .good-names) j e) ∙ ap (λ (y : ℕ). iterate j (parentIn y (view s)) e) (I .nams) ∙ z)))
@@ -120,18 +124,25 @@ module _ (σ p q r : ℕ) (s : Store) (L : Ledger) (I : Inv σ p q r s L) (c : C
       let kd = directory-kind σ p q r s L I c clock h text d (w .reached) (w .directory) hb in
       let ke = directory-kind σ p q r s L I c clock g title e (w .target-reached) (w .target-directory) gb in
       let first = move-keeps σ p q r s L I n e title (at .0) (w .target-good) tb ke gap (clear o e i ke (w .outside)) in
-      let M : Ledger = record { book = moveLines (handleIn σ (view s) (view s .dir n)) (view s .text n) (handleIn σ (view s) e) title (L .book); given = L .given } in
+      let M : Ledger = record {
+        book = moveLines (handleIn σ (view s) (view s .dir n)) (view s .text n) (handleIn σ (view s) e) title (L .book);
+        given = L .given;
+      } in
       let t₁ = moveName s n e title in
       let live : Live (view s) o = subst (Live (view s)) (child-at s n l) (tree σ p q r s L I .flat .ends n (at .0)) in
-      let second = touch-inv σ p q r t₁ M (first .owes .inv) (c .clock) o onlyCtime (omega (arith, first .kinds o live)) clock only-ctime-fits only-ctime-allowed in
+      let second = touch-inv σ p q r t₁ M (first .owes .inv) (c .clock) o onlyCtime (omega (arith, first .kinds o live)) clock only-ctime-fits
+      only-ctime-allowed in
       let t₂ = setAttributes t₁ (c .clock) o onlyCtime in
       let two = keeps-trans σ p q r s t₁ t₂ M M first second in
-      let third = touch-inv σ p q r t₂ M (two .owes .inv) (c .clock) d mtimeAndCtime (omega (arith, two .kinds d (omega arith))) clock mtime-and-ctime-fits mtime-and-ctime-allowed in
+      let third = touch-inv σ p q r t₂ M (two .owes .inv) (c .clock) d mtimeAndCtime (omega (arith, two .kinds d (omega arith))) clock
+      mtime-and-ctime-fits mtime-and-ctime-allowed in
       let t₃ = touchDirectory t₂ c d in
       let three = keeps-trans σ p q r s t₂ t₃ M M two third in
-      let fourth = touch-inv σ p q r t₃ M (three .owes .inv) (c .clock) e mtimeAndCtime (omega (arith, three .kinds e (omega arith))) clock mtime-and-ctime-fits mtime-and-ctime-allowed in
+      let fourth = touch-inv σ p q r t₃ M (three .owes .inv) (c .clock) e mtimeAndCtime (omega (arith, three .kinds e (omega arith))) clock
+      mtime-and-ctime-fits mtime-and-ctime-allowed in
       let four = keeps-trans σ p q r s t₃ (touchDirectory t₃ c e) M M three fourth in
-      let hd : handleIn σ (view s) (view s .dir n) ≡ h = ap (handleIn σ (view s)) (at .1) ∙ sym (directory-handle σ p q r s L I c clock h text d (w .reached) (w .directory) hb) in
+      let hd : handleIn σ (view s) (view s .dir n) ≡ h = ap (handleIn σ (view s)) (at .1) ∙ sym
+      (directory-handle σ p q r s L I c clock h text d (w .reached) (w .directory) hb) in
       let he : handleIn σ (view s) e ≡ g = sym (directory-handle σ p q r s L I c clock g title e (w .target-reached) (w .target-directory) gb) in
       let book : M ≡ record { book = moveLines h text g title (L .book); given = L .given } =
       λ j. record { book = moveLines (hd j) (at .2 j) (he j) title (L .book); given = L .given } in
@@ -161,7 +172,8 @@ module _ (σ p q r : ℕ) (s : Store) (L : Ledger) (I : Inv σ p q r s L) (c : C
     remove-owes place A =
         let h = cut call (place .directory) in
         let text = cut call (place .name) in
-        from (Call.Remove place) h text (checkRemove s h text) (checkRemove s h text) refl (sure-remove s h text) (remove-facts h text (cut-below (place .directory))) (λ _. refl) A
+        from (Call.Remove place) h text (checkRemove s h text) (checkRemove s h text) refl (sure-remove s h text)
+        (remove-facts h text (cut-below (place .directory))) (λ _. refl) A
 
     pub rmdir-owes : (place : NameIn) → Answer call reply (Call.Rmdir place) (rmdir s c (cut call (place .directory)) (cut call (place .name)) .result)
         → Owes σ p q r s (rmdir s c (cut call (place .directory)) (cut call (place .name)) .store) (note call reply L)
@@ -169,7 +181,8 @@ module _ (σ p q r : ℕ) (s : Store) (L : Ledger) (I : Inv σ p q r s L) (c : C
     rmdir-owes place A =
         let h = cut call (place .directory) in
         let text = cut call (place .name) in
-        from (Call.Rmdir place) h text (checkRmdir s h text) (checkRmdir s h text) refl (sure-rmdir s h text) (rmdir-facts h text (cut-below (place .directory))) (λ _. refl) A
+        from (Call.Rmdir place) h text (checkRmdir s h text) (checkRmdir s h text) refl (sure-rmdir s h text)
+        (rmdir-facts h text (cut-below (place .directory))) (λ _. refl) A
 
     pub rename-owes : (a b : NameIn)
         → Answer call reply (Call.Rename a b) (rename s c (cut call (a .directory)) (cut call (a .name)) (cut call (b .directory)) (cut call (b .name)) .result)
@@ -190,11 +203,15 @@ module _ (σ p q r : ℕ) (s : Store) (L : Ledger) (I : Inv σ p q r s L) (c : C
         title = cut call (b .name)
 
         go : (x : Checked (ℕ × ℕ × ℕ)) → checkRename s h text g title ≡ x
-            → Answer call reply (Call.Rename a b) (settle s (failRenaming s h g) x (λ p. renamedTo s (p .0) (p .1) (renameEdit s c (p .0) (p .1) (p .2) title)) .result)
-            → Owes σ p q r s (settle s (failRenaming s h g) x (λ p. renamedTo s (p .0) (p .1) (renameEdit s c (p .0) (p .1) (p .2) title)) .store) (note call reply L)
+            → Answer call reply (Call.Rename a b) (settle s (failRenaming s h g) x
+            (λ p. renamedTo s (p .0) (p .1) (renameEdit s c (p .0) (p .1) (p .2) title)) .result)
+            → Owes σ p q r s (settle s (failRenaming s h g) x (λ p. renamedTo s (p .0) (p .1) (renameEdit s c (p .0) (p .1) (p .2) title)) .store)
+            (note call reply L)
         go (refused n) e A =
             let z = sure-rename s h text g title n e in
-            subst (Owes σ p q r s s) (sym (note-failed call reply (Call.Rename a b) _ A n (renaming-says s h g n) (z .0) (z .1) L)) (keeps-refl σ p q r s L I .owes)
+            subst (Owes σ p q r s s) (sym (note-failed call reply (Call.Rename a b) _ A n (renaming-says s h g n) (z .0) (z .1) L))
+            (keeps-refl σ p q r s L I .owes)
         go (passed x) e A =
             subst (Owes σ p q r s (renameEdit s c (x .0) (x .1) (x .2) title)) (sym (note-ok call reply (Call.Rename a b) _ A (renamed-says 0 _ _) L))
-            (rename-facts h text g title (cut-below (a .directory)) (cut-below (b .directory)) (cut-below (b .name)) (x .0) (x .1) (x .2) (rename-passed s h text g title x e))
+            (rename-facts h text g title (cut-below (a .directory)) (cut-below (b .directory)) (cut-below (b .name)) (x .0) (x .1) (x .2)
+            (rename-passed s h text g title x e))

@@ -14,7 +14,8 @@ use Rattle.kinds.specs.Numbers.{zeroWords}
 use Rattle.spec.specs.Bytes.{part, beAt, bytesOf, words, opaqueBytes}
 use Rattle.spec.specs.Count.{bit}
 use Rattle.spec.specs.Replies.{resultBytes, fattr3, postOp, wccData, wccOption, entriesBytes, hyper}
-use Rattle.spec.specs.Results.{Result, null, dead, failed, changed, renamed, gotAttributes, found, granted, gotBytes, wrote, created, listed, gotRoom, gotLimits, gotNaming, committed}
+use Rattle.spec.specs.Results.{Result, null, dead, failed, changed, renamed, gotAttributes, found, granted, gotBytes, wrote, created, listed, gotRoom}
+use Rattle.spec.specs.Results.{gotLimits, gotNaming, committed}
 use Rattle.spec.specs.Rpc.{accepted}
 use Rattle.laws.proofs.Bytes.{part-left, part-right, part-whole, be-add}
 use Rattle.laws.proofs.Error.{statusOf}
@@ -106,7 +107,8 @@ handle-at reply xid ws rest stamp o g at b e =
     ap (λ (x : ℕ). beAt reply x 4) e
     ∙ word-of reply xid (ws ++ (12 ∷ hs)) rest b (length ws) (omega (arith, length-append ws (12 ∷ hs))) (omega (arith, middle ws 12 hs))
     ∙ middle ws 12 hs in
-    let split : words (xid ∷ 1 ∷ 0 ∷ 0 ∷ 0 ∷ 0 ∷ ws ++ (12 ∷ hs)) ≡ words ((six ++ (ws ++ (12 ∷ []))) ++ hs) = ap (λ (x : List ℕ). words (six ++ x)) (sym (append-assoc ws (12 ∷ []) hs)) in
+    let split : words (xid ∷ 1 ∷ 0 ∷ 0 ∷ 0 ∷ 0 ∷ ws ++ (12 ∷ hs)) ≡ words ((six ++ (ws ++ (12 ∷ []))) ++ hs) = ap (λ (x : List ℕ). words (six ++ x))
+    (sym (append-assoc ws (12 ∷ []) hs)) in
     let l : length (six ++ (ws ++ (12 ∷ []))) ≡ 7 + length ws = omega (arith, length-append ws (12 ∷ [])) in
     ap (λ (x : ℕ). part reply (at + 4) x) n
     ∙ ap₂ (λ (x : List ℕ) (y : ℕ). part x y 12) (b ∙ ap (λ (x : List ℕ). x ++ rest) split) (omega (arith, ap (λ (x : ℕ). 4 * x) l))
@@ -145,11 +147,22 @@ starts p (granted a bits) n = only-words p (granted a bits) (postOp a ++ (bits �
 starts p (gotBytes a eof bytes) n = record { ws = postOp a ++ (length bytes ∷ bit eof ∷ []); rest = opaqueBytes bytes; is = refl }
 starts p (wrote c count verifier) n = only-words p (wrote c count verifier) (wccData c ++ (count ∷ 2 ∷ hyper verifier)) refl
 starts p (created h a d) n =
-    record { ws = 1 ∷ []; rest = opaqueBytes h ++ words (postOp a ++ wccData d); is = append-assoc (words (0 ∷ 1 ∷ [])) (opaqueBytes h) (words (postOp a ++ wccData d)) }
+    record {
+      ws = 1 ∷ [];
+      rest = opaqueBytes h ++ words (postOp a ++ wccData d);
+      is = append-assoc (words (0 ∷ 1 ∷ [])) (opaqueBytes h)
+          (words (postOp a ++ wccData d));
+    }
 starts p (listed a es eof) n =
-    record { ws = postOp a ++ hyper 0; rest = entriesBytes es ++ words (0 ∷ bit eof ∷ []); is = append-assoc (words (0 ∷ postOp a ++ hyper 0)) (entriesBytes es) (words (0 ∷ bit eof ∷ [])) }
+    record {
+      ws = postOp a ++ hyper 0;
+      rest = entriesBytes es ++ words (0 ∷ bit eof ∷ []);
+      is = append-assoc (words (0 ∷ postOp a ++ hyper 0))
+          (entriesBytes es) (words (0 ∷ bit eof ∷ []));
+    }
 starts p (gotRoom a total free objects available) n =
-    only-words p (gotRoom a total free objects available) (postOp a ++ hyper total ++ hyper free ++ hyper free ++ hyper objects ++ hyper available ++ hyper available ++ (0 ∷ [])) refl
+    only-words p (gotRoom a total free objects available)
+    (postOp a ++ hyper total ++ hyper free ++ hyper free ++ hyper objects ++ hyper available ++ hyper available ++ (0 ∷ [])) refl
 starts p (gotLimits a) n = only-words p (gotLimits a) (postOp a ++ (4096 ∷ 4096 ∷ 1 ∷ 4096 ∷ 4096 ∷ 1 ∷ 4096 ∷ hyper 8192) ++ (0 ∷ 1 ∷ 0x18 ∷ [])) refl
 starts p (gotNaming a) n = only-words p (gotNaming a) (postOp a ++ (1 ∷ 32 ∷ 1 ∷ 0 ∷ 0 ∷ 1 ∷ [])) refl
 starts p (committed c verifier) n = only-words p (committed c verifier) (wccData c ++ hyper verifier) refl
@@ -166,7 +179,8 @@ module _ (xid p : ℕ) (r : Result) (n : r ≢ null) (small : statusOf r < 42949
   answered-ok = ok-is _ xid (statusOf r ∷ starts p r n .ws) (starts p r n .rest) first-word (omega arith) small
 
 -- the handle in a reply
-pub made-is : (xid p stamp o g : ℕ) (a : Attributes) (d : Change) → handleAt (accepted xid 0 (resultBytes p (created (handleBytes stamp o g) a d))) 32 ≡ handleBytes stamp o g
+pub made-is : (xid p stamp o g : ℕ) (a : Attributes) (d : Change) → handleAt (accepted xid 0 (resultBytes p (created (handleBytes stamp o g) a d)))
+    32 ≡ handleBytes stamp o g
 unfolding resultBytes
 made-is xid p stamp o g a d =
     handle-at _ xid (0 ∷ 1 ∷ []) (words (postOp a ++ wccData d)) stamp o g 32
@@ -174,7 +188,8 @@ made-is xid p stamp o g a d =
     (ap (λ (x : List ℕ). words (0 ∷ 1 ∷ []) ++ x ++ words (postOp a ++ wccData d)) (opaque-handle stamp o g)
     ∙ ap (λ (x : List ℕ). x ++ words (postOp a ++ wccData d)) (sym (words-append (0 ∷ 1 ∷ []) (12 ∷ stamp ∷ o ∷ g ∷ []))))) refl
 
-pub found-is : (xid p stamp o g : ℕ) (a d : Attributes) → handleAt (accepted xid 0 (resultBytes p (found (handleBytes stamp o g) a d))) 28 ≡ handleBytes stamp o g
+pub found-is : (xid p stamp o g : ℕ) (a d : Attributes) → handleAt (accepted xid 0 (resultBytes p (found (handleBytes stamp o g) a d))) 28
+    ≡ handleBytes stamp o g
 unfolding resultBytes
 found-is xid p stamp o g a d =
     handle-at _ xid (0 ∷ []) (words (postOp a ++ postOp d)) stamp o g 28

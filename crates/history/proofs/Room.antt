@@ -33,8 +33,17 @@ module _ (P R : ℕ) (v : Blocks) (M : Room P R v) where
       let m = M .alone b in
       let f : ℕ → ℕ = λ n. times b (v n) in
       by-cases (ℕ-discrete i j)
-      (λ p. (p, inside (v i) k l h (omega (arith, ap (λ (n : ℕ). length (v n)) p)) (ap (λ (n : ℕ). getD (v n) l 0) p ∙ sym e) (omega (arith, sum-at P i f (M .past i (omega arith))))))
-      (λ n. absurd (omega (arith, times-at b 0 (v i) k h refl, times-at b 0 (v j) l g (sym e), sum-two P i j f (M .past i (omega arith)) (M .past j (omega arith)) n)))
+      (λ p. (
+        p,
+        inside (v i) k l h (omega (arith, ap (λ (n : ℕ). length (v n)) p)) (ap (λ (n : ℕ). getD (v n) l 0) p ∙ sym e)
+            (omega (arith, sum-at P i f (M .past i (omega arith)))),
+      ))
+      (λ n. absurd (omega (
+        arith,
+        times-at b 0 (v i) k h refl,
+        times-at b 0 (v j) l g (sym e),
+        sum-two P i j f (M .past i (omega arith)) (M .past j (omega arith)) n,
+      )))
     where
       inside : (xs : List ℕ) (k l : ℕ) → k < length xs → l < length xs → getD xs l 0 ≡ getD xs k 0 → times (getD xs k 0) xs ≤ 1 → k ≡ l
       inside xs k l p q e m = by-cases (decLt k l)

@@ -49,7 +49,8 @@ module _ (σ p q r : ℕ) (s : Store) (L : Ledger) (I : Inv σ p q r s L) (c : C
       let k = kind-at s o (w .reached .below) in
       let l : Live (view s) o = omega (arith, w .reached .live) in
       let first = resize-to σ p q r s L I o (a .size)
-      (λ t. k ∙ regular-of (blocks s) (objectAt s o) (live-at s (good σ p q r s L I) o (w .reached .below) (w .reached .live)) (w .not-directory t)) (w .allowed .size) (w .room) in
+      (λ t. k ∙ regular-of (blocks s) (objectAt s o) (live-at s (good σ p q r s L I) o (w .reached .below) (w .reached .live)) (w .not-directory t))
+      (w .allowed .size) (w .room) in
       keeps-trans σ p q r s (resizeTo s o (a .size)) _ L L first
       (touch-inv σ p q r (resizeTo s o (a .size)) L (first .owes .inv) (c .clock) o (sizeTouches a) (omega (arith, first .kinds o l)) clock
       (size-touches-fits a f) (size-touches-allowed a (w .allowed)))
@@ -77,7 +78,8 @@ module _ (σ p q r : ℕ) (s : Store) (L : Ledger) (I : Inv σ p q r s L) (c : C
       let fill = resize-size s o size (g .sound) n (live-at s g o n (omega (arith, kind-at s o n))) small room in
       let second = write-inv σ p q r t L (first .owes .inv) o offset xs l b (omega arith) in
       let u = writeFile t o offset xs in
-      let third = touch-inv σ p q r u L (second .owes .inv) (c .clock) o mtimeAndCtime (omega (arith, second .kinds o l)) clock mtime-and-ctime-fits mtime-and-ctime-allowed in
+      let third = touch-inv σ p q r u L (second .owes .inv) (c .clock) o mtimeAndCtime (omega (arith, second .kinds o l)) clock mtime-and-ctime-fits
+      mtime-and-ctime-allowed in
       keeps-trans σ p q r s t _ L L first (keeps-trans σ p q r t u _ L L second third)
 
   write-edit : (h : List ℕ) (offset count : ℕ) (bytes : List ℕ) (o : ℕ) → Below 256 bytes → WritePassed s h offset count bytes o

@@ -71,7 +71,8 @@ module _ (P Q : ℕ) (v : View) (T : Tree P Q v) where
   path-same (q ∷ qs) [] i k a b = absurd (not-named Q v 0 q (T .flat .never) (T .flat .rows q (a .0 .0)) (a .0 .0, cc))
   path-same (q ∷ qs) (p ∷ ps) i k a b =
       let e : q ≡ p = one-name P Q v (T .flat) i q p k (a .0) (b .0) in
-      let r : qs ≡ ps = path-same qs ps (v .dir p) (single P Q v (T .flat) (v .dir p) (T .flat .dirs p (b .0 .0))) (subst (λ (x : ℕ). Path v (v .dir x) qs) e (a .1)) (b .1) in
+      let r : qs ≡ ps = path-same qs ps (v .dir p) (single P Q v (T .flat) (v .dir p) (T .flat .dirs p (b .0 .0)))
+      (subst (λ (x : ℕ). Path v (v .dir x) qs) e (a .1)) (b .1) in
       cc
 
   pub path-live : (qs : List ℕ) (i : ℕ) → Path v i qs → Live v i
@@ -99,4 +100,10 @@ module _ (P Q : ℕ) (v : View) (T : Tree P Q v) where
       let c = path-above qs i j (omega arith) a in
       let d = path-above qs i k (omega arith) a in
       let f : Path v (above v i qs k) (drop j qs) = subst (λ (x : ℕ). Path v x (drop j qs)) e c in
-      omega (arith, ap length (path-same (drop j qs) (drop k qs) (above v i qs k) (single P Q v (T .flat) (above v i qs k) (path-directory qs i k (omega arith) (omega arith) a)) f d), length-drop j qs, length-drop k qs))
+      omega (
+        arith,
+        ap length (path-same (drop j qs) (drop k qs) (above v i qs k)
+            (single P Q v (T .flat) (above v i qs k) (path-directory qs i k (omega arith) (omega arith) a)) f d),
+        length-drop j qs,
+        length-drop k qs,
+      ))

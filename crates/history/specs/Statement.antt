@@ -30,7 +30,8 @@ use Rattle.spec.specs.Checked.{passed}
 use Rattle.spec.specs.Procedures.{cut}
 use Rattle.spec.specs.Procedures.Attributes.{isGiven, sizeSet, badAttributes, differs}
 use Rattle.spec.specs.Serve.{format}
-use Rattle.history.specs.Book.{Standing, asRoot, under, Line, Book, Ledger, handleBytes, firstLedger, someAt, asked, isStatus, isOk, foundHandle, madeHandle}
+use Rattle.history.specs.Book.{Standing, asRoot, under, Line, Book, Ledger, handleBytes, firstLedger, someAt, asked, isStatus, isOk}
+use Rattle.history.specs.Book.{foundHandle, madeHandle}
 use Rattle.history.specs.Run.{Request, Lent, AllLent, replyTo, State, step, run}
 
 -- ---- THE WORDS OF THE STATEMENT

@@ -26,7 +26,8 @@ use Rattle.spec.specs.Image.{Store, objects, names, blocks, objectAt, nameAt}
 use Rattle.spec.specs.Procedures.{cut, act}
 use Rattle.spec.specs.Procedures.Attributes.{isGiven, sizeSet, sizeTouches, resizeTo, checkSetattr, setattrEdit, edited, setattr}
 use Rattle.spec.specs.Procedures.Data.{grown, checkWrite, writeEdit, writeStore, writeDone, write}
-use Rattle.spec.specs.Procedures.Names.{newObject, touchDirectory, newEdit, createdIn, Target, new, existing, settableOf, existingEdit, createEdit, checkCreate, create, checkMkdir, mkdir}
+use Rattle.spec.specs.Procedures.Names.{newObject, touchDirectory, newEdit, createdIn, Target, new, existing, settableOf, existingEdit, createEdit}
+use Rattle.spec.specs.Procedures.Names.{checkCreate, create, checkMkdir, mkdir}
 use Rattle.spec.specs.Procedures.Removal.{checkRemove, checkRmdir, removeFrom, remove, rmdir, checkRename, renameEdit, failRenaming, renamedTo, rename}
 use Rattle.spec.specs.Results.{Result, Done, failChanging, settle}
 use Rattle.spec.specs.Room.{sizeOf, need, freeBlockCount}
@@ -36,19 +37,25 @@ use Rattle.laws.proofs.BlockLists.{held-range}
 use Rattle.laws.proofs.BlockWrites.{write-file}
 use Rattle.laws.proofs.Count.{by-bool, true-false}
 use Rattle.laws.proofs.CreateObject.{create-object, create-object-uses}
-use Rattle.laws.proofs.Error.{getattr-store, lookup-store, access-store, read-store, readdir-store, fsstat-store, fsinfo-store, pathconf-store, commit-store}
+use Rattle.laws.proofs.Error.{getattr-store, lookup-store, access-store, read-store, readdir-store, fsstat-store, fsinfo-store, pathconf-store}
+use Rattle.laws.proofs.Error.{commit-store}
 use Rattle.laws.proofs.GoodKept.{used-of}
-use Rattle.laws.proofs.GoodRecords.{GoodRecords, StillGood, GoodClock, clock-fits, valid-records, still-refl, still-trans, live-at, free-size, used-at, set-attributes-still, resize-still, write-file-still, create-object-still, remove-object-still, move-name-still}
+use Rattle.laws.proofs.GoodRecords.{GoodRecords, StillGood, GoodClock, clock-fits, valid-records, still-refl, still-trans, live-at, free-size}
+use Rattle.laws.proofs.GoodRecords.{used-at, set-attributes-still, resize-still, write-file-still, create-object-still, remove-object-still}
+use Rattle.laws.proofs.GoodRecords.{move-name-still}
 use Rattle.laws.proofs.Kept.{kept-refl}
 use Rattle.laws.proofs.MoveName.{move-name}
-use Rattle.laws.proofs.Passed.{SetattrPassed, setattr-passed, WritePassed, write-passed, NewRoom, CreatePassed, create-passed, mkdir-passed, RemovePassed, remove-passed, RmdirPassed, rmdir-passed, RenamePassed, rename-passed, found-record, no-entries}
+use Rattle.laws.proofs.Passed.{SetattrPassed, setattr-passed, WritePassed, write-passed, NewRoom, CreatePassed, create-passed, mkdir-passed}
+use Rattle.laws.proofs.Passed.{RemovePassed, remove-passed, RmdirPassed, rmdir-passed, RenamePassed, rename-passed, found-record, no-entries}
 use Rattle.laws.proofs.Range.{Below, below-take}
 use Rattle.laws.proofs.RecordRange.{below-part}
 use Rattle.laws.proofs.RemoveObject.{remove-object}
 use Rattle.laws.proofs.Resize.{resize-size, resize-tree}
 use Rattle.laws.proofs.SameReads.{freeBlockCount-reads}
 use Rattle.laws.proofs.Served.{Ran, serve-ran}
-use Rattle.laws.proofs.SetAttributes.{FitsSettable, Allowed, only-ctime-fits, mtime-and-ctime-fits, only-ctime-allowed, mtime-and-ctime-allowed, size-touches-fits, size-touches-allowed, set-attributes-structure, new-fits, new-live}
+use Rattle.laws.proofs.SetAttributes.{FitsSettable, Allowed, only-ctime-fits, mtime-and-ctime-fits, only-ctime-allowed}
+use Rattle.laws.proofs.SetAttributes.{mtime-and-ctime-allowed, size-touches-fits, size-touches-allowed, set-attributes-structure, new-fits}
+use Rattle.laws.proofs.SetAttributes.{new-live}
 use Rattle.laws.proofs.Structure.{SameTree, kept-structure}
 use Rattle.laws.proofs.Unique.{one-naming}
 use Rattle.laws.proofs.Valid.{LiveObject, GoodName, Live, Used, Valid, live-size}
@@ -119,7 +126,8 @@ module _ (s : Store) (g : GoodRecords s) (c : Context) (k : GoodClock (c .clock)
       let same = write-file t o offset xs (r .good .sound) (live-at t (r .good) o m (omega arith)) w inside .each-object o m in
       let i = still-trans s t u r q in
       still-trans s u (writeEdit s c o offset xs) i
-      (set-attributes-still u (q .good) (c .clock) o mtimeAndCtime (below-after s u i o l) (rw same (omega arith)) k mtime-and-ctime-fits mtime-and-ctime-allowed)
+      (set-attributes-still u (q .good) (c .clock) o mtimeAndCtime (below-after s u i o l) (rw same (omega arith)) k mtime-and-ctime-fits
+      mtime-and-ctime-allowed)
 
 module _ (s : Store) (c : Context) (v : Valid s) (b : Below 256 s) (k : GoodClock (c .clock)) where
   records : GoodRecords s
@@ -185,14 +193,16 @@ module _ (s : Store) (c : Context) (v : Valid s) (b : Below 256 s) (k : GoodCloc
       let r = create-object-still s records o n x d text l (room .object-free) (room .generation-low) (room .name-below) fits live refl below dir good w in
       let e = create-object s o n x d text h l (room .name-below) fits (omega arith) (good .short) w in
       let free : freeBlockCount t ≡ freeBlockCount s = freeBlockCount-reads s t (e .shape .blocks)
-      (λ q _. create-object-uses s o n x d text h l (room .name-below) fits (omega arith) (good .short) w (free-size s records o l (room .object-free)) refl q) in
+      (λ q _. create-object-uses s o n x d text h l (room .name-below) fits (omega arith) (good .short) w
+      (free-size s records o l (room .object-free)) refl q) in
       let size : objectAt t o .size ≡ 0 = ap (λ (y : Object). y .size) (e .object) in
       let sizes = resize-to t (r .good) o (a .size) (below-after s t r o l) (λ given. ap (λ (y : Object). y .kind) (e .object) ∙ sized given) (allow .size)
       (rw (size, free) (omega (arith, room .room))) in
       let u = resizeTo t o (a .size) in
       let m = below-after s t r d below in
       touch-after s u (still-trans s t u r (sizes .0)) c d k below
-      (sizes .1 .kind d m ∙ ap (λ (y : Object). y .kind) (e .other-objects d below (λ q. omega (arith, room .object-free, ap (λ (i : ℕ). objectAt s i .kind) q)))) dir
+      (sizes .1 .kind d m ∙ ap (λ (y : Object). y .kind)
+      (e .other-objects d below (λ q. omega (arith, room .object-free, ap (λ (i : ℕ). objectAt s i .kind) q)))) dir
 
   existing-edit : (a : Settable) (o : ℕ) (x : SetSize) → o < objects s → objectAt s o .kind ≡ REGULAR → sizeSet x 0 ≤ 8192
       → need (sizeSet x (sizeOf s o)) - need (sizeOf s o) ≤ freeBlockCount s → StillGood s (existingEdit s c o x)
@@ -202,7 +212,8 @@ module _ (s : Store) (c : Context) (v : Valid s) (b : Below 256 s) (k : GoodCloc
       let r = resize-still s records o n l reg small room in
       let tree = resize-tree s o n (records .sound) l (live-at s records o l (omega arith)) small room in
       still-trans s t (existingEdit s c o (SetSize.To n)) r
-      (set-attributes-still t (r .good) (c .clock) o mtimeAndCtime (below-after s t r o l) (rw (tree .kind o l) (omega arith)) k mtime-and-ctime-fits mtime-and-ctime-allowed)
+      (set-attributes-still t (r .good) (c .clock) o mtimeAndCtime (below-after s t r o l) (rw (tree .kind o l) (omega arith)) k mtime-and-ctime-fits
+      mtime-and-ctime-allowed)
 
   create-target : (h text : List ℕ) (manner : How) (d : ℕ) (t : Target) → Below 256 text → FitsHow manner → CreatePassed s h text manner d t
       → StillGood s (createEdit s c d text (settableOf manner) t .store)
@@ -226,7 +237,8 @@ module _ (s : Store) (c : Context) (v : Valid s) (b : Below 256 s) (k : GoodCloc
   mkdir-good h text a w f =
       settle-good (failChanging s h) (checkMkdir s h text a) (λ p. createdIn s (newEdit s c DIRECTORY (p .1) (p .2) (p .0) text a) (p .0) (p .1))
       (λ p e. let q = mkdir-passed s h text a p e in
-      new-edit DIRECTORY (p .1) (p .2) (p .0) text a (_⊎_.inr refl) (λ given. true-false (sym given ∙ q .no-size)) (rw (not-given (a .size) (q .no-size)) (q .room))
+      new-edit DIRECTORY (p .1) (p .2) (p .0) text a (_⊎_.inr refl) (λ given. true-false (sym given ∙ q .no-size))
+      (rw (not-given (a .size) (q .no-size)) (q .room))
       (q .reached .below) (q .directory) (q .good) w f (q .allowed))
 
   -- ---- REMOVE and RMDIR

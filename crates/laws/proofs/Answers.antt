@@ -11,7 +11,9 @@ use Rattle.spec.specs.Image.{Store}
 use Rattle.spec.specs.Procedures.Data.{readLength, checkWrite}
 use Rattle.spec.specs.Serve.{serve}
 use Rattle.spec.specs.Xdr.{number}
-use Rattle.spec.proofs.Setting.{context, space, fresh, callTo, served, after, statusIn, handleTo, getattrCall, lookupCall, createCall, mkdirCall, removeCall, writeCall, readCall, readdirCall, rootWords, nameA, rootAlone, withA, setattrCall, createBy, rmdirCall, renameCall, nameB, answerTo, nameC, threeDirectories, later, computing}
+use Rattle.spec.proofs.Setting.{context, space, fresh, callTo, served, after, statusIn, handleTo, getattrCall, lookupCall, createCall, mkdirCall}
+use Rattle.spec.proofs.Setting.{removeCall, writeCall, readCall, readdirCall, rootWords, nameA, rootAlone, withA, setattrCall, createBy, rmdirCall}
+use Rattle.spec.proofs.Setting.{renameCall, nameB, answerTo, nameC, threeDirectories, later, computing}
 
 -- a store whose one record beside the root is free, of generation 4,294,967,295
 abbrev pub spent : Store
@@ -57,7 +59,8 @@ pub record Answers : Type 0 where
   pub zero-byte : statusIn (served (lookupCall (0 ∷ [])) rootAlone) ≡ 13
   pub longest-name : statusIn (served (createCall (replicate 32 0x61)) (fresh 2 1 0)) ≡ 0
   -- SETATTR: every field lands in its place; "INVAL for .. client nanoseconds of 1,000,000,000 or more, .. size over 8,192"
-  pub all-set : replyFrom (getattrCall 0) (after (setattrCall 0 (1 ∷ 1 ∷ 1 ∷ 2 ∷ 1 ∷ 3 ∷ 0 ∷ 2 ∷ 11 ∷ 12 ∷ 2 ∷ 13 ∷ 14 ∷ 0 ∷ []) ∷ []) rootAlone) 24 ≡ words (0 ∷ 2 ∷ 1 ∷ 2 ∷ 2 ∷ 3 ∷ 0 ∷ 512 ∷ 0 ∷ 0 ∷ 0 ∷ 0 ∷ 0 ∷ 9 ∷ 0 ∷ 1 ∷ 11 ∷ 12 ∷ 13 ∷ 14 ∷ 5 ∷ 6 ∷ [])
+  pub all-set : replyFrom (getattrCall 0) (after (setattrCall 0 (1 ∷ 1 ∷ 1 ∷ 2 ∷ 1 ∷ 3 ∷ 0 ∷ 2 ∷ 11 ∷ 12 ∷ 2 ∷ 13 ∷ 14 ∷ 0 ∷ []) ∷ []) rootAlone) 24
+      ≡ words (0 ∷ 2 ∷ 1 ∷ 2 ∷ 2 ∷ 3 ∷ 0 ∷ 512 ∷ 0 ∷ 0 ∷ 0 ∷ 0 ∷ 0 ∷ 9 ∷ 0 ∷ 1 ∷ 11 ∷ 12 ∷ 13 ∷ 14 ∷ 5 ∷ 6 ∷ [])
   pub client-time : statusIn (served (setattrCall 0 (0 ∷ 0 ∷ 0 ∷ 0 ∷ 2 ∷ 0 ∷ 999999999 ∷ 0 ∷ 0 ∷ [])) rootAlone) ≡ 0
   pub client-atime : statusIn (served (setattrCall 0 (0 ∷ 0 ∷ 0 ∷ 0 ∷ 2 ∷ 0 ∷ 1000000000 ∷ 0 ∷ 0 ∷ [])) rootAlone) ≡ 22
   pub client-mtime : statusIn (served (setattrCall 0 (0 ∷ 0 ∷ 0 ∷ 0 ∷ 0 ∷ 2 ∷ 0 ∷ 1000000000 ∷ 0 ∷ [])) rootAlone) ≡ 22
@@ -65,7 +68,8 @@ pub record Answers : Type 0 where
   pub size-over : statusIn (served (setattrCall 1 (sizeOnly 8193 ++ (0 ∷ []))) withA) ≡ 22
   pub guard-same : statusIn (served (setattrCall 0 (0 ∷ 0 ∷ 0 ∷ 0 ∷ 0 ∷ 0 ∷ 1 ∷ 5 ∷ 6 ∷ [])) rootAlone) ≡ 0
   -- zeroing: "AB", cut to one byte, grown to three
-  pub tail-cleared : replyFrom (readCall 1) (after (writeCall 1 0 (0x41 ∷ 0x42 ∷ []) ∷ setattrCall 1 (sizeOnly 1 ++ (0 ∷ [])) ∷ setattrCall 1 (sizeOnly 3 ++ (0 ∷ [])) ∷ []) withA) 124 ≡ words (3 ∷ []) ++ (0x41 ∷ 0 ∷ 0 ∷ 0 ∷ [])
+  pub tail-cleared : replyFrom (readCall 1) (after (writeCall 1 0 (0x41 ∷ 0x42 ∷ []) ∷ setattrCall 1 (sizeOnly 1 ++ (0 ∷ [])) ∷ setattrCall 1
+      (sizeOnly 3 ++ (0 ∷ [])) ∷ []) withA) 124 ≡ words (3 ∷ []) ++ (0x41 ∷ 0 ∷ 0 ∷ 0 ∷ [])
   -- READ and COMMIT: "not regular, INVAL"; "n = min(count, 4096, bytes left); eof when offset + n is at least size"
   pub read-directory : statusIn (served (readCall 0) rootAlone) ≡ 22
   pub commit-directory : statusIn (served (callTo 21 (handleTo 0 ++ words (0 ∷ 0 ∷ 0 ∷ []))) rootAlone) ≡ 22
@@ -77,7 +81,8 @@ pub record Answers : Type 0 where
   pub wrote : part (served (writeCall 1 0 nameA) withA .space) 144 16 ≡ words (1 ∷ 2 ∷ 0 ∷ 8 ∷ [])
   pub write-most : checkWrite withA (words (9 ∷ 1 ∷ 0 ∷ [])) 4096 4097 (zeros 4097) ≡ passed 1
   pub write-no-room : statusIn (served (writeCall 1 512 nameA) (after (createCall nameA ∷ []) (fresh 2 1 1))) ≡ 28
-  pub wide-verifier : part (serve (writeCall 1 0 nameA) withA space (record { clock = context .clock; verifier = 4294967296 * 3 + 4 }) .space) 152 8 ≡ words (3 ∷ 4 ∷ [])
+  pub wide-verifier : part (serve (writeCall 1 0 nameA) withA space (record { clock = context .clock; verifier = 4294967296 * 3 + 4 }) .space) 152 8
+      ≡ words (3 ∷ 4 ∷ [])
   -- CREATE: the reply's head; "4,294,967,295 is never given out"; NOSPC for a size; UNCHECKED on an existing file
   pub created : part (served (createCall nameA) (fresh 2 1 16) .space) 24 24 ≡ words (0 ∷ 1 ∷ 12 ∷ 9 ∷ 1 ∷ 0 ∷ [])
   pub spent-record : statusIn (served (createCall nameA) spent) ≡ 28
@@ -90,7 +95,8 @@ pub record Answers : Type 0 where
   pub rename-dot : statusIn (served (renameCall 0 (0x2E ∷ []) 0 nameB) withA) ≡ 22
   pub rename-to-dots : statusIn (served (renameCall 0 nameA 0 (0x2E ∷ 0x2E ∷ [])) withA) ≡ 22
   pub rename-none : statusIn (served (renameCall 0 nameB 0 nameC) withA) ≡ 2
-  pub one-dead : replyFrom (callTo 14 (handleTo 0 ++ opaqueBytes nameA ++ words (0 ∷ []) ++ opaqueBytes nameA)) rootAlone 24 ≡ words (10001 ∷ 1 ∷ 0 ∷ 512 ∷ 5 ∷ 6 ∷ 5 ∷ 6 ∷ 1 ∷ rootWords ++ (0 ∷ 0 ∷ []))
+  pub one-dead : replyFrom (callTo 14 (handleTo 0 ++ opaqueBytes nameA ++ words (0 ∷ []) ++ opaqueBytes nameA)) rootAlone 24
+      ≡ words (10001 ∷ 1 ∷ 0 ∷ 512 ∷ 5 ∷ 6 ∷ 5 ∷ 6 ∷ 1 ∷ rootWords ++ (0 ∷ 0 ∷ []))
   -- READDIR: "fileid object plus 1"; "name record s has s + 3": the listing of the root above cookie 2
   pub entry : replyFrom (readdirCall 2 4096) withA 124 ≡ words (1 ∷ 0 ∷ 2 ∷ 1 ∷ 0x61000000 ∷ 0 ∷ 3 ∷ 0 ∷ 1 ∷ [])
   pub no-entry : replyFrom (readdirCall 3 4096) withA 124 ≡ words (0 ∷ 1 ∷ [])
@@ -102,9 +108,11 @@ pub record Answers : Type 0 where
   pub used : part (served (getattrCall 1) (after (setattrCall 1 (sizeOnly 513 ++ (0 ∷ [])) ∷ []) withA) .space) 48 16 ≡ words (0 ∷ 513 ∷ 0 ∷ 1024 ∷ [])
   -- ACCESS of a file; FSSTAT of a store with two objects and two blocks, of which one is used
   pub access-file : part (served (callTo 4 (handleTo 1 ++ words (0xFFFFFFFF ∷ []))) withA .space) 116 4 ≡ words (0x2D ∷ [])
-  pub room : replyFrom (callTo 18 (handleTo 0)) (after (createCall nameA ∷ writeCall 1 0 nameA ∷ []) (fresh 3 1 2)) 116 ≡ words (0 ∷ 1024 ∷ 0 ∷ 512 ∷ 0 ∷ 512 ∷ 0 ∷ 3 ∷ 0 ∷ 1 ∷ 0 ∷ 1 ∷ 0 ∷ [])
+  pub room : replyFrom (callTo 18 (handleTo 0)) (after (createCall nameA ∷ writeCall 1 0 nameA ∷ []) (fresh 3 1 2)) 116
+      ≡ words (0 ∷ 1024 ∷ 0 ∷ 512 ∷ 0 ∷ 512 ∷ 0 ∷ 3 ∷ 0 ∷ 1 ∷ 0 ∷ 1 ∷ 0 ∷ [])
   -- "Added or removed names set the directory's mtime and ctime.": by a clock of 7 s 8 ns
-  pub touched : part (serve (getattrCall 0) (serve (createCall nameA) (fresh 2 1 0) space later .store) space later .space) 88 24 ≡ words (5 ∷ 6 ∷ 7 ∷ 8 ∷ 7 ∷ 8 ∷ [])
+  pub touched : part (serve (getattrCall 0) (serve (createCall nameA) (fresh 2 1 0) space later .store) space later .space) 88 24
+      ≡ words (5 ∷ 6 ∷ 7 ∷ 8 ∷ 7 ∷ 8 ∷ [])
 
 pub answers : Answers
 unfolding computing

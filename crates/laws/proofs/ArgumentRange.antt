@@ -15,7 +15,9 @@ use Rattle.kinds.specs.declared.call.How.{How}
 use Rattle.kinds.specs.declared.call.How.the-variants as How
 use Rattle.kinds.specs.declared.call.Arguments.{Arguments}
 use Rattle.kinds.specs.declared.call.Arguments.the-variants as Call
-use Rattle.spec.specs.Arguments.{handle, unbounded, nameIn, time, setNumber, setSize, setTime, settable, guard, how, setattrArguments, accessArguments, readArguments, writeArguments, createArguments, mkdirArguments, renameArguments, readdirArguments, commitArguments, whole, only, arguments}
+use Rattle.spec.specs.Arguments.{handle, unbounded, nameIn, time, setNumber, setSize, setTime, settable, guard, how, setattrArguments}
+use Rattle.spec.specs.Arguments.{accessArguments, readArguments, writeArguments, createArguments, mkdirArguments, renameArguments, readdirArguments}
+use Rattle.spec.specs.Arguments.{commitArguments, whole, only, arguments}
 use Rattle.spec.specs.Bytes.{beAt}
 use Rattle.spec.specs.Xdr.{Reader, _>>=_, done, number, word, long, flag, choice, end}
 use Rattle.laws.proofs.Range.{Below, be-below}
@@ -55,14 +57,16 @@ word-fits call b at n next e =
 time-fits : Gives FitsTime time
 unfolding time
 time-fits =
-    gives-then (λ (n : ℕ). n < 2 ^ 32) FitsTime word (λ seconds. word >>= (λ nanoseconds. done (record { seconds = seconds; nanoseconds = nanoseconds }))) word-fits (λ x f.
+    gives-then (λ (n : ℕ). n < 2 ^ 32) FitsTime word
+    (λ seconds. word >>= (λ nanoseconds. done (record { seconds = seconds; nanoseconds = nanoseconds }))) word-fits (λ x f.
     gives-then (λ (n : ℕ). n < 2 ^ 32) FitsTime word (λ nanoseconds. done (record { seconds = x; nanoseconds = nanoseconds })) word-fits (λ y g.
     gives-done FitsTime (record { seconds = x; nanoseconds = y }) (record { seconds = f; nanoseconds = g })))
 
 set-number-fits : Gives FitsNumber setNumber
 unfolding setNumber
 set-number-fits =
-    gives-then (λ (b : Bool). Unit {0}) FitsNumber flag (λ given. cond given (word >>= (λ n. done (SetNumber.To n))) (done SetNumber.Keep)) (gives-any flag) (λ given _.
+    gives-then (λ (b : Bool). Unit {0}) FitsNumber flag (λ given. cond given (word >>= (λ n. done (SetNumber.To n))) (done SetNumber.Keep))
+    (gives-any flag) (λ given _.
     gives-cond FitsNumber given (word >>= (λ n. done (SetNumber.To n))) (done SetNumber.Keep)
     (gives-then (λ (n : ℕ). n < 2 ^ 32) FitsNumber word (λ n. done (SetNumber.To n)) word-fits (λ n f. gives-done FitsNumber (SetNumber.To n) f))
     (gives-done FitsNumber SetNumber.Keep tt))
@@ -71,7 +75,8 @@ set-time-fits : Gives FitsSetTime setTime
 unfolding setTime
 set-time-fits =
     let client : Reader SetTime = time >>= (λ t. done (SetTime.ToClient t)) in
-    gives-then (λ (n : ℕ). Unit {0}) FitsSetTime (choice 2) (λ n. cond (eqb n 0) (done SetTime.Keep) (cond (eqb n 1) (done SetTime.ToServer) client)) (gives-any (choice 2)) (λ n _.
+    gives-then (λ (n : ℕ). Unit {0}) FitsSetTime (choice 2) (λ n. cond (eqb n 0) (done SetTime.Keep) (cond (eqb n 1) (done SetTime.ToServer) client))
+    (gives-any (choice 2)) (λ n _.
     gives-cond FitsSetTime (eqb n 0) (done SetTime.Keep) (cond (eqb n 1) (done SetTime.ToServer) client)
     (gives-done FitsSetTime SetTime.Keep tt)
     (gives-cond FitsSetTime (eqb n 1) (done SetTime.ToServer) client (gives-done FitsSetTime SetTime.ToServer tt)
@@ -113,7 +118,8 @@ how-fits =
     let exclusive : Reader How = long >>= (λ verifier. done (How.Exclusive verifier)) in
     gives-then (λ (n : ℕ). Unit {0}) FitsHow (choice 2) (λ mode. cond (eqb mode 2) exclusive (attributed mode)) (gives-any (choice 2)) (λ mode _.
     gives-cond FitsHow (eqb mode 2) exclusive (attributed mode)
-    (gives-then (λ (n : ℕ). Unit {0}) FitsHow long (λ verifier. done (How.Exclusive verifier)) (gives-any long) (λ v _. gives-done FitsHow (How.Exclusive v) tt))
+    (gives-then (λ (n : ℕ). Unit {0}) FitsHow long (λ verifier. done (How.Exclusive verifier)) (gives-any long)
+    (λ v _. gives-done FitsHow (How.Exclusive v) tt))
     (gives-then FitsSettable FitsHow settable (λ a. done (cond (eqb mode 0) (How.Unchecked a) (How.Guarded a))) settable-fits (λ a f.
     gives-done FitsHow (cond (eqb mode 0) (How.Unchecked a) (How.Guarded a)) (manner-fits (eqb mode 0) a f))))
 

@@ -11,7 +11,8 @@ use Rattle.kinds.specs.declared.call.NameIn.{NameIn}
 use Rattle.kinds.specs.declared.call.Arguments.{Arguments}
 use Rattle.kinds.specs.declared.call.Arguments.the-variants as Call
 use Rattle.spec.specs.Xdr.{Reader, done, word, long, choice, end}
-use Rattle.spec.specs.Arguments.{handle, unbounded, nameIn, settable, guard, how, only, whole, setattrArguments, accessArguments, readArguments, writeArguments, createArguments, mkdirArguments, renameArguments, readdirArguments, commitArguments, arguments}
+use Rattle.spec.specs.Arguments.{handle, unbounded, nameIn, settable, guard, how, only, whole, setattrArguments, accessArguments, readArguments}
+use Rattle.spec.specs.Arguments.{writeArguments, createArguments, mkdirArguments, renameArguments, readdirArguments, commitArguments, arguments}
 use Rattle.laws.proofs.Xdr.{bind-got, opaque-within}
 
 -- a part, and the two parts of a name in a directory, of a call of n bytes

@@ -10,7 +10,8 @@ use native.Mathlib.Omega.{arith}
 use native.Mathlib.Nat.{div-one, add-zero, mod-eq-of-lt, add-assoc, pow-succ', one-le-pow, add-mul, mul-assoc}
 use native.Mathlib.Numerals.{add-one, towards-suc}
 use lib.ListN.{take-append-drop, length, take, drop, getD, set, length-append, length-take, length-drop, length-set}
-use lib.Seq.{getD-take, set-split, append-snoc, take-suc, getD-drop, take-at, take-length, drop-at, take-take, drop-drop, take-add, take-append-le, drop-append-le, drop-append-add, take-append-add, length-take-le, drop-cons, sets-eq, length-paste-head}
+use lib.Seq.{getD-take, set-split, append-snoc, take-suc, getD-drop, take-at, take-length, drop-at, take-take, drop-drop, take-add, take-append-le}
+use lib.Seq.{drop-append-le, drop-append-add, take-append-add, length-take-le, drop-cons, sets-eq, length-paste-head}
 use lib.Arith.{mod-mul}
 use lib.Dec.{lit<, lit≤, eqb}
 use lib.Pow.{pow-pos}
@@ -155,7 +156,8 @@ unfolding overlay
 overlay-set b p x h = rw add-one (set-split b p x h ∙ sym (append-snoc (take p b) x (drop (suc p) b)))
 
 -- a store that has xs at a place, and then gets the byte x behind them: a turn of a loop that writes
-pub overlay-step : (b : List ℕ) (at : ℕ) (xs s : List ℕ) (n x : ℕ) → at + n < length b → length xs ≡ n → s ≡ overlay b at xs → set s (at + n) x ≡ overlay b at (xs ++ (x ∷ []))
+pub overlay-step : (b : List ℕ) (at : ℕ) (xs s : List ℕ) (n x : ℕ) → at + n < length b → length xs ≡ n → s ≡ overlay b at xs
+    → set s (at + n) x ≡ overlay b at (xs ++ (x ∷ []))
 overlay-step b at xs s n x h l e =
     overlay-more b at xs (x ∷ []) s (set s (at + n) x) n (omega arith) l e
     (overlay-set s (at + n) x (rw e (rw (overlay-length b at xs (rw l (omega arith))) h)))

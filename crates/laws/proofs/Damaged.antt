@@ -19,7 +19,8 @@ patched s at xs = take at s ++ xs ++ drop (at + length xs) s
 -- start at 12, names at 336, blocks at 472
 abbrev pub small : Store
 small =
-    after (createCall nameA ∷ callTo 9 (handleTo 0 ++ opaqueBytes (0x62 ∷ []) ++ words (0 ∷ 0 ∷ 0 ∷ 0 ∷ 0 ∷ 0 ∷ [])) ∷ writeCall 1 0 (0x41 ∷ []) ∷ []) (fresh 4 3 2)
+    after (createCall nameA ∷ callTo 9 (handleTo 0 ++ opaqueBytes (0x62 ∷ []) ++ words (0 ∷ 0 ∷ 0 ∷ 0 ∷ 0 ∷ 0 ∷ [])) ∷ writeCall 1 0 (0x41 ∷ []) ∷
+    []) (fresh 4 3 2)
 
 -- the check's answer to that store with one word, or some bytes, put at an index
 abbrev pub checkWith : ℕ → ℕ → ℕ

@@ -25,11 +25,13 @@ use Rattle.spec.specs.Procedures.{cut, act}
 use Rattle.spec.specs.Procedures.Attributes.{getattr, checkSetattr, setattrEdit, edited, setattr, grantedBits, access}
 use Rattle.spec.specs.Procedures.Data.{reachRegular, readResult, read, checkWrite, writeDone, write, commit}
 use Rattle.spec.specs.Procedures.Listing.{entries, entriesAbove, checkReaddir, readdir}
-use Rattle.spec.specs.Procedures.Names.{checkLookup, lookup, touchDirectory, newEdit, createdIn, Target, new, existing, settableOf, checkCreate, createEdit, create, checkMkdir, mkdir}
+use Rattle.spec.specs.Procedures.Names.{checkLookup, lookup, touchDirectory, newEdit, createdIn, Target, new, existing, settableOf, checkCreate}
+use Rattle.spec.specs.Procedures.Names.{createEdit, create, checkMkdir, mkdir}
 use Rattle.spec.specs.Procedures.Removal.{checkRemove, checkRmdir, removeFrom, remove, rmdir, checkRename, renameEdit, failRenaming, renamedTo, rename}
 use Rattle.spec.specs.Procedures.Volume.{fsstat, fsinfo, pathconf}
 use Rattle.spec.specs.Replies.{resultBytes}
-use Rattle.spec.specs.Results.{Result, null, dead, failed, changed, renamed, gotAttributes, found, granted, gotBytes, wrote, created, listed, gotRoom, gotLimits, gotNaming, committed, Done, unchanged, failShowing, failChanging, settle}
+use Rattle.spec.specs.Results.{Result, null, dead, failed, changed, renamed, gotAttributes, found, granted, gotBytes, wrote, created, listed, gotRoom}
+use Rattle.spec.specs.Results.{gotLimits, gotNaming, committed, Done, unchanged, failShowing, failChanging, settle}
 use Rattle.spec.specs.Rpc.{accepted}
 use Rattle.spec.specs.Room.{freeBlockCount, availableCount}
 
@@ -103,7 +105,8 @@ module _ (s : Store) (c : Context) where
   write-error : (h : List ℕ) (offset count : ℕ) (bytes : List ℕ) → KeptUnlessOK s (write s c h offset count bytes)
   unfolding write writeDone
   write-error h offset count bytes =
-      settle-ok s (failChanging s h) (checkWrite s h offset count bytes) (λ o. writeDone s c o offset (take (min count mostTransferBytes) bytes)) (λ o. wrote-ok _ _ _)
+      settle-ok s (failChanging s h) (checkWrite s h offset count bytes) (λ o. writeDone s c o offset (take (min count mostTransferBytes) bytes))
+      (λ o. wrote-ok _ _ _)
 
   create-error : (h text : List ℕ) (manner : How) → KeptUnlessOK s (create s c h text manner)
   unfolding create
@@ -114,7 +117,8 @@ module _ (s : Store) (c : Context) where
   mkdir-error : (h text : List ℕ) (a : Settable) → KeptUnlessOK s (mkdir s c h text a)
   unfolding mkdir
   mkdir-error h text a =
-      settle-ok s (failChanging s h) (checkMkdir s h text a) (λ p. createdIn s (newEdit s c DIRECTORY (p .1) (p .2) (p .0) text a) (p .0) (p .1)) (λ p. created-ok _ _ _)
+      settle-ok s (failChanging s h) (checkMkdir s h text a) (λ p. createdIn s (newEdit s c DIRECTORY (p .1) (p .2) (p .0) text a) (p .0) (p .1))
+      (λ p. created-ok _ _ _)
 
   remove-error : (h : List ℕ) (checks : Checked (ℕ × ℕ)) → KeptUnlessOK s (removeFrom s c h checks)
   unfolding removeFrom
@@ -124,7 +128,8 @@ module _ (s : Store) (c : Context) where
   rename-error : (h text g title : List ℕ) → KeptUnlessOK s (rename s c h text g title)
   unfolding rename
   rename-error h text g title =
-      settle-ok s (failRenaming s h g) (checkRename s h text g title) (λ p. renamedTo s (p .0) (p .1) (renameEdit s c (p .0) (p .1) (p .2) title)) (λ p. renamed-ok _ _)
+      settle-ok s (failRenaming s h g) (checkRename s h text g title) (λ p. renamedTo s (p .0) (p .1) (renameEdit s c (p .0) (p .1) (p .2) title))
+      (λ p. renamed-ok _ _)
 
 -- the procedures that only read
 module _ (s : Store) (h : List ℕ) where

@@ -47,7 +47,8 @@ write-run place s i p (x ∷ xs) f h =
     ∙ overlay-join s p (x ∷ []) (omega arith) xs
 
 -- ---- within one block
-pub read-in-block : (s : Store) (o offset n : ℕ) → offset % 512 + n ≤ 512 → byteAt s o offset + n ≤ length s → readFile s o offset n ≡ part s (byteAt s o offset) n
+pub read-in-block : (s : Store) (o offset n : ℕ) → offset % 512 + n ≤ 512 → byteAt s o offset + n ≤ length s
+    → readFile s o offset n ≡ part s (byteAt s o offset) n
 unfolding readFile
 read-in-block s o offset n h k = read-run (byteAt s o) s offset (byteAt s o offset) n (λ j l. byteAt-next s o offset j (omega arith)) k
 

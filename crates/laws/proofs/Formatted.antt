@@ -137,13 +137,15 @@ module _ (mark p q r : ℕ) (clock : Time) (h : FormatAsked mark p q r clock) wh
   pub formatted-names : names (formatted mark p q r clock) ≡ q
   unfolding names beAt names-begin
   formatted-names =
-      rw formatted-objects (ap beOf (in-names-begin (objectsHead + objectLength * p) 4 (omega arith)) ∙ count-behind objects-end (objectsHead + objectLength * p) q objects-end-length (omega (arith, h .few-names)))
+      rw formatted-objects (ap beOf (in-names-begin (objectsHead + objectLength * p) 4 (omega arith)) ∙ count-behind objects-end
+      (objectsHead + objectLength * p) q objects-end-length (omega (arith, h .few-names)))
 
   pub formatted-blocks : blocks (formatted mark p q r clock) ≡ r
   unfolding blocks beAt blocks-begin
   formatted-blocks =
       rw (formatted-objects, formatted-names)
-      (ap beOf (in-blocks-begin (namesHead + objectLength * p + nameRecordLength * q) 4 (omega arith)) ∙ count-behind names-end (namesHead + objectLength * p + nameRecordLength * q) r names-end-length (omega (arith, h .few-blocks)))
+      (ap beOf (in-blocks-begin (namesHead + objectLength * p + nameRecordLength * q) 4 (omega arith)) ∙ count-behind names-end
+      (namesHead + objectLength * p + nameRecordLength * q) r names-end-length (omega (arith, h .few-blocks)))
 
   pub formatted-shaped : Shaped (formatted mark p q r clock)
   formatted-shaped =
@@ -167,8 +169,10 @@ module _ (mark p q r : ℕ) (clock : Time) (h : FormatAsked mark p q r clock) wh
   formatted-root =
       object-part (formatted mark p q r clock) 12
       ∙ ap (λ (x : List ℕ). objectFrom x 0)
-      (in-front objectsHead objectLength (lit≤ tt) ∙ part-right counted (objectBytes (rootObject clock)) objectsHead 0 objectLength counted-length ∙ part-whole (objectBytes (rootObject clock)) objectLength (object-length (rootObject clock)))
-      ∙ object-again (rootObject clock) (plain-fits 2 493 clock (lit< tt) (lit< tt) (record { seconds = h .seconds; nanoseconds = omega (arith, h .nanoseconds) }))
+      (in-front objectsHead objectLength (lit≤ tt) ∙ part-right counted (objectBytes (rootObject clock)) objectsHead 0 objectLength counted-length ∙
+      part-whole (objectBytes (rootObject clock)) objectLength (object-length (rootObject clock)))
+      ∙ object-again (rootObject clock) (plain-fits 2 493 clock (lit< tt) (lit< tt)
+      (record { seconds = h .seconds; nanoseconds = omega (arith, h .nanoseconds) }))
 
   pub formatted-free : (o : ℕ) → 1 ≤ o → o < p → objectAt (formatted mark p q r clock) o ≡ freeObject 0
   unfolding objects-end
@@ -176,7 +180,8 @@ module _ (mark p q r : ℕ) (clock : Time) (h : FormatAsked mark p q r clock) wh
       let e : objectStart o ≡ objectsHead + objectLength + objectLength * (o - 1) = omega arith in
       free-zeros (formatted mark p q r clock) o
       (in-objects-end (objectStart o) objectLength (omega arith) ∙ ap (λ (i : ℕ). part objects-end i objectLength) e
-      ∙ part-right front (zeros (objectLength * (p - 1))) (objectsHead + objectLength) (objectLength * (o - 1)) objectLength front-length ∙ part-zeros (objectLength * (p - 1)) (objectLength * (o - 1)) objectLength (omega arith))
+      ∙ part-right front (zeros (objectLength * (p - 1))) (objectsHead + objectLength) (objectLength * (o - 1)) objectLength front-length ∙
+      part-zeros (objectLength * (p - 1)) (objectLength * (o - 1)) objectLength (omega arith))
 
   pub formatted-name : (n : ℕ) → n < q → FreeName (formatted mark p q r clock) n
   unfolding names-end
@@ -184,7 +189,8 @@ module _ (mark p q r : ℕ) (clock : Time) (h : FormatAsked mark p q r clock) wh
       free-name (formatted mark p q r clock) n
       (rw formatted-objects
       (in-names-end (namesHead + objectLength * p + nameRecordLength * n) nameRecordLength (omega arith)
-      ∙ part-right names-begin (zeros (nameRecordLength * q)) (namesHead + objectLength * p) (nameRecordLength * n) nameRecordLength names-begin-length ∙ part-zeros (nameRecordLength * q) (nameRecordLength * n) nameRecordLength (omega arith)))
+      ∙ part-right names-begin (zeros (nameRecordLength * q)) (namesHead + objectLength * p) (nameRecordLength * n) nameRecordLength
+      names-begin-length ∙ part-zeros (nameRecordLength * q) (nameRecordLength * n) nameRecordLength (omega arith)))
 
   -- ---- it passes the check
   live-is-root : (o : ℕ) → o < p → Live (formatted mark p q r clock) o → o ≡ 0

@@ -102,7 +102,8 @@ kept-by-bytes s t n e l b =
       all = rw e (name-by-part s t at nameRecordLength (omega arith) b);
       long = rw e w;
       padded = λ z. rw (e, w) (rw (add-assoc at 12 k)
-          (sym (part-part t at nameRecordLength (12 + k) (32 - k) (omega arith)) ∙ ap (λ (x : List ℕ). part x (12 + k) (32 - k)) b ∙ part-part s at nameRecordLength (12 + k) (32 - k) (omega arith) ∙ (rw (add-assoc at 12 k) at z)));
+          (sym (part-part t at nameRecordLength (12 + k) (32 - k) (omega arith)) ∙ ap (λ (x : List ℕ). part x (12 + k) (32 - k)) b ∙ part-part s at
+          nameRecordLength (12 + k) (32 - k) (omega arith) ∙ (rw (add-assoc at 12 k) at z)));
     }
 
 sound-of : (s t : Store) → Sound s → SameShape s t → Below 256 t → ((m : ℕ) → m < names s → nameLength t m ≤ 32) → Sound t
@@ -150,7 +151,8 @@ put-name s n x h l f g =
     let q = name-written s n x k l (f .text) in
     let z = name-length x (f .text) in
     let c = length (x .text) in
-    let bytes : (m : ℕ) → m < names s → m ≢ n → part t (nameStart s m) nameRecordLength ≡ part s (nameStart s m) nameRecordLength = λ m (b : m < names s) (d : m ≢ n).
+    let bytes : (m : ℕ) → m < names s → m ≢ n → part t (nameStart s m) nameRecordLength ≡ part s (nameStart s m) nameRecordLength =
+    λ m (b : m < names s) (d : m ≢ n).
     part-apart s (nameStart s n) (nameBytes x) (omega arith) (nameStart s m) nameRecordLength
     (⊎-elim (λ (a : m < n). _⊎_.inl (omega arith)) (λ (a : n ≤ m). _⊎_.inr (omega arith)) (lt-or-le m n)) in
     let kept : (m : ℕ) → m < names s → m ≢ n → NameKept s t m = λ m b d. kept-by-bytes s t m (q .shape .objects) (h .short m b) (bytes m b d) in

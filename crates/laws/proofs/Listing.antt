@@ -21,7 +21,8 @@ above-append cookie [] fs = refl
 above-append cookie (e ∷ es) fs = from (ltb cookie (e .cookie)) (above-append cookie es fs)
   where
     from : (t : Bool) → entriesAbove cookie (es ++ fs) ≡ entriesAbove cookie es ++ entriesAbove cookie fs
-        → cond t (e ∷ entriesAbove cookie (es ++ fs)) (entriesAbove cookie (es ++ fs)) ≡ cond t (e ∷ entriesAbove cookie es) (entriesAbove cookie es) ++ entriesAbove cookie fs
+        → cond t (e ∷ entriesAbove cookie (es ++ fs)) (entriesAbove cookie (es ++ fs)) ≡ cond t (e ∷ entriesAbove cookie es) (entriesAbove cookie es)
+        ++ entriesAbove cookie fs
     from true q = ap (λ (l : List Entry). e ∷ l) q
     from false q = q
 

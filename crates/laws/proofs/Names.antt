@@ -92,7 +92,8 @@ module _ (s : Store) (n : ℕ) (v : Name) (h : nameStart s n + nameRecordLength 
   unfolding nameAt
   nameAt-same =
       rw objects-same
-      (name-part (putName s n v) (nameStart s n) nameRecordLength (rw length-same (omega (arith, f .text))) ∙ ap (λ (x : List ℕ). nameFrom x 0) bytes-same ∙ name-again v f)
+      (name-part (putName s n v) (nameStart s n) nameRecordLength (rw length-same (omega (arith, f .text))) ∙ ap (λ (x : List ℕ). nameFrom x 0)
+      bytes-same ∙ name-again v f)
 
 -- ---- what is written behind the count of objects and apart from a record leaves it as it was
 pub name-apart : (s : Store) (at : ℕ) (xs : List ℕ) → at + length xs ≤ length s → 12 ≤ at

@@ -9,7 +9,8 @@ use native.Mathlib.Omega.{arith}
 use lib.Dec.{eqb, leb, ltb}
 use lib.ListN.{length}
 use borrow.Author.Tests.{leb-true, leb-false, ltb-true, ltb-false, eqb-true, eqb-false, eq-eqb, not-true, not-false}
-use Rattle.kinds.specs.Numbers.{REGULAR, DIRECTORY, NOENT, ACCES, EXIST, NOTDIR, INVAL, FBIG, NOSPC, NAMETOOLONG, NOTEMPTY, STALE, BADHANDLE, NOT-SYNC, mostTransferBytes}
+use Rattle.kinds.specs.Numbers.{REGULAR, DIRECTORY, NOENT, ACCES, EXIST, NOTDIR, INVAL, FBIG, NOSPC, NAMETOOLONG, NOTEMPTY, STALE, BADHANDLE}
+use Rattle.kinds.specs.Numbers.{NOT-SYNC, mostTransferBytes}
 use Rattle.kinds.specs.declared.call.SetSize.the-variants as SetSize
 use Rattle.kinds.specs.declared.call.Settable.{Settable}
 use Rattle.kinds.specs.declared.call.Guard.{Guard}
@@ -22,14 +23,17 @@ use Rattle.spec.specs.Image.{Store, stamp, objects, names, objectAt, nameAt, na
 use Rattle.spec.specs.Names.{isDots, goodBytes}
 use Rattle.spec.specs.Procedures.Attributes.{isGiven, sizeSet, badAttributes, lacksRoom, differs, checkSetattr}
 use Rattle.spec.specs.Procedures.Data.{reachRegular, grown, checkWrite}
-use Rattle.spec.specs.Procedures.Names.{roomForNew, Target, new, existing, isNew, checkExisting, targetOf, checkNew, checkAttributed, checkHow, checkCreate, settableOf, checkMkdir}
+use Rattle.spec.specs.Procedures.Names.{roomForNew, Target, new, existing, isNew, checkExisting, targetOf, checkNew, checkAttributed, checkHow}
+use Rattle.spec.specs.Procedures.Names.{checkCreate, settableOf, checkMkdir}
 use Rattle.spec.specs.Procedures.Removal.{checkRemove, hasEntries, checkRmdir, isWithin, checkRename}
-use Rattle.spec.specs.Room.{isLive, isRegular, isDirectory, sizeOf, need, freeBlockCount, isAvailable, availableObject, isUsedName, availableName, isIn, isNamed, findName}
+use Rattle.spec.specs.Room.{isLive, isRegular, isDirectory, sizeOf, need, freeBlockCount, isAvailable, availableObject, isUsedName, availableName}
+use Rattle.spec.specs.Room.{isIn, isNamed, findName}
 use Rattle.laws.proofs.Bytes.{same-eq}
 use Rattle.laws.proofs.Count.{and-both, by-bool, true-false, lowest-passes, some-none}
 use Rattle.laws.proofs.SetAttributes.{Allowed, allowed}
 use Rattle.laws.proofs.Tests.{and-true, or-none, true-nonzero}
-use Rattle.laws.proofs.Valid.{Live, Used, GoodName, live-true, live-false, used-true, true-used, used-false, directory-true, true-directory, regular-true, bytes-good, dots-no}
+use Rattle.laws.proofs.Valid.{Live, Used, GoodName, live-true, live-false, used-true, true-used, used-false, directory-true, true-directory}
+use Rattle.laws.proofs.Valid.{regular-true, bytes-good, dots-no}
 
 -- ---- checks in order
 refused-passed : {A : Type 0} (status : ℕ) (a : A) → refused status ≡ passed a → ⊥
@@ -41,7 +45,8 @@ bind-passed (refused status) k b e f = absurd (refused-passed status b e)
 bind-passed (passed a) k b e f = f a refl e
 
 -- the test does not hold, and the rest
-pub refuse-passed : {B P : Type 0} (t : Bool) (status : ℕ) (k : Checked B) (b : B) → bind (refuseIf t status) (λ _. k) ≡ passed b → (t ≡ false → k ≡ passed b → P) → P
+pub refuse-passed : {B P : Type 0} (t : Bool) (status : ℕ) (k : Checked B) (b : B) → bind (refuseIf t status) (λ _. k) ≡ passed b
+    → (t ≡ false → k ≡ passed b → P) → P
 refuse-passed true status k b e f = absurd (refused-passed status b e)
 refuse-passed false status k b e f = f refl e
 
@@ -85,7 +90,8 @@ reach-passed s h o e =
       below = rw q at (leb-false (objects s) (beAt h 4 4) t₂);
       same-stamp = eqb-true (beAt h 0 4) (stamp s) (not-false (eqb (beAt h 0 4) (stamp s)) t₃);
       live = rw q at (live-true s (beAt h 4 4) (not-false (isLive s (beAt h 4 4)) t₄));
-      same-generation = rw q at (eqb-true (beAt h 8 4) (objectAt s (beAt h 4 4) .generation) (not-false (eqb (beAt h 8 4) (objectAt s (beAt h 4 4) .generation)) t₅));
+      same-generation = rw q at (eqb-true (beAt h 8 4) (objectAt s (beAt h 4 4) .generation)
+          (not-false (eqb (beAt h 8 4) (objectAt s (beAt h 4 4) .generation)) t₅));
     })))))
 
 pub directory-passed : (s : Store) (h : List ℕ) (d : ℕ) → reachDirectory s h ≡ passed d → Reached s h d × (objectAt s d .kind ≡ DIRECTORY)
@@ -130,7 +136,8 @@ passed-good text n d =
     record { some-byte = n .some-byte; short = n .short; bytes = bytes-good text (n .bytes); no-dot = p .0; no-dots = p .1 }
 
 -- the record that was found: it is used, and stands in that directory under that name
-pub found-record : (s : Store) (d : ℕ) (text : List ℕ) (n : ℕ) → findName s d text ≡ some n → (n < names s) × Used s n × (nameAt s n .directory ≡ d) × (nameAt s n .text ≡ text)
+pub found-record : (s : Store) (d : ℕ) (text : List ℕ) (n : ℕ) → findName s d text ≡ some n → (n < names s) × Used s n × (nameAt s n .directory ≡ d)
+    × (nameAt s n .text ≡ text)
 unfolding findName isNamed isIn
 found-record s d text n e =
     let p = lowest-passes (isNamed s d text) (names s) n e in
@@ -239,7 +246,8 @@ write-passed s h offset count bytes o e =
       reached = r .0;
       regular = r .1;
       counted = eqb-true count (length bytes) (not-false (eqb count (length bytes)) t₂);
-      fits = λ p. ltb-false 8192 (offset + min count mostTransferBytes) (rest-false (not (eqb count 0)) (ltb 8192 (offset + min count mostTransferBytes)) t₃ (true-nonzero count p));
+      fits = λ p. ltb-false 8192 (offset + min count mostTransferBytes)
+          (rest-false (not (eqb count 0)) (ltb 8192 (offset + min count mostTransferBytes)) t₃ (true-nonzero count p));
       room = λ p. room-passed s (sizeOf s i) (grown s i offset (min count mostTransferBytes))
           (rest-false (not (eqb count 0)) (lacksRoom s (sizeOf s i) (grown s i offset (min count mostTransferBytes))) t₄ (true-nonzero count p));
     } in
@@ -274,7 +282,8 @@ existing-passed s unchecked a o t e =
     )))
 
 -- the checks of a name to be made
-new-passed : {B P : Type 0} (s : Store) (d : ℕ) (text : List ℕ) (invalid : Bool) (k : Unit {0} → Checked B) (b : B) → bind (checkNew s d text invalid) k ≡ passed b
+new-passed : {B P : Type 0} (s : Store) (d : ℕ) (text : List ℕ) (invalid : Bool) (k : Unit {0} → Checked B) (b : B)
+    → bind (checkNew s d text invalid) k ≡ passed b
     → (GoodName text → invalid ≡ false → k tt ≡ passed b → P) → P
 unfolding checkNew
 new-passed {B} {P} s d text invalid k b e f =
@@ -297,7 +306,8 @@ pub record CreatePassed (s : Store) (h text : List ℕ) (manner : How) (d : ℕ)
   pub allowed : Allowed (settableOf manner)
   pub target : TargetPassed s d text (settableOf manner) t
 
-new-target : (s : Store) (d : ℕ) (text : List ℕ) (a : Settable) (t : Target) (c : Checked (ℕ × ℕ)) → findName s d text ≡ none → roomForNew s (sizeSet (a .size) 0) ≡ c
+new-target : (s : Store) (d : ℕ) (text : List ℕ) (a : Settable) (t : Target) (c : Checked (ℕ × ℕ)) → findName s d text ≡ none
+    → roomForNew s (sizeSet (a .size) 0) ≡ c
     → isNew c ≡ passed t → TargetPassed s d text a t
 new-target s d text a t (refused status) x q e = absurd (refused-passed status t e)
 new-target s d text a t (passed p) x q e =
@@ -323,7 +333,8 @@ how-passed s d text (How.Unchecked a) t e = attributed-passed s d text true a t 
 how-passed s d text (How.Guarded a) t e = attributed-passed s d text false a t e
 how-passed s d text (How.Exclusive verifier) t e = absurd (refused-passed 10004 t e)
 
-pub create-passed : (s : Store) (h text : List ℕ) (manner : How) (p : ℕ × Target) → checkCreate s h text manner ≡ passed p → CreatePassed s h text manner (p .0) (p .1)
+pub create-passed : (s : Store) (h text : List ℕ) (manner : How) (p : ℕ × Target) → checkCreate s h text manner ≡ passed p
+    → CreatePassed s h text manner (p .0) (p .1)
 unfolding checkCreate
 create-passed s h text manner p e =
     bind-passed (reachDirectory s h) _ p e (λ d e₁ f₁.
@@ -374,7 +385,8 @@ pub record EntryPassed (s : Store) (h text : List ℕ) (d n : ℕ) : Type 0 wher
   pub found : findName s d text ≡ some n
 
 entry-passed : {B P : Type 0} (s : Store) (h text : List ℕ) (status : ℕ) (k : ℕ → ℕ → Checked B) (b : B)
-    → bind (reachDirectory s h) (λ d. bind (checkName text) (λ _. bind (refuseIf (isDots text) status) (λ _. bind (present NOENT (findName s d text)) (k d)))) ≡ passed b
+    → bind (reachDirectory s h) (λ d. bind (checkName text)
+    (λ _. bind (refuseIf (isDots text) status) (λ _. bind (present NOENT (findName s d text)) (k d)))) ≡ passed b
     → ((d n : ℕ) → EntryPassed s h text d n → k d n ≡ passed b → P) → P
 entry-passed s h text status k b e f =
     bind-passed (reachDirectory s h) _ b e (λ d e₁ f₁.

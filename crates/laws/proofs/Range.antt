@@ -39,7 +39,8 @@ below-bytes (suc w) n (suc k) = below-bytes w n k
 pub below-overlay : (b : List ℕ) (at : ℕ) (xs : List ℕ) → Below 256 b → Below 256 xs → Below 256 (overlay b at xs)
 unfolding overlay
 below-overlay b at xs f g =
-    below-append 256 (take at b ++ xs) (drop (at + length xs) b) (below-append 256 (take at b) xs (below-take 256 b at (lit< tt) f) g) (below-drop 256 b (at + length xs) f)
+    below-append 256 (take at b ++ xs) (drop (at + length xs) b) (below-append 256 (take at b) xs (below-take 256 b at (lit< tt) f) g)
+    (below-drop 256 b (at + length xs) f)
 
 digits-below : (xs : List ℕ) (acc k : ℕ) → Below 256 xs → acc < 256 ^ k → digits acc xs < 256 ^ (k + length xs)
 unfolding digits

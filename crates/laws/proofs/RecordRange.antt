@@ -7,7 +7,8 @@ use lib.Dec.{lit<}
 use lib.ListN.{length, getD, replicate, length-take}
 use Rattle.kinds.specs.declared.object.Object.{Object}
 use Rattle.spec.specs.Bytes.{part, beAt, bytesOf}
-use Rattle.spec.specs.Image.{Store, objectStart, nameStart, halvesAt, halvesBytes, timeAt, timeBytes, headBytes, timesBytes, objectFrom, objectBytes, objectAt, putObject, Name, nameFrom, nameBytes, nameAt, nameLength, putName}
+use Rattle.spec.specs.Image.{Store, objectStart, nameStart, halvesAt, halvesBytes, timeAt, timeBytes, headBytes, timesBytes, objectFrom, objectBytes}
+use Rattle.spec.specs.Image.{objectAt, putObject, Name, nameFrom, nameBytes, nameAt, nameLength, putName}
 use Rattle.laws.proofs.Bytes.{part-length}
 use Rattle.laws.proofs.Range.{Below, below-append, below-drop, below-take, below-bytes, below-overlay, be-below}
 use Rattle.laws.proofs.Records.{FitsTime, FitsObject, halves-count}
@@ -21,7 +22,8 @@ halves-below : (b : List ℕ) (at n : ℕ) → Below 256 b → Below (2 ^ 16) (h
 unfolding halvesAt
 halves-below b at zero f k = lit< tt
 halves-below b at (suc n) f k =
-    below-append (2 ^ 16) (halvesAt b at n) (beAt b (at + 2 * n) 2 ∷ []) (halves-below b at n f) (one-below (2 ^ 16) (beAt b (at + 2 * n) 2) (be-below b (at + 2 * n) 2 f)) k
+    below-append (2 ^ 16) (halvesAt b at n) (beAt b (at + 2 * n) 2 ∷ []) (halves-below b at n f)
+    (one-below (2 ^ 16) (beAt b (at + 2 * n) 2) (be-below b (at + 2 * n) 2 f)) k
 
 -- what is read fits its places
 pub objectAt-fits : (s : Store) (o : ℕ) → Below 256 s → FitsObject (objectAt s o)

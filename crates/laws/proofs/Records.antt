@@ -9,7 +9,8 @@ use lib.Dec.{lit≤}
 use lib.Seq.{take-suc, take-all, getD-append-seam}
 use lib.ListN.{length, take, getD, length-append, List·getD-append}
 use Rattle.kinds.specs.Numbers.{fileBlocks}
-use Rattle.kinds.specs.Layout.{generationOffset, modeOffset, uidOffset, gidOffset, sizeOffset, atimeOffset, mtimeOffset, ctimeOffset, blocksOffset, objectLength, nanosecondsOffset}
+use Rattle.kinds.specs.Layout.{generationOffset, modeOffset, uidOffset, gidOffset, sizeOffset, atimeOffset, mtimeOffset, ctimeOffset, blocksOffset}
+use Rattle.kinds.specs.Layout.{objectLength, nanosecondsOffset}
 use Rattle.kinds.specs.declared.object.Time.{Time}
 use Rattle.kinds.specs.declared.object.Object.{Object}
 use Rattle.spec.specs.Bytes.{beOf, part, overlay, beAt, bytesOf}
@@ -124,7 +125,8 @@ unfolding objectBytes headBytes timesBytes timeBytes bytesOf
 blocks-again v f =
     sym (halves-part (objectBytes v) 48 32 0 16 (lit≤ tt))
     ∙ ap (λ (x : List ℕ). halvesAt x 0 16)
-    (part-right (headBytes v ++ timesBytes v) (halvesBytes 16 (v .blocks)) 48 0 32 refl ∙ part-whole (halvesBytes 16 (v .blocks)) 32 (halves-length 16 (v .blocks)))
+    (part-right (headBytes v ++ timesBytes v) (halvesBytes 16 (v .blocks)) 48 0 32 refl ∙ part-whole (halvesBytes 16 (v .blocks)) 32
+    (halves-length 16 (v .blocks)))
     ∙ halves-again 16 (v .blocks) 16 (lit≤ tt) (omega arith) (f .halves) ∙ take-all 16 (v .blocks) (omega arith)
 
 pub object-again : (v : Object) → FitsObject v → objectFrom (objectBytes v) 0 ≡ v
@@ -137,9 +139,21 @@ object-again v f =
       uid = be-bytes 4 (v .uid) (f .uid) i;
       gid = be-bytes 4 (v .gid) (f .gid) i;
       size = be-bytes 4 (v .size) (f .size) i;
-      atime = record { seconds = be-bytes 4 (v .atime .seconds) (f .atime .seconds) i; nanoseconds = be-bytes 4 (v .atime .nanoseconds) (f .atime .nanoseconds) i };
-      mtime = record { seconds = be-bytes 4 (v .mtime .seconds) (f .mtime .seconds) i; nanoseconds = be-bytes 4 (v .mtime .nanoseconds) (f .mtime .nanoseconds) i };
-      ctime = record { seconds = be-bytes 4 (v .ctime .seconds) (f .ctime .seconds) i; nanoseconds = be-bytes 4 (v .ctime .nanoseconds) (f .ctime .nanoseconds) i };
+      atime = record {
+        seconds = be-bytes 4 (v .atime .seconds) (f .atime .seconds) i;
+        nanoseconds = be-bytes 4 (v .atime .nanoseconds)
+            (f .atime .nanoseconds) i;
+      };
+      mtime = record {
+        seconds = be-bytes 4 (v .mtime .seconds) (f .mtime .seconds) i;
+        nanoseconds = be-bytes 4 (v .mtime .nanoseconds)
+            (f .mtime .nanoseconds) i;
+      };
+      ctime = record {
+        seconds = be-bytes 4 (v .ctime .seconds) (f .ctime .seconds) i;
+        nanoseconds = be-bytes 4 (v .ctime .nanoseconds)
+            (f .ctime .nanoseconds) i;
+      };
       blocks = blocks-again v f i;
     }
 

@@ -128,7 +128,8 @@ module _ (s : Store) (o size : ℕ) (h : Sound s) (l : o < objects s) (v : LiveO
       let t = clearTail s o (min old size) (max old size) in
       let a = clear-tail s o h v (min old size) (max old size) (omega arith) in
       let rs = freedBlocks s o size ++ addedBlocks s o size in
-      let b = clear-blocks t rs (a .sound) (rw (a .shape .blocks) (range-append (blocks s) (freedBlocks s o size) (addedBlocks s o size) freed-range added-range)) in
+      let b = clear-blocks t rs (a .sound) (rw (a .shape .blocks)
+      (range-append (blocks s) (freedBlocks s o size) (addedBlocks s o size) freed-range added-range)) in
       let c = kept-trans s t (clearBlocks t rs) a b in
       kept-object s (clearBlocks t rs) (resize s o size) o (resized s o size) c
       (put-object (clearBlocks t rs) o (resized s o size) (c .sound) (rw (c .shape .objects) l) resized-fits)
@@ -190,7 +191,8 @@ module _ (s : Store) (o size : ℕ) (h : Sound s) (l : o < objects s) (v : LiveO
       let t = resize s o size in
       omega (
         arith,
-        free-count-set s t o once (resize-blocks once) (e .shape .blocks) (uses-object-set s t o l (e .shape .objects) (e .other-objects)) (held-range s o v) resize-held-range,
+        free-count-set s t o once (resize-blocks once) (e .shape .blocks) (uses-object-set s t o l (e .shape .objects) (e .other-objects))
+            (held-range s o v) resize-held-range,
         resize-held-length,
         old-length,
       )

@@ -8,7 +8,9 @@ use lib.Dec.{eqb, ltb}
 use lib.ListN.{take}
 use Rattle.spec.specs.Count.{count, lowest, times}
 use Rattle.spec.specs.Image.{Store, objects, names, blocks, objectAt, Name, nameAt, nameLength}
-use Rattle.spec.specs.Room.{isLive, isRegular, isDirectory, sizeOf, need, held, uses, isFreeBlock, freeBlocks, freeBlockCount, isAvailable, availableCount, availableObject, isUsedName, availableName, freeNameCount, isNaming, namings, isIn, isNamed, findName, subdirectories, directoryOf, parent, above, byteAt}
+use Rattle.spec.specs.Room.{isLive, isRegular, isDirectory, sizeOf, need, held, uses, isFreeBlock, freeBlocks, freeBlockCount, isAvailable}
+use Rattle.spec.specs.Room.{availableCount, availableObject, isUsedName, availableName, freeNameCount, isNaming, namings, isIn, isNamed, findName}
+use Rattle.spec.specs.Room.{subdirectories, directoryOf, parent, above, byteAt}
 use Rattle.laws.proofs.Count.{by-bool, sum-ext, passing-ext, lowest-ext, lowest-passes}
 use Rattle.laws.proofs.Kept.{NameKept}
 use Rattle.laws.proofs.Searches.{count-ext, iterate-ext}

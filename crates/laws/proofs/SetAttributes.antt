@@ -90,7 +90,14 @@ server-keeps P true (SetTime.ToClient t) h f = f
 pub size-touches-fits : (a : Settable) → FitsSettable a → FitsSettable (sizeTouches a)
 unfolding sizeTouches
 size-touches-fits a f =
-    record { mode = f .mode; uid = f .uid; gid = f .gid; atime = f .atime; mtime = server-keeps (λ x. FitsSetTime x) (isGiven (a .size)) (a .mtime) tt (f .mtime) }
+    record {
+      mode = f .mode;
+      uid = f .uid;
+      gid = f .gid;
+      atime = f .atime;
+      mtime = server-keeps (λ x. FitsSetTime x) (isGiven (a .size)) (a .mtime)
+          tt (f .mtime);
+    }
 
 -- ---- attributes that the check of a store allows
 abbrev pub AllowedMode : SetNumber → Type 0

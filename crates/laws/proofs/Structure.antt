@@ -6,10 +6,14 @@ use Prim.Native.Nat.{ℕ, _<_}
 use native.Mathlib.Decide.{ℕ-discrete}
 use Rattle.kinds.specs.declared.object.Object.{Object}
 use Rattle.spec.specs.Image.{Store, objects, names, blocks, objectAt, nameAt}
-use Rattle.spec.specs.Room.{isLive, isRegular, isDirectory, sizeOf, held, uses, isFreeBlock, freeBlocks, freeBlockCount, isAvailable, availableCount, availableObject, isUsedName, availableName, freeNameCount, namings, findName, subdirectories, parent, above, byteAt}
+use Rattle.spec.specs.Room.{isLive, isRegular, isDirectory, sizeOf, held, uses, isFreeBlock, freeBlocks, freeBlockCount, isAvailable, availableCount}
+use Rattle.spec.specs.Room.{availableObject, isUsedName, availableName, freeNameCount, namings, findName, subdirectories, parent, above, byteAt}
 use Rattle.laws.proofs.GoodKept.{good-names-kept, used-of}
 use Rattle.laws.proofs.Kept.{NameKept, RecordsKept, ObjectSet}
-use Rattle.laws.proofs.SameReads.{isLive-reads, isRegular-reads, isDirectory-reads, isAvailable-reads, sizeOf-reads, held-reads, byteAt-reads, isUsedName-reads, uses-reads, isFreeBlock-reads, freeBlocks-reads, freeBlockCount-reads, availableObject-reads, availableCount-reads, availableName-reads, freeNameCount-reads, namings-reads, entries-reads, findName-reads, subdirectories-reads, parent-reads, above-reads}
+use Rattle.laws.proofs.SameReads.{isLive-reads, isRegular-reads, isDirectory-reads, isAvailable-reads, sizeOf-reads, held-reads, byteAt-reads}
+use Rattle.laws.proofs.SameReads.{isUsedName-reads, uses-reads, isFreeBlock-reads, freeBlocks-reads, freeBlockCount-reads}
+use Rattle.laws.proofs.SameReads.{availableObject-reads, availableCount-reads, availableName-reads, freeNameCount-reads, namings-reads}
+use Rattle.laws.proofs.SameReads.{entries-reads, findName-reads, subdirectories-reads, parent-reads, above-reads}
 use Rattle.laws.proofs.Shape.{SameShape}
 use Rattle.laws.proofs.Valid.{Live, GoodNames, DistinctNames, NamedOnce, BlocksUsedOnce, LeadsToRoot}
 

@@ -15,10 +15,12 @@ use Rattle.kinds.specs.Objects.{freeObject}
 use Rattle.kinds.specs.declared.object.Object.{Object}
 use Rattle.spec.specs.Bytes.{part, beAt, zeros, sameBytes, allBytes}
 use Rattle.spec.specs.Count.{count, every}
-use Rattle.spec.specs.Image.{Store, volumes, objects, names, blocks, objectStart, nameStart, timeAt, objectFrom, objectAt, nameFrom, nameAt, nameLength, freeName}
+use Rattle.spec.specs.Image.{Store, volumes, objects, names, blocks, objectStart, nameStart, timeAt, objectFrom, objectAt, nameFrom, nameAt}
+use Rattle.spec.specs.Image.{nameLength, freeName}
 use Rattle.spec.specs.Room.{isLive, isRegular, isDirectory, need, uses, isUsedName, namings, isNamed, above}
 use Rattle.spec.specs.Names.{isDot, isDotDot, isDots, goodByte, goodBytes, goodName}
-use Rattle.spec.specs.Check.{mostNames, isZero, goodCounts, imageLength, goodShape, goodTime, goodBlock, goodSize, goodLive, goodFree, goodObject, goodRoot, goodUsed, goodNameRecord, isDistinct, isNamedOnce, isUsedOnce, leadsToRoot, passes}
+use Rattle.spec.specs.Check.{mostNames, isZero, goodCounts, imageLength, goodShape, goodTime, goodBlock, goodSize, goodLive, goodFree, goodObject}
+use Rattle.spec.specs.Check.{goodRoot, goodUsed, goodNameRecord, isDistinct, isNamedOnce, isUsedOnce, leadsToRoot, passes}
 use Rattle.laws.proofs.Bytes.{part-length, same-yes, same-no}
 use Rattle.laws.proofs.Count.{true-false, by-bool, and-both, every-at, every-all}
 use Rattle.laws.proofs.RecordRange.{text-length}
@@ -302,7 +304,8 @@ pub live-kind : (r : ℕ) (v : Object) → LiveObject r v → 0 < v .kind
 live-kind r v h = ⊎-elim (λ a. omega (arith, a .0)) (λ a. omega (arith, a .0)) (h .size)
 
 -- the record of a free object, from its bytes
-free-from : (s : Store) (at : ℕ) → beAt s at 4 ≡ 0 → part s (at + 8) (objectLength - modeOffset) ≡ zeros (objectLength - modeOffset) → objectFrom s at ≡ freeObject (beAt s (at + 4) 4)
+free-from : (s : Store) (at : ℕ) → beAt s at 4 ≡ 0 → part s (at + 8) (objectLength - modeOffset) ≡ zeros (objectLength - modeOffset)
+    → objectFrom s at ≡ freeObject (beAt s (at + 4) 4)
 unfolding objectFrom timeAt
 free-from s at e z =
     λ i. record {
@@ -333,7 +336,8 @@ free-zeros s o z =
     ∙ ap freeObject (be-zero s (at + 4) 4 (zero-within s at objectLength 4 4 z (lit≤ tt)))
 
 -- and its bytes, from the record
-free-zero : (s : Store) (at g : ℕ) → at + objectLength ≤ length s → objectFrom s at ≡ freeObject g → part s (at + 8) (objectLength - modeOffset) ≡ zeros (objectLength - modeOffset)
+free-zero : (s : Store) (at g : ℕ) → at + objectLength ≤ length s → objectFrom s at ≡ freeObject g → part s (at + 8) (objectLength - modeOffset)
+    ≡ zeros (objectLength - modeOffset)
 unfolding objectFrom timeAt
 free-zero s at g h e =
     let p = at + 8 in
@@ -358,7 +362,8 @@ pub free-object : (s : Store) (o : ℕ) → objectStart o + objectLength ≤ len
 unfolding goodFree objectAt objectFrom
 free-object s o h l e =
     let at = objectStart o in
-    free-from s at (live-false s o l) (zeros-isZero (part s (at + 8) (objectLength - modeOffset)) (objectLength - modeOffset) (part-length s (at + 8) (objectLength - modeOffset) (omega arith)) e)
+    free-from s at (live-false s o l) (zeros-isZero (part s (at + 8) (objectLength - modeOffset)) (objectLength - modeOffset)
+    (part-length s (at + 8) (objectLength - modeOffset) (omega arith)) e)
 
 pub free-good : (s : Store) (o : ℕ) → objectStart o + objectLength ≤ length s → FreeObject (objectAt s o) → goodFree s o ≡ true
 unfolding goodFree objectAt

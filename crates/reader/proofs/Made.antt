@@ -84,7 +84,9 @@ module _ {M : Type 1} (𝓤 : URA M) (H : Heap 𝓤) (A : Atoms 𝓤) (W : Given
         qed W ((‵ (flft κ q) ⊛ ‵ ftrue) ∷ ‵ (owns (ShrSlice (named 0) κ u8 ∷ usize ∷ []) (s, (at, tt)) vals) ∷ []) ∵
         move ! (1 ∷ []) $ fsplit ! $ move ! (1 ∷ []) $ drop ! $ use1 W (‵ Own ⊛ ‵ Own) (shr-slice-copy 𝓤 H A W (named 0) κ u8 .twice s (v ∷ [])) $ split ! $
         nothing ! $ owned ! usize (Is usize) (uint-makes 𝓤 H A W w64) at _ (refl, fits) $ fjoin ! $ move ! (1 ∷ 0 ∷ []) $ fjoin ! $ move ! (2 ∷ 0 ∷ []) $
-        use2 W (raw (New .pre to-new)) (qed W ((‵ (flft κ q) ⊛ ‵ ftrue) ∷ ‵ (owns (ShrSlice (named 0) κ u8 ∷ usize ∷ []) (s, (at, tt)) (v ∷ [], (vint w64 at ∷ [], tt))) ∷ []) ∵ join ! $ frame ! $ done !) $ frame ! $ done !
+        use2 W (raw (New .pre to-new)) (qed W ((‵ (flft κ q) ⊛ ‵ ftrue) ∷ ‵
+        (owns (ShrSlice (named 0) κ u8 ∷ usize ∷ []) (s, (at, tt)) (v ∷ [], (vint w64 at ∷ [], tt))) ∷ []) ∵ join ! $ frame ! $ done !) $ frame !
+        $ done !
 
     abbrev Stands : Reader → Type 0
     Stands r = (r .call ≡ s) × (r .at ≡ at)
@@ -114,32 +116,42 @@ module _ {M : Type 1} (𝓤 : URA M) (H : Heap 𝓤) (A : Atoms 𝓤) (W : Given
     exits : (t : R .Denot) (u : Val) → P (now s) at t → ent 𝓤 (⋆ 𝓤 H A (‵ (R .own t (u ∷ [])) ∷ (‵ (flft κ q) ⊛ ‵ ftrue) ∷ ‵ Own ∷ [])) (Post u)
     exits t u e =
         qed W (‵ (R .own t (u ∷ [])) ∷ (‵ (flft κ q) ⊛ ‵ ftrue) ∷ ‵ Own ∷ []) ∵
-        suffices ! _ (ends-at 𝓤 H A (onSliceAlone R) (stayed R) (sliceAloneSays 𝓤 R P) W (((κ, tt), (q, tt), tt, (s, (at, tt)), vals), tt) u t (tt, (tt, tt)) (tt, (tt, tt))) $ says ! e $
-        move ! (1 ∷ []) $ frame ! $ nothing ! $ owned ! usize (Is usize) (uint-makes 𝓤 H A W w64) at _ (refl, fits) $ fjoin ! $ move ! (2 ∷ 0 ∷ []) $ fjoin ! $ frame ! $ done !
+        suffices ! _ (ends-at 𝓤 H A (onSliceAlone R) (stayed R) (sliceAloneSays 𝓤 R P) W (((κ, tt), (q, tt), tt, (s, (at, tt)), vals), tt) u t
+        (tt, (tt, tt)) (tt, (tt, tt))) $ says ! e $
+        move ! (1 ∷ []) $ frame ! $ nothing ! $ owned ! usize (Is usize) (uint-makes 𝓤 H A W w64) at _ (refl, fits) $ fjoin ! $ move ! (2 ∷ 0 ∷ []) $
+        fjoin ! $ frame ! $ done !
 
     module _ (C : Calls 𝓤 H) (Λ : Loops 𝓤 H) (fm : FmC 𝓤 H (W .laws) C) (known-new : Triple 𝓤 (C #new) New) (known : Triple 𝓤 (C f) Callee) where
-      walk : Is (ShrSlice (named 0) κ u8) s (v ∷ []) → ent 𝓤 (onEntry 𝓤 H A (onSliceAlone R .signature) (κ, tt) (q, tt) (s, (at, tt)) vals) (WpFn 𝓤 H C Λ (making f τ) (v ∷ vint w64 at ∷ []) Post)
+      walk : Is (ShrSlice (named 0) κ u8) s (v ∷ []) → ent 𝓤 (onEntry 𝓤 H A (onSliceAlone R .signature) (κ, tt) (q, tt) (s, (at, tt)) vals)
+          (WpFn 𝓤 H C Λ (making f τ) (v ∷ vint w64 at ∷ []) Post)
       walk p =
           qed W (raw (onEntry 𝓤 H A (onSliceAlone R .signature) (κ, tt) (q, tt) (s, (at, tt)) vals) ∷ []) ∵ enter ! C Λ (making f τ) (v ∷ vint w64 at ∷ []) _ $
-          alloc1 ! (λ l₀. alloc1 ! (λ l₁. alloc1 ! (λ l₂. alloc1 ! (λ l₃. alloc0 ! $ params1 ! $ pass1 ! (init ! 4 refl (shr-slice-lawful 𝓤 H A W (named 0) κ u8 .typed s (v ∷ []) p .0)) $ pass1 ! (init ! 2 refl (tt, record { fits = fits })) $ pass0 ! $
+          alloc1 ! (λ l₀. alloc1 ! (λ l₁. alloc1 ! (λ l₂. alloc1 !
+          (λ l₃. alloc0 ! $ params1 ! $ pass1 ! (init ! 4 refl (shr-slice-lawful 𝓤 H A W (named 0) κ u8 .typed s (v ∷ []) p .0)) $ pass1 !
+          (init ! 2 refl (tt, record { fits = fits })) $ pass0 ! $
           move ! (8 ∷ []) $ use1 W (raw (New .pre to-new) ⊛ ‵ Own) goes-new $ split ! $
-          calls-at ! fm New known-new to-new (and-then ! (load ! (from ! (stop !)) (look ! 6 refl)) (and-then ! (load ! (from ! (stop !)) (look ! 4 refl)) (no-more !))) (λ u.
-          use1 W (later (some (λ (r : Reader). ((‵ (flft κ q) ⊛ ‵ ftrue) ⊛ ‵ (B (κ, tt) .own r (u ∷ []))) ⊛ raw (ensured 𝓤 H A new.ended (new.clauses 𝓤 H A mem run) (κ, tt) (s, (at, tt)) tt r)))) (id⊢ 𝓤 _) $ await ! tt $ pick ! (λ r.
+          calls-at ! fm New known-new to-new (and-then ! (load ! (from ! (stop !)) (look ! 6 refl))
+          (and-then ! (load ! (from ! (stop !)) (look ! 4 refl)) (no-more !))) (λ u.
+          use1 W (later (some (λ (r : Reader). ((‵ (flft κ q) ⊛ ‵ ftrue) ⊛ ‵ (B (κ, tt) .own r (u ∷ []))) ⊛ raw
+          (ensured 𝓤 H A new.ended (new.clauses 𝓤 H A mem run) (κ, tt) (s, (at, tt)) tt r)))) (id⊢ 𝓤 _) $ await ! tt $ pick ! (λ r.
           split ! $ move ! (1 ∷ []) $ use1 W (raw (fact 𝓤 (Stands r))) (new-said r) $ heard ! (Stands r) (λ e. split ! $ move ! (1 ∷ []) $
           -- [what the reader owns; the token; what the slice owns; room for _3; …; _2; …; _1; …; room for _0; …]
           peeks ! (B (κ, tt)) (Is (B (κ, tt))) (shows 𝓤 H A (B (κ, tt))) r (u ∷ []) (λ is.
           land ! (from ! (stop !)) (init ! 3 refl (LL.lawful (T.the-type αᵉ) (T′.the-laws αᵉ) 𝓤 H A W .typed r _ is .0)) $
           use2 W (raw (Callee .pre (to r u))) (goes r u) $
           calls-at ! fm Callee known (to r u) (and-then ! (load ! (from ! (stop !)) (look ! 2 refl)) (no-more !)) (λ u′.
-          use1 W (later (some (λ (t : R .Denot). ((‵ (flft κ q) ⊛ ‵ ftrue) ⊛ ‵ (R .own t (u′ ∷ []))) ⊛ raw (ensured 𝓤 H A (onReaderAlone R) (readerAloneSays 𝓤 R P) (κ, tt) (r, tt) tt t)))) (id⊢ 𝓤 _) $ await ! tt $ pick ! (λ t.
+          use1 W (later (some (λ (t : R .Denot). ((‵ (flft κ q) ⊛ ‵ ftrue) ⊛ ‵ (R .own t (u′ ∷ []))) ⊛ raw
+          (ensured 𝓤 H A (onReaderAlone R) (readerAloneSays 𝓤 R P) (κ, tt) (r, tt) tt t)))) (id⊢ 𝓤 _) $ await ! tt $ pick ! (λ t.
           split ! $ move ! (1 ∷ []) $ use1 W (raw (fact 𝓤 (Answered r t))) (said r t) $ heard ! (Answered r t) (λ a. split ! $ move ! (1 ∷ []) $
           -- [the answer; the token; what the slice owns; _3; …; _2; …; _1; …; room for _0; …]
           peeks ! R (Is R) (shows 𝓤 H A R) t (u′ ∷ []) (λ is′.
           land ! (from ! (stop !)) (init ! 9 refl (typed t u′ is′)) $
           returns ! (look ! 9 refl) $ forget ! 3 refl $ forget ! 5 refl $ forget ! 7 refl $ forget ! 9 refl $
-          move ! (9 ∷ 10 ∷ []) $ free1 ! $ move ! (7 ∷ 8 ∷ []) $ free1 ! $ move ! (5 ∷ 6 ∷ []) $ free1 ! $ move ! (3 ∷ 4 ∷ []) $ free1 ! $ free0 ! $ by ! (exits t u′ (answered r t e a))))))))))))))
+          move ! (9 ∷ 10 ∷ []) $ free1 ! $ move ! (7 ∷ 8 ∷ []) $ free1 ! $ move ! (5 ∷ 6 ∷ []) $ free1 ! $ move ! (3 ∷ 4 ∷ []) $ free1 ! $ free0 ! $
+          by ! (exits t u′ (answered r t e a))))))))))))))
 
-  walks : (C : Calls 𝓤 H) (Λ : Loops 𝓤 H) → FmC 𝓤 H (W .laws) C → Triple 𝓤 (C #new) New → Triple 𝓤 (C f) Callee → Walks 𝓤 H A (onSliceAlone R) (stayed R) (WpFn 𝓤 H C Λ (making f τ)) (sliceAloneSays 𝓤 R P)
+  walks : (C : Calls 𝓤 H) (Λ : Loops 𝓤 H) → FmC 𝓤 H (W .laws) C → Triple 𝓤 (C #new) New → Triple 𝓤 (C f) Callee
+      → Walks 𝓤 H A (onSliceAlone R) (stayed R) (WpFn 𝓤 H C Λ (making f τ)) (sliceAloneSays 𝓤 R P)
   walks C Λ fm known-new known = walked 𝓤 H A (onSliceAlone R) (stayed R) (sliceAloneSays 𝓤 R P) (WpFn 𝓤 H C Λ (making f τ))
       (λ κs. (slice-vals, (uint-vals w64, tt))) (λ κs. (shr-slice-tells (named 0) (κs .0) u8, (uint-tells w64, tt)))
       (λ κs qs bounds a g are. via 𝓤 _ (fst∗ 𝓤 _ (emp 𝓤)) (walk (κs .0) (qs .0) (a .0) (a .1 .0) (are .1 .0 .1) C Λ fm known-new known (are .0)))

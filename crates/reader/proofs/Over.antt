@@ -38,10 +38,12 @@ module _ {M : Type 1} (𝓤 : URA M) (H : Heap 𝓤) (A : Atoms 𝓤) (W : Given
   Exit κ q d = walkOf 𝓤 H A (onReaderAlone R) (stayed R) (readerAloneSays 𝓤 R P) .post (((κ, tt), (q, tt), tt, (d, tt), (T′.lowered d ∷ [], tt)), tt)
 
   -- the end of a walk
-  pub ends : Makes 𝓤 H A R (Is R) → (κ : Lft) (q : Share) (d : Reader) (r : R .Denot) (u : Val) → P (now (d .call)) (d .at) r → Is R r (u ∷ []) → ent 𝓤 (⋆ 𝓤 H A (‵ (Own κ d) ∷ (‵ (flft κ q) ⊛ ‵ ftrue) ∷ [])) (Exit κ q d u)
+  pub ends : Makes 𝓤 H A R (Is R) → (κ : Lft) (q : Share) (d : Reader) (r : R .Denot) (u : Val) → P (now (d .call)) (d .at) r → Is R r (u ∷ [])
+      → ent 𝓤 (⋆ 𝓤 H A (‵ (Own κ d) ∷ (‵ (flft κ q) ⊛ ‵ ftrue) ∷ [])) (Exit κ q d u)
   ends mk κ q d r u e is =
       qed W (‵ (Own κ d) ∷ (‵ (flft κ q) ⊛ ‵ ftrue) ∷ []) ∵
-      suffices ! _ (ends-at 𝓤 H A (onReaderAlone R) (stayed R) (readerAloneSays 𝓤 R P) W (((κ, tt), (q, tt), tt, (d, tt), (T′.lowered d ∷ [], tt)), tt) u r (tt, tt) (tt, tt)) $ says ! e $
+      suffices ! _ (ends-at 𝓤 H A (onReaderAlone R) (stayed R) (readerAloneSays 𝓤 R P) W
+      (((κ, tt), (q, tt), tt, (d, tt), (T′.lowered d ∷ [], tt)), tt) u r (tt, tt) (tt, tt)) $ says ! e $
       move ! (1 ∷ []) $ frame ! $ nothing ! $ move ! (1 ∷ 0 ∷ []) $ fjoin ! $ frame ! $ owned ! R (Is R) mk r _ is $ done !
 
   -- the reader's types as the parameter and as a local of the body
@@ -50,15 +52,21 @@ module _ {M : Type 1} (𝓤 : URA M) (H : Heap 𝓤) (A : Atoms 𝓤) (W : Given
 
   -- the law
   pub over : (F : Fn) (𝓣 : Tables 𝓤 H)
-      → ((κ : Lft) (q : Share) (d : Reader) → d .at < 2 ^ 64 → Typed d → ent 𝓤 (⋆ 𝓤 H A (‵ (Own κ d) ∷ (‵ (flft κ q) ⊛ ‵ ftrue) ∷ [])) (WpFn 𝓤 H (𝓣 .C) (𝓣 .Λ) F (T′.lowered d ∷ []) (Exit κ q d)))
+      → ((κ : Lft) (q : Share) (d : Reader) → d .at < 2 ^ 64 → Typed d → ent 𝓤 (⋆ 𝓤 H A (‵ (Own κ d) ∷ (‵ (flft κ q) ⊛ ‵ ftrue) ∷ []))
+      (WpFn 𝓤 H (𝓣 .C) (𝓣 .Λ) F (T′.lowered d ∷ []) (Exit κ q d)))
       → Meets 𝓤 H A (onReaderAlone R .signature) (WpFn 𝓤 H (𝓣 .C) (𝓣 .Λ) F) (closing 𝓤 H A (onReaderAlone R) (readerAloneSays 𝓤 R P))
-  over F 𝓣 walk = walk-meets 𝓤 H A (onReaderAlone R) (stayed R) W (goes-none 𝓤 H A W 1 B yes (λ κs x f. refl), tt) (readerAloneSays 𝓤 R P) (WpFn 𝓤 H (𝓣 .C) (𝓣 .Λ) F) (WpFn-mono 𝓤 H (W .laws) 𝓣 F)
+  over F 𝓣 walk = walk-meets 𝓤 H A (onReaderAlone R) (stayed R) W (goes-none 𝓤 H A W 1 B yes (λ κs x f. refl), tt) (readerAloneSays 𝓤 R P)
+      (WpFn 𝓤 H (𝓣 .C) (𝓣 .Λ) F) (WpFn-mono 𝓤 H (W .laws) 𝓣 F)
       (walked 𝓤 H A (onReaderAlone R) (stayed R) (readerAloneSays 𝓤 R P) (WpFn 𝓤 H (𝓣 .C) (𝓣 .Λ) F)
-      (λ κs. (LL.vals (T.the-type (namedLft 1 0 tt κs)) (T′.the-laws (namedLft 1 0 tt κs)), tt)) (λ κs. (LL.tells (T.the-type (namedLft 1 0 tt κs)) (T′.the-laws (namedLft 1 0 tt κs)), tt))
+      (λ κs. (LL.vals (T.the-type (namedLft 1 0 tt κs)) (T′.the-laws (namedLft 1 0 tt κs)), tt))
+      (λ κs. (LL.tells (T.the-type (namedLft 1 0 tt κs)) (T′.the-laws (namedLft 1 0 tt κs)), tt))
       (λ κs qs bounds a g are. via 𝓤 _ (fst∗ 𝓤 _ (emp 𝓤)) (via 𝓤 _ (starts (κs .0) (qs .0) (a .0)) (walk (κs .0) (qs .0) (a .0) (are .0 .1 .1 .1 .0 .1) (
         LL.lawful (T.the-type (namedLft 1 0 tt κs)) (T′.the-laws (namedLft 1 0 tt κs)) 𝓤 H A W .typed (a .0) _ (are .0) .0,
         LL.lawful (T.the-type (record { mir = erased; lft = κs .0 })) (T′.the-laws (record { mir = erased; lft = κs .0 })) 𝓤 H A W .typed (a .0) _ (are .0) .0,
       )))))
     where
-      starts : (κ : Lft) (q : Share) (d : Reader) → ent 𝓤 (onEntry 𝓤 H A (onReaderAlone R .signature) (κ, tt) (q, tt) (d, tt) (T′.lowered d ∷ [], tt)) (⋆ 𝓤 H A (‵ (Own κ d) ∷ (‵ (flft κ q) ⊛ ‵ ftrue) ∷ []))
-      starts κ q d = qed W ((‵ (flft κ q) ⊛ ‵ ftrue) ∷ ‵ (owns (B (κ, tt) ∷ []) (d, tt) (T′.lowered d ∷ [], tt)) ∷ []) ∵ move ! (1 ∷ []) $ fsplit ! $ move ! (1 ∷ []) $ drop ! $ frame ! $ done !
+      starts : (κ : Lft) (q : Share) (d : Reader) → ent 𝓤
+          (onEntry 𝓤 H A (onReaderAlone R .signature) (κ, tt) (q, tt) (d, tt) (T′.lowered d ∷ [], tt))
+          (⋆ 𝓤 H A (‵ (Own κ d) ∷ (‵ (flft κ q) ⊛ ‵ ftrue) ∷ []))
+      starts κ q d = qed W ((‵ (flft κ q) ⊛ ‵ ftrue) ∷ ‵ (owns (B (κ, tt) ∷ []) (d, tt) (T′.lowered d ∷ [], tt)) ∷ []) ∵ move ! (1 ∷ []) $ fsplit ! $
+          move ! (1 ∷ []) $ drop ! $ frame ! $ done !

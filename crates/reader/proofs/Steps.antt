@@ -15,7 +15,8 @@ use prog.Routine.{Routine}
 use prog.Wp.{Heap, Env, Calls, Loops}
 use ghost.Atoms.{Atoms, sem}
 use contract.Monad.{Fun, fact}
-use types.Kit.{Given, Item, ‵, raw, _⊛_, ⋆, some, later, Post, runs, lands, Seq, _$_, _∵_, !, qed, by, move, drop, use1, use2, use0, split, join, pick, fjoin, frame, await, done}
+use types.Kit.{Given, Item, ‵, raw, _⊛_, ⋆, some, later, Post, runs, lands, Seq, _$_, _∵_, !, qed, by, move, drop, use1, use2, use0, split, join}
+use types.Kit.{pick, fjoin, frame, await, done}
 use types.Run.{Opds}
 use sound.WpLaws.{FmC}
 use denote.RattleType.{RattleType, owns}
@@ -47,7 +48,11 @@ onOne X R = record { signature = record { lifetimes = 0; outlives = []; params =
 
 -- `fn name(x: X, y: Y) -> R`
 abbrev pub onTwo : RattleType → RattleType → RattleType → Ended
-onTwo X Y R = record { signature = record { lifetimes = 0; outlives = []; params = plain (λ κs. X) ∷ plain (λ κs. Y) ∷ []; result = plain (λ κs. R) }; kept = (yes, (yes, tt)) }
+onTwo X Y R = record {
+  signature = record
+      { lifetimes = 0; outlives = []; params = plain (λ κs. X) ∷ plain (λ κs. Y) ∷ []; result = plain (λ κs. R) };
+  kept = (yes, (yes, tt));
+}
 
 module _ {M : Type 1} (𝓤 : URA M) where
   abbrev pub oneSays : (X R : RattleType) → (X .Denot → R .Denot → Type 0) → Clauses 𝓤 (onOne X R)
@@ -91,7 +96,8 @@ module _ {M : Type 1} {𝓤 : URA M} {H : Heap 𝓤} {A : Atoms 𝓤} (W : Given
   -- a copy of it, moved to n
   copied : (n : ℕ) → n < 2 ^ 64 → ent 𝓤 (sem 𝓤 H A (Own κ d)) (sep 𝓤 (sem 𝓤 H A (Own κ (moved d n))) (sem 𝓤 H A (Own κ d)))
   copied n ok =
-      qed W (‵ (Own κ d) ∷ []) ∵ use1 W (‵ (Own κ d) ⊛ ‵ (Own κ d)) (LL.copy D (T′.the-copy (namedLft 1 0 tt (κ, tt))) 𝓤 H A W .twice d (T′.lowered d ∷ [])) $ split ! $
+      qed W (‵ (Own κ d) ∷ []) ∵ use1 W (‵ (Own κ d) ⊛ ‵ (Own κ d))
+      (LL.copy D (T′.the-copy (namedLft 1 0 tt (κ, tt))) 𝓤 H A W .twice d (T′.lowered d ∷ [])) $ split ! $
       owned ! usize (Is usize) (uint-makes 𝓤 H A W w64) n _ (refl, ok) $ move ! (1 ∷ 0 ∷ []) $
       use2 W (‵ (Own κ (moved d n))) (own-put 𝓤 H A W D L 1 (d .call, (d .at, tt)) n (T′.lowered d)) $ frame ! $ done !
 
@@ -101,7 +107,8 @@ module _ {M : Type 1} {𝓤 : URA M} {H : Heap 𝓤} {A : Atoms 𝓤} (W : Given
     at-place = (((κ, tt), (q, tt), tt, (moved d n, tt), (T′.lowered (moved d n) ∷ [], tt)), tt)
 
     goes : ent 𝓤 (⋆ 𝓤 H A (‵ (Own κ (moved d n)) ∷ (‵ (flft κ q) ⊛ ‵ ftrue) ∷ [])) (Reads 𝓤 H A R P .pre at-place)
-    goes = qed W (‵ (Own κ (moved d n)) ∷ (‵ (flft κ q) ⊛ ‵ ftrue) ∷ []) ∵ nothing ! $ move ! (1 ∷ 0 ∷ []) $ fjoin ! $ move ! (1 ∷ 0 ∷ []) $ join ! $ frame ! $ done !
+    goes = qed W (‵ (Own κ (moved d n)) ∷ (‵ (flft κ q) ⊛ ‵ ftrue) ∷ []) ∵ nothing ! $ move ! (1 ∷ 0 ∷ []) $ fjoin ! $ move ! (1 ∷ 0 ∷ []) $ join ! $
+        frame ! $ done !
 
     said : (r : R .Denot) → ent 𝓤 (ensured 𝓤 H A (onReaderAlone R) (readerAloneSays 𝓤 R P) (κ, tt) (moved d n, tt) tt r) (fact 𝓤 (P (now (d .call)) n r))
     said r = exE 𝓤 _ (λ ws. snd∗ 𝓤 (sem 𝓤 H A (lasts (onReaderAlone R) (κ, tt) (moved d n, tt) ws)) (fact 𝓤 (P (now (d .call)) n r)))
@@ -112,7 +119,8 @@ module _ {M : Type 1} {𝓤 : URA M} {H : Heap 𝓤} {A : Atoms 𝓤} (W : Given
     at-place-with = (((κ, tt), (q, tt), tt, (moved d n, (m, tt)), (T′.lowered (moved d n) ∷ [], (vint w m ∷ [], tt))), tt)
 
     goes-with : m < 2 ^ bits w → ent 𝓤 (⋆ 𝓤 H A (‵ (Own κ (moved d n)) ∷ (‵ (flft κ q) ⊛ ‵ ftrue) ∷ [])) (ReadsWith 𝓤 H A w R P .pre at-place-with)
-    goes-with ok = qed W (‵ (Own κ (moved d n)) ∷ (‵ (flft κ q) ⊛ ‵ ftrue) ∷ []) ∵ nothing ! $ owned ! (UInt w) (Is (UInt w)) (uint-makes 𝓤 H A W w) m _ (refl, ok) $ fjoin ! $ move ! (1 ∷ 0 ∷ []) $ fjoin ! $ move ! (1 ∷ 0 ∷ []) $ join ! $ frame ! $ done !
+    goes-with ok = qed W (‵ (Own κ (moved d n)) ∷ (‵ (flft κ q) ⊛ ‵ ftrue) ∷ []) ∵ nothing ! $ owned ! (UInt w) (Is (UInt w)) (uint-makes 𝓤 H A W w)
+        m _ (refl, ok) $ fjoin ! $ move ! (1 ∷ 0 ∷ []) $ fjoin ! $ move ! (1 ∷ 0 ∷ []) $ join ! $ frame ! $ done !
 
     said-with : (r : R .Denot) → ent 𝓤 (ensured 𝓤 H A (onReader w R) (readerSays 𝓤 w R P) (κ, tt) (moved d n, (m, tt)) tt r) (fact 𝓤 (P (now (d .call)) n m r))
     said-with r = exE 𝓤 _ (λ ws. snd∗ 𝓤 (sem 𝓤 H A (lasts (onReader w R) (κ, tt) (moved d n, (m, tt)) ws)) (fact 𝓤 (P (now (d .call)) n m r)))
@@ -123,7 +131,8 @@ module _ {M : Type 1} {𝓤 : URA M} {H : Heap 𝓤} {A : Atoms 𝓤} (W : Given
     to-past = (((κ, tt), (q, tt), tt, (d, (n, tt)), (T′.lowered d ∷ [], (vint w64 n ∷ [], tt))), tt)
 
     goes-past : n < 2 ^ 64 → ent 𝓤 (⋆ 𝓤 H A (‵ (Own κ d) ∷ (‵ (flft κ q) ⊛ ‵ ftrue) ∷ [])) (Past 𝓤 H A mem run .pre to-past)
-    goes-past ok = qed W (‵ (Own κ d) ∷ (‵ (flft κ q) ⊛ ‵ ftrue) ∷ []) ∵ nothing ! $ owned ! usize (Is usize) (uint-makes 𝓤 H A W w64) n _ (refl, ok) $ fjoin ! $ move ! (1 ∷ 0 ∷ []) $ fjoin ! $ move ! (1 ∷ 0 ∷ []) $ join ! $ frame ! $ done !
+    goes-past ok = qed W (‵ (Own κ d) ∷ (‵ (flft κ q) ⊛ ‵ ftrue) ∷ []) ∵ nothing ! $ owned ! usize (Is usize) (uint-makes 𝓤 H A W w64) n _ (refl, ok)
+        $ fjoin ! $ move ! (1 ∷ 0 ∷ []) $ fjoin ! $ move ! (1 ∷ 0 ∷ []) $ join ! $ frame ! $ done !
 
     abbrev Moved : Reader → Type 0
     Moved r = (r .call ≡ d .call) × (r .at ≡ n)
@@ -139,11 +148,14 @@ module _ {M : Type 1} {𝓤 : URA M} {H : Heap 𝓤} {A : Atoms 𝓤} (W : Given
     is-moved r u e is = ap only (LL.tells D L r (u ∷ []) is) ∙ ap T′.lowered (rebuilt r e)
 
     is-there : (r : Reader) (u : Val) → Moved r → Is (B (κ, tt)) r (u ∷ []) → Is (B (κ, tt)) (moved d n) (T′.lowered (moved d n) ∷ [])
-    is-there r u e is = subst (λ (v : Val). Is (B (κ, tt)) (moved d n) (v ∷ [])) (is-moved r u e is) (subst (λ (x : Reader). Is (B (κ, tt)) x (u ∷ [])) (rebuilt r e) is)
+    is-there r u e is = subst (λ (v : Val). Is (B (κ, tt)) (moved d n) (v ∷ [])) (is-moved r u e is)
+        (subst (λ (x : Reader). Is (B (κ, tt)) x (u ∷ [])) (rebuilt r e) is)
 
   -- a reader that is moved has its type in a local of a body
-  pub typed-moved : (n : ℕ) → Is (B (κ, tt)) (moved d n) (T′.lowered (moved d n) ∷ []) → Holds (hasTy (T′.mir erased) (T′.lowered (moved d n))) × WT (T′.lowered (moved d n))
-  typed-moved n is = LL.lawful (T.the-type (record { mir = erased; lft = κ })) (T′.the-laws (record { mir = erased; lft = κ })) 𝓤 H A W .typed (moved d n) _ is .0
+  pub typed-moved : (n : ℕ) → Is (B (κ, tt)) (moved d n) (T′.lowered (moved d n) ∷ []) → Holds (hasTy (T′.mir erased) (T′.lowered (moved d n))) × WT
+      (T′.lowered (moved d n))
+  typed-moved n is = LL.lawful (T.the-type (record { mir = erased; lft = κ })) (T′.the-laws (record { mir = erased; lft = κ })) 𝓤 H A W .typed
+      (moved d n) _ is .0
 
 -- the calls on plain values: what they are given, what they ask, what is known of the answer
 module _ {M : Type 1} (𝓤 : URA M) (H : Heap 𝓤) (A : Atoms 𝓤) where
@@ -154,21 +166,29 @@ module _ {M : Type 1} (𝓤 : URA M) (H : Heap 𝓤) (A : Atoms 𝓤) where
   on-two X Y R Q x v y w = ((tt, tt, tt, (x, (y, tt)), (v ∷ [], (w ∷ [], tt))), tt)
 
 module _ {M : Type 1} {𝓤 : URA M} {H : Heap 𝓤} {A : Atoms 𝓤} (W : Given 𝓤 H A) where
-  goes-one : (X R : RattleType) (Q : X .Denot → R .Denot → Type 0) → Makes 𝓤 H A X (Is X) → (x : X .Denot) (v : Val) → Is X x (v ∷ []) → ent 𝓤 (emp 𝓤) (One 𝓤 H A X R Q .pre (on-one 𝓤 H A X R Q x v))
+  goes-one : (X R : RattleType) (Q : X .Denot → R .Denot → Type 0) → Makes 𝓤 H A X (Is X) → (x : X .Denot) (v : Val) → Is X x (v ∷ [])
+      → ent 𝓤 (emp 𝓤) (One 𝓤 H A X R Q .pre (on-one 𝓤 H A X R Q x v))
   goes-one X R Q mk x v isx = qed W (‵ ftrue ∷ []) ∵ owned ! X (Is X) mk x _ isx $ fjoin ! $ nothing ! $ join ! $ frame ! $ done !
 
-  said-one : (X R : RattleType) (Q : X .Denot → R .Denot → Type 0) (x : X .Denot) (r : R .Denot) → ent 𝓤 (ensured 𝓤 H A (onOne X R) (oneSays 𝓤 X R Q) tt (x, tt) tt r) (fact 𝓤 (Q x r))
+  said-one : (X R : RattleType) (Q : X .Denot → R .Denot → Type 0) (x : X .Denot) (r : R .Denot)
+      → ent 𝓤 (ensured 𝓤 H A (onOne X R) (oneSays 𝓤 X R Q) tt (x, tt) tt r) (fact 𝓤 (Q x r))
   said-one X R Q x r = exE 𝓤 _ (λ ws. snd∗ 𝓤 (sem 𝓤 H A (lasts (onOne X R) tt (x, tt) ws)) (fact 𝓤 (Q x r)))
 
-  goes-two : (X Y R : RattleType) (Q : X .Denot → Y .Denot → R .Denot → Type 0) → Makes 𝓤 H A X (Is X) → Makes 𝓤 H A Y (Is Y) → (x : X .Denot) (v : Val) → Is X x (v ∷ []) → (y : Y .Denot) (w : Val) → Is Y y (w ∷ []) → ent 𝓤 (emp 𝓤) (Two 𝓤 H A X Y R Q .pre (on-two 𝓤 H A X Y R Q x v y w))
-  goes-two X Y R Q mk mk′ x v isx y w isy = qed W (‵ ftrue ∷ []) ∵ owned ! Y (Is Y) mk′ y _ isy $ fjoin ! $ owned ! X (Is X) mk x _ isx $ fjoin ! $ nothing ! $ join ! $ frame ! $ done !
+  goes-two : (X Y R : RattleType) (Q : X .Denot → Y .Denot → R .Denot → Type 0) → Makes 𝓤 H A X (Is X) → Makes 𝓤 H A Y (Is Y)
+      → (x : X .Denot) (v : Val) → Is X x (v ∷ []) → (y : Y .Denot) (w : Val) → Is Y y (w ∷ [])
+      → ent 𝓤 (emp 𝓤) (Two 𝓤 H A X Y R Q .pre (on-two 𝓤 H A X Y R Q x v y w))
+  goes-two X Y R Q mk mk′ x v isx y w isy = qed W (‵ ftrue ∷ []) ∵ owned ! Y (Is Y) mk′ y _ isy $ fjoin ! $ owned ! X (Is X) mk x _ isx $ fjoin ! $
+      nothing ! $ join ! $ frame ! $ done !
 
-  said-two : (X Y R : RattleType) (Q : X .Denot → Y .Denot → R .Denot → Type 0) (x : X .Denot) (y : Y .Denot) (r : R .Denot) → ent 𝓤 (ensured 𝓤 H A (onTwo X Y R) (twoSays 𝓤 X Y R Q) tt (x, (y, tt)) tt r) (fact 𝓤 (Q x y r))
+  said-two : (X Y R : RattleType) (Q : X .Denot → Y .Denot → R .Denot → Type 0) (x : X .Denot) (y : Y .Denot) (r : R .Denot)
+      → ent 𝓤 (ensured 𝓤 H A (onTwo X Y R) (twoSays 𝓤 X Y R Q) tt (x, (y, tt)) tt r) (fact 𝓤 (Q x y r))
   said-two X Y R Q x y r = exE 𝓤 _ (λ ws. snd∗ 𝓤 (sem 𝓤 H A (lasts (onTwo X Y R) tt (x, (y, tt)) ws)) (fact 𝓤 (Q x y r)))
 
-module _ {M : Type 1} {𝓤 : URA M} {H : Heap 𝓤} {A : Atoms 𝓤} {K : Type 0} {W : Given 𝓤 H A} {Γ : List (Item 𝓤)} {E : Env 𝓤 H} {C : Calls 𝓤 H} {Λ : Loops 𝓤 H} {qo : Post 𝓤 H} {f : Name} {xs : List Operand} {to : Place} {rest : Body} where
+module _ {M : Type 1} {𝓤 : URA M} {H : Heap 𝓤} {A : Atoms 𝓤} {K : Type 0} {W : Given 𝓤 H A} {Γ : List (Item 𝓤)} {E : Env 𝓤 H} {C : Calls 𝓤 H}
+    {Λ : Loops 𝓤 H} {qo : Post 𝓤 H} {f : Name} {xs : List Operand} {to : Place} {rest : Body} where
   -- a call of a function that reads at the place n
-  pub reads : K → FmC 𝓤 H (W .laws) C → (κ : Lft) (q : Share) (d : Reader) (R : RattleType) (P : List ℕ → ℕ → R .Denot → Type 0) → Triple 𝓤 (C f) (Reads 𝓤 H A R P) → (n : ℕ) → n < 2 ^ 64
+  pub reads : K → FmC 𝓤 H (W .laws) C → (κ : Lft) (q : Share) (d : Reader) (R : RattleType) (P : List ℕ → ℕ → R .Denot → Type 0)
+      → Triple 𝓤 (C f) (Reads 𝓤 H A R P) → (n : ℕ) → n < 2 ^ 64
       → Opds K W (raw (Reads 𝓤 H A R P .pre (at-place W κ d q R P n)) ∷ ‵ (Own κ d) ∷ Γ) E xs (T′.lowered (moved d n) ∷ [])
       → ((t : R .Denot) (u : Val) → P (now (d .call)) n t → Is R t (u ∷ []) → Seq K W (‵ (Own κ d) ∷ (‵ (flft κ q) ⊛ ‵ ftrue) ∷ Γ) (lands C Λ E to u rest qo))
       → Seq K W (‵ (Own κ d) ∷ (‵ (flft κ q) ⊛ ‵ ftrue) ∷ Γ) (runs C Λ E (seq (call f xs to) rest) qo)
@@ -176,12 +196,15 @@ module _ {M : Type 1} {𝓤 : URA M} {H : Heap 𝓤} {A : Atoms 𝓤} {K : Type 
       use1 W (‵ (Own κ (moved d n)) ⊛ ‵ (Own κ d)) (copied W κ d n ok) $ split t $ move t (0 ∷ 2 ∷ []) $
       use2 W (raw (Reads 𝓤 H A R P .pre (at-place W κ d q R P n))) (goes W κ d q R P n) $
       calls-at t fm (Reads 𝓤 H A R P) known (at-place W κ d q R P n) os (λ u.
-      use1 W (later (some (λ (r : R .Denot). ((‵ (flft κ q) ⊛ ‵ ftrue) ⊛ ‵ (R .own r (u ∷ []))) ⊛ raw (ensured 𝓤 H A (onReaderAlone R) (readerAloneSays 𝓤 R P) (κ, tt) (moved d n, tt) tt r)))) (id⊢ 𝓤 _) $ await t tt $ pick t (λ r.
-      split t $ move t (1 ∷ []) $ use1 W (raw (fact 𝓤 (P (now (d .call)) n r))) (said W κ d q R P n r) $ heard t (P (now (d .call)) n r) (λ e. split t $ move t (1 ∷ []) $
+      use1 W (later (some (λ (r : R .Denot). ((‵ (flft κ q) ⊛ ‵ ftrue) ⊛ ‵ (R .own r (u ∷ []))) ⊛ raw
+      (ensured 𝓤 H A (onReaderAlone R) (readerAloneSays 𝓤 R P) (κ, tt) (moved d n, tt) tt r)))) (id⊢ 𝓤 _) $ await t tt $ pick t (λ r.
+      split t $ move t (1 ∷ []) $ use1 W (raw (fact 𝓤 (P (now (d .call)) n r))) (said W κ d q R P n r) $ heard t (P (now (d .call)) n r)
+      (λ e. split t $ move t (1 ∷ []) $
       facts t R (Is R) (shows 𝓤 H A R) r (u ∷ []) (λ is. move t (1 ∷ []) $ k r u e is))))
 
   -- a call of a function that reads at the place n, with a number besides
-  pub reads-with : K → FmC 𝓤 H (W .laws) C → (κ : Lft) (q : Share) (d : Reader) (w : Width) (R : RattleType) (P : List ℕ → ℕ → ℕ → R .Denot → Type 0) → Triple 𝓤 (C f) (ReadsWith 𝓤 H A w R P) → (n : ℕ) → n < 2 ^ 64 → (m : ℕ) → m < 2 ^ bits w
+  pub reads-with : K → FmC 𝓤 H (W .laws) C → (κ : Lft) (q : Share) (d : Reader) (w : Width) (R : RattleType) (P : List ℕ → ℕ → ℕ → R .Denot → Type 0)
+      → Triple 𝓤 (C f) (ReadsWith 𝓤 H A w R P) → (n : ℕ) → n < 2 ^ 64 → (m : ℕ) → m < 2 ^ bits w
       → Opds K W (raw (ReadsWith 𝓤 H A w R P .pre (at-place-with W κ d q w R P n m)) ∷ ‵ (Own κ d) ∷ Γ) E xs (T′.lowered (moved d n) ∷ vint w m ∷ [])
       → ((t : R .Denot) (u : Val) → P (now (d .call)) n m t → Is R t (u ∷ []) → Seq K W (‵ (Own κ d) ∷ (‵ (flft κ q) ⊛ ‵ ftrue) ∷ Γ) (lands C Λ E to u rest qo))
       → Seq K W (‵ (Own κ d) ∷ (‵ (flft κ q) ⊛ ‵ ftrue) ∷ Γ) (runs C Λ E (seq (call f xs to) rest) qo)
@@ -189,37 +212,49 @@ module _ {M : Type 1} {𝓤 : URA M} {H : Heap 𝓤} {A : Atoms 𝓤} {K : Type 
       use1 W (‵ (Own κ (moved d n)) ⊛ ‵ (Own κ d)) (copied W κ d n ok) $ split t $ move t (0 ∷ 2 ∷ []) $
       use2 W (raw (ReadsWith 𝓤 H A w R P .pre (at-place-with W κ d q w R P n m))) (goes-with W κ d q w R P n m fits) $
       calls-at t fm (ReadsWith 𝓤 H A w R P) known (at-place-with W κ d q w R P n m) os (λ u.
-      use1 W (later (some (λ (r : R .Denot). ((‵ (flft κ q) ⊛ ‵ ftrue) ⊛ ‵ (R .own r (u ∷ []))) ⊛ raw (ensured 𝓤 H A (onReader w R) (readerSays 𝓤 w R P) (κ, tt) (moved d n, (m, tt)) tt r)))) (id⊢ 𝓤 _) $ await t tt $ pick t (λ r.
-      split t $ move t (1 ∷ []) $ use1 W (raw (fact 𝓤 (P (now (d .call)) n m r))) (said-with W κ d q w R P n m r) $ heard t (P (now (d .call)) n m r) (λ e. split t $ move t (1 ∷ []) $
+      use1 W (later (some (λ (r : R .Denot). ((‵ (flft κ q) ⊛ ‵ ftrue) ⊛ ‵ (R .own r (u ∷ []))) ⊛ raw
+      (ensured 𝓤 H A (onReader w R) (readerSays 𝓤 w R P) (κ, tt) (moved d n, (m, tt)) tt r)))) (id⊢ 𝓤 _) $ await t tt $ pick t (λ r.
+      split t $ move t (1 ∷ []) $ use1 W (raw (fact 𝓤 (P (now (d .call)) n m r))) (said-with W κ d q w R P n m r) $ heard t (P (now (d .call)) n m r)
+      (λ e. split t $ move t (1 ∷ []) $
       facts t R (Is R) (shows 𝓤 H A R) r (u ∷ []) (λ is. move t (1 ∷ []) $ k r u e is))))
 
   -- the call that moves the reader on, from the place m to n
-  pub moves : K → FmC 𝓤 H (W .laws) C → (κ : Lft) (q : Share) (d : Reader) (mem : Memory → SProp 𝓤) (run : Routine → Fun 𝓤) → Triple 𝓤 (C f) (Past 𝓤 H A mem run) → (m : ℕ) → m < 2 ^ 64 → (n : ℕ) → n < 2 ^ 64
+  pub moves : K → FmC 𝓤 H (W .laws) C → (κ : Lft) (q : Share) (d : Reader) (mem : Memory → SProp 𝓤) (run : Routine → Fun 𝓤)
+      → Triple 𝓤 (C f) (Past 𝓤 H A mem run) → (m : ℕ) → m < 2 ^ 64 → (n : ℕ) → n < 2 ^ 64
       → Opds K W (raw (Past 𝓤 H A mem run .pre (to-past W κ (moved d m) mem run q n)) ∷ ‵ (Own κ d) ∷ Γ) E xs (T′.lowered (moved d m) ∷ vint w64 n ∷ [])
-      → (Holds (hasTy (T′.mir erased) (T′.lowered (moved d n))) × WT (T′.lowered (moved d n)) → Seq K W (‵ (Own κ d) ∷ (‵ (flft κ q) ⊛ ‵ ftrue) ∷ Γ) (lands C Λ E to (T′.lowered (moved d n)) rest qo))
+      → (Holds (hasTy (T′.mir erased) (T′.lowered (moved d n))) × WT (T′.lowered (moved d n)) → Seq K W (‵ (Own κ d) ∷ (‵ (flft κ q) ⊛ ‵ ftrue) ∷ Γ)
+      (lands C Λ E to (T′.lowered (moved d n)) rest qo))
       → Seq K W (‵ (Own κ d) ∷ (‵ (flft κ q) ⊛ ‵ ftrue) ∷ Γ) (runs C Λ E (seq (call f xs to) rest) qo)
   moves t fm κ q d mem run known m was n ok os k =
       use1 W (‵ (Own κ (moved d m)) ⊛ ‵ (Own κ d)) (copied W κ d m was) $ split t $ move t (0 ∷ 2 ∷ []) $
       use2 W (raw (Past 𝓤 H A mem run .pre (to-past W κ (moved d m) mem run q n))) (goes-past W κ (moved d m) mem run q n ok) $
       calls-at t fm (Past 𝓤 H A mem run) known (to-past W κ (moved d m) mem run q n) os (λ u.
-      use1 W (later (some (λ (r : Reader). ((‵ (flft κ q) ⊛ ‵ ftrue) ⊛ ‵ (B (κ, tt) .own r (u ∷ []))) ⊛ raw (ensured 𝓤 H A past.ended (past.clauses 𝓤 H A mem run) (κ, tt) (moved d m, (n, tt)) tt r)))) (id⊢ 𝓤 _) $ await t tt $ pick t (λ r.
-      split t $ move t (1 ∷ []) $ use1 W (raw (fact 𝓤 ((r .call ≡ d .call) × (r .at ≡ n)))) (said-past W κ (moved d m) mem run q n r) $ heard t ((r .call ≡ d .call) × (r .at ≡ n)) (λ e. split t $ move t (1 ∷ []) $
+      use1 W (later (some (λ (r : Reader). ((‵ (flft κ q) ⊛ ‵ ftrue) ⊛ ‵ (B (κ, tt) .own r (u ∷ []))) ⊛ raw
+      (ensured 𝓤 H A past.ended (past.clauses 𝓤 H A mem run) (κ, tt) (moved d m, (n, tt)) tt r)))) (id⊢ 𝓤 _) $ await t tt $ pick t (λ r.
+      split t $ move t (1 ∷ []) $ use1 W (raw (fact 𝓤 ((r .call ≡ d .call) × (r .at ≡ n)))) (said-past W κ (moved d m) mem run q n r) $ heard t
+      ((r .call ≡ d .call) × (r .at ≡ n)) (λ e. split t $ move t (1 ∷ []) $
       facts t (B (κ, tt)) (Is (B (κ, tt))) (shows 𝓤 H A (B (κ, tt))) r (u ∷ []) (λ is. move t (1 ∷ []) $
-      subst (λ (x : Val). Seq K W (‵ (Own κ d) ∷ (‵ (flft κ q) ⊛ ‵ ftrue) ∷ Γ) (lands C Λ E to x rest qo)) (sym (is-moved W κ (moved d m) mem run q n r u e is)) (k (typed-moved W κ (moved d m) n (is-there W κ (moved d m) mem run q n r u e is)))))))
+      subst (λ (x : Val). Seq K W (‵ (Own κ d) ∷ (‵ (flft κ q) ⊛ ‵ ftrue) ∷ Γ) (lands C Λ E to x rest qo))
+      (sym (is-moved W κ (moved d m) mem run q n r u e is))
+      (k (typed-moved W κ (moved d m) n (is-there W κ (moved d m) mem run q n r u e is)))))))
 
   -- a call of a function on a plain value
-  pub asks-one : K → FmC 𝓤 H (W .laws) C → (X R : RattleType) (Q : X .Denot → R .Denot → Type 0) → Makes 𝓤 H A X (Is X) → Triple 𝓤 (C f) (One 𝓤 H A X R Q) → (x : X .Denot) (v : Val) → Is X x (v ∷ [])
+  pub asks-one : K → FmC 𝓤 H (W .laws) C → (X R : RattleType) (Q : X .Denot → R .Denot → Type 0) → Makes 𝓤 H A X (Is X)
+      → Triple 𝓤 (C f) (One 𝓤 H A X R Q) → (x : X .Denot) (v : Val) → Is X x (v ∷ [])
       → Opds K W (raw (One 𝓤 H A X R Q .pre (on-one 𝓤 H A X R Q x v)) ∷ Γ) E xs (v ∷ [])
       → ((r : R .Denot) (u : Val) → Q x r → Is R r (u ∷ []) → Seq K W Γ (lands C Λ E to u rest qo))
       → Seq K W Γ (runs C Λ E (seq (call f xs to) rest) qo)
   asks-one t fm X R Q mk known x v isx os k =
       nothing t $ use1 W (raw (One 𝓤 H A X R Q .pre (on-one 𝓤 H A X R Q x v))) (goes-one W X R Q mk x v isx) $
       calls-at t fm (One 𝓤 H A X R Q) known (on-one 𝓤 H A X R Q x v) os (λ u.
-      use1 W (later (some (λ (r : R .Denot). (‵ ftrue ⊛ ‵ (R .own r (u ∷ []))) ⊛ raw (ensured 𝓤 H A (onOne X R) (oneSays 𝓤 X R Q) tt (x, tt) tt r)))) (id⊢ 𝓤 _) $ await t tt $ pick t (λ r.
-      split t $ move t (1 ∷ []) $ use1 W (raw (fact 𝓤 (Q x r))) (said-one W X R Q x r) $ heard t (Q x r) (λ e. split t $ drop t $ facts t R (Is R) (shows 𝓤 H A R) r (u ∷ []) (λ is. k r u e is))))
+      use1 W (later (some (λ (r : R .Denot). (‵ ftrue ⊛ ‵ (R .own r (u ∷ []))) ⊛ raw (ensured 𝓤 H A (onOne X R) (oneSays 𝓤 X R Q) tt (x, tt) tt r))))
+      (id⊢ 𝓤 _) $ await t tt $ pick t (λ r.
+      split t $ move t (1 ∷ []) $ use1 W (raw (fact 𝓤 (Q x r))) (said-one W X R Q x r) $ heard t (Q x r)
+      (λ e. split t $ drop t $ facts t R (Is R) (shows 𝓤 H A R) r (u ∷ []) (λ is. k r u e is))))
 
   -- a call of a function on two plain values
-  pub asks-two : K → FmC 𝓤 H (W .laws) C → (X Y R : RattleType) (Q : X .Denot → Y .Denot → R .Denot → Type 0) → Makes 𝓤 H A X (Is X) → Makes 𝓤 H A Y (Is Y) → Triple 𝓤 (C f) (Two 𝓤 H A X Y R Q)
+  pub asks-two : K → FmC 𝓤 H (W .laws) C → (X Y R : RattleType) (Q : X .Denot → Y .Denot → R .Denot → Type 0) → Makes 𝓤 H A X (Is X)
+      → Makes 𝓤 H A Y (Is Y) → Triple 𝓤 (C f) (Two 𝓤 H A X Y R Q)
       → (x : X .Denot) (v : Val) → Is X x (v ∷ []) → (y : Y .Denot) (w : Val) → Is Y y (w ∷ [])
       → Opds K W (raw (Two 𝓤 H A X Y R Q .pre (on-two 𝓤 H A X Y R Q x v y w)) ∷ Γ) E xs (v ∷ w ∷ [])
       → ((r : R .Denot) (u : Val) → Q x y r → Is R r (u ∷ []) → Seq K W Γ (lands C Λ E to u rest qo))
@@ -227,14 +262,18 @@ module _ {M : Type 1} {𝓤 : URA M} {H : Heap 𝓤} {A : Atoms 𝓤} {K : Type 
   asks-two t fm X Y R Q mk mk′ known x v isx y w isy os k =
       nothing t $ use1 W (raw (Two 𝓤 H A X Y R Q .pre (on-two 𝓤 H A X Y R Q x v y w))) (goes-two W X Y R Q mk mk′ x v isx y w isy) $
       calls-at t fm (Two 𝓤 H A X Y R Q) known (on-two 𝓤 H A X Y R Q x v y w) os (λ u.
-      use1 W (later (some (λ (r : R .Denot). (‵ ftrue ⊛ ‵ (R .own r (u ∷ []))) ⊛ raw (ensured 𝓤 H A (onTwo X Y R) (twoSays 𝓤 X Y R Q) tt (x, (y, tt)) tt r)))) (id⊢ 𝓤 _) $ await t tt $ pick t (λ r.
-      split t $ move t (1 ∷ []) $ use1 W (raw (fact 𝓤 (Q x y r))) (said-two W X Y R Q x y r) $ heard t (Q x y r) (λ e. split t $ drop t $ facts t R (Is R) (shows 𝓤 H A R) r (u ∷ []) (λ is. k r u e is))))
+      use1 W (later (some (λ (r : R .Denot). (‵ ftrue ⊛ ‵ (R .own r (u ∷ []))) ⊛ raw
+      (ensured 𝓤 H A (onTwo X Y R) (twoSays 𝓤 X Y R Q) tt (x, (y, tt)) tt r)))) (id⊢ 𝓤 _) $ await t tt $ pick t (λ r.
+      split t $ move t (1 ∷ []) $ use1 W (raw (fact 𝓤 (Q x y r))) (said-two W X Y R Q x y r) $ heard t (Q x y r)
+      (λ e. split t $ drop t $ facts t R (Is R) (shows 𝓤 H A R) r (u ∷ []) (λ is. k r u e is))))
 
   -- a call of a function that answers a number of the width w, computed from a plain value
-  pub asks-number : K → FmC 𝓤 H (W .laws) C → (w : Width) (X : RattleType) (num : X .Denot → ℕ) → Makes 𝓤 H A X (Is X) → Triple 𝓤 (C f) (One 𝓤 H A X (UInt w) (λ x r. r ≡ num x)) → (x : X .Denot) (v : Val) → Is X x (v ∷ [])
+  pub asks-number : K → FmC 𝓤 H (W .laws) C → (w : Width) (X : RattleType) (num : X .Denot → ℕ) → Makes 𝓤 H A X (Is X)
+      → Triple 𝓤 (C f) (One 𝓤 H A X (UInt w) (λ x r. r ≡ num x)) → (x : X .Denot) (v : Val) → Is X x (v ∷ [])
       → Opds K W (raw (One 𝓤 H A X (UInt w) (λ x r. r ≡ num x) .pre (on-one 𝓤 H A X (UInt w) (λ x r. r ≡ num x) x v)) ∷ Γ) E xs (v ∷ [])
       → (num x < 2 ^ bits w → Seq K W Γ (lands C Λ E to (vint w (num x)) rest qo))
       → Seq K W Γ (runs C Λ E (seq (call f xs to) rest) qo)
   asks-number t fm w X num mk known x v isx os k =
       asks-one t fm X (UInt w) (λ x r. r ≡ num x) mk known x v isx os (λ r u e is.
-      subst (λ (z : Val). Seq K W Γ (lands C Λ E to z rest qo)) (sym (ap only (uint-tells w r (u ∷ []) is) ∙ ap (vint w) e)) (k (subst (λ (m : ℕ). m < 2 ^ bits w) e (is .1))))
+      subst (λ (z : Val). Seq K W Γ (lands C Λ E to z rest qo)) (sym (ap only (uint-tells w r (u ∷ []) is) ∙ ap (vint w) e))
+      (k (subst (λ (m : ℕ). m < 2 ^ bits w) e (is .1))))

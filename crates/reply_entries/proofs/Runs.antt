@@ -108,8 +108,10 @@ module _ (s : Store) (cookie d : ℕ) where
       → p .at + cost p (above (namedEntries s d m)) ≤ length r → q .at + cost q (above (entryIn s d n)) ≤ length r₁
   name-room n m {r} {r₁} {p} {q} l a h =
       let later = map (entryOf s) (drop (length (passing (n + 1) (isIn s d))) (passing m (isIn s d))) in
-      let e = ap above (passing-split (entryOf s) (isIn s d) (n + 1) m (omega arith)) ∙ above-append cookie (namedEntries s d (n + 1)) later ∙ ap (λ (es : List Entry). es ++ above later) (above-more n) in
-      rest-room (above (namedEntries s d n)) (above (entryIn s d n)) a (front-room p (above (namedEntries s d n) ++ above (entryIn s d n)) (above later) r (rw e at h))
+      let e = ap above (passing-split (entryOf s) (isIn s d) (n + 1) m (omega arith)) ∙ above-append cookie (namedEntries s d (n + 1)) later ∙ ap
+      (λ (es : List Entry). es ++ above later) (above-more n) in
+      rest-room (above (namedEntries s d n)) (above (entryIn s d n)) a
+      (front-room p (above (namedEntries s d n) ++ above (entryIn s d n)) (above later) r (rw e at h))
 
   -- where no more are sent, what was sent of the records below n was sent of those below m
   pub sent-rest : (n m : ℕ) {r r₁ : List ℕ} {p q : Place} → n ≤ m → q .left ≡ 0 → Sent (above (namedEntries s d n)) r r₁ p q

@@ -70,7 +70,8 @@ module _ (s : Store) (o i left : ℕ) (f : Readable s o i left) (asked : 1 ≤ l
         some = omega arith;
         end = omega (arith, h .end);
         place = omega (arith, h .place, n);
-        together = rw t (together-more s o i run m (rw e at (h .together)) (together-block s o (i + run) m (f .good) (f .object) b (omega (arith, h .end))) (z ∙ omega (arith, h .place, n)));
+        together = rw t (together-more s o i run m (rw e at (h .together))
+            (together-block s o (i + run) m (f .good) (f .object) b (omega (arith, h .end))) (z ∙ omega (arith, h .place, n)));
       }
 
   -- the number of a block of the file, and the one behind it, are numbers of the machine

@@ -9,7 +9,8 @@ use Rattle.spec.specs.Image.{Store}
 use Rattle.spec.specs.Handles.{handleOf, attributes, before}
 use Rattle.spec.specs.Edits.{readFile}
 use Rattle.spec.specs.Procedures.Listing.{entries, entriesAbove}
-use Rattle.spec.specs.Results.{Result, null, dead, failed, changed, renamed, gotAttributes, found, granted, gotBytes, wrote, created, listed, gotRoom, gotLimits, gotNaming, committed}
+use Rattle.spec.specs.Results.{Result, null, dead, failed, changed, renamed, gotAttributes, found, granted, gotBytes, wrote, created, listed, gotRoom}
+use Rattle.spec.specs.Results.{gotLimits, gotNaming, committed}
 use Rattle.results.specs.declared.ObjectChange.{ObjectChange}
 use Rattle.results.specs.declared.HandleChange.{HandleChange}
 use Rattle.results.specs.declared.HandleChange.the-variants as HandleChange

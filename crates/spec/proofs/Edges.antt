@@ -6,7 +6,9 @@ use mathlib.Core.Path.{_≡_, refl}
 use Rattle.spec.specs.Bytes.{zeros, beAt, words, opaqueBytes}
 use Rattle.spec.specs.Image.{Store}
 use Rattle.spec.specs.Serve.{check, format}
-use Rattle.spec.proofs.Setting.{space, fresh, callTo, served, after, replied, answered, statusIn, handleTo, getattrCall, createCall, mkdirCall, removeCall, readdirCall, rootWords, nameA, rootAlone, withoutBlocks, setattrCall, createBy, mkdirBy, rmdirCall, renameCall, nameB, answerTo, twoDirectories, threeDirectories, computing}
+use Rattle.spec.proofs.Setting.{space, fresh, callTo, served, after, replied, answered, statusIn, handleTo, getattrCall, createCall, mkdirCall}
+use Rattle.spec.proofs.Setting.{removeCall, readdirCall, rootWords, nameA, rootAlone, withoutBlocks, setattrCall, createBy, mkdirBy, rmdirCall}
+use Rattle.spec.proofs.Setting.{renameCall, nameB, answerTo, twoDirectories, threeDirectories, computing}
 
 -- what a record of the store holds after a call: four bytes at an index
 abbrev pub wordAfter : List ℕ → Store → ℕ → ℕ
@@ -28,7 +30,8 @@ pub record Edges : Type 0 where
   -- "RPC version not 2 is denied with RPC_MISMATCH 2 2", "program not 100003, PROG_UNAVAIL; version not 3, PROG_MISMATCH 3 3; procedure over 21, PROC_UNAVAIL; .. GARBAGE_ARGS"
   pub other-rpc : served (words (7 ∷ 0 ∷ 3 ∷ [])) rootAlone ≡ replied (words (7 ∷ 1 ∷ 1 ∷ 0 ∷ 2 ∷ 2 ∷ [])) rootAlone
   pub other-program : served (words (7 ∷ 0 ∷ 2 ∷ 100005 ∷ 4 ∷ 22 ∷ 0 ∷ 0 ∷ 0 ∷ 0 ∷ [])) rootAlone ≡ replied (words (7 ∷ 1 ∷ 0 ∷ 0 ∷ 0 ∷ 1 ∷ [])) rootAlone
-  pub other-version : served (words (7 ∷ 0 ∷ 2 ∷ 100003 ∷ 2 ∷ 22 ∷ 0 ∷ 0 ∷ 0 ∷ 0 ∷ [])) rootAlone ≡ replied (words (7 ∷ 1 ∷ 0 ∷ 0 ∷ 0 ∷ 2 ∷ 3 ∷ 3 ∷ [])) rootAlone
+  pub other-version : served (words (7 ∷ 0 ∷ 2 ∷ 100003 ∷ 2 ∷ 22 ∷ 0 ∷ 0 ∷ 0 ∷ 0 ∷ [])) rootAlone
+      ≡ replied (words (7 ∷ 1 ∷ 0 ∷ 0 ∷ 0 ∷ 2 ∷ 3 ∷ 3 ∷ [])) rootAlone
   pub other-procedure : served (callTo 22 []) rootAlone ≡ replied (words (7 ∷ 1 ∷ 0 ∷ 0 ∷ 0 ∷ 3 ∷ [])) rootAlone
   pub left-over : served (callTo 0 (words (0 ∷ []))) rootAlone ≡ replied (words (7 ∷ 1 ∷ 0 ∷ 0 ∷ 0 ∷ 4 ∷ [])) rootAlone
   pub long-handle : served (callTo 1 (words (65 ∷ []) ++ zeros 68)) rootAlone ≡ replied (words (7 ∷ 1 ∷ 0 ∷ 0 ∷ 0 ∷ 4 ∷ [])) rootAlone
@@ -75,8 +78,10 @@ pub record Edges : Type 0 where
   -- ACCESS: bits within 0x1F for directories, 0x2D for files
   pub access-directory : served (callTo 4 (handleTo 0 ++ words (0xFFFFFFFF ∷ []))) rootAlone ≡ replied (answered (0 ∷ 1 ∷ rootWords ++ (0x1F ∷ []))) rootAlone
   -- FSSTAT, FSINFO and PATHCONF of the root
-  pub fsstat : served (callTo 18 (handleTo 0)) (fresh 1 0 0) ≡ replied (answered (0 ∷ 1 ∷ rootWords ++ (0 ∷ 0 ∷ 0 ∷ 0 ∷ 0 ∷ 0 ∷ 0 ∷ 1 ∷ 0 ∷ 0 ∷ 0 ∷ 0 ∷ 0 ∷ []))) rootAlone
-  pub fsinfo : served (callTo 19 (handleTo 0)) rootAlone ≡ replied (answered (0 ∷ 1 ∷ rootWords ++ (4096 ∷ 4096 ∷ 1 ∷ 4096 ∷ 4096 ∷ 1 ∷ 4096 ∷ 0 ∷ 8192 ∷ 0 ∷ 1 ∷ 0x18 ∷ []))) rootAlone
+  pub fsstat : served (callTo 18 (handleTo 0)) (fresh 1 0 0)
+      ≡ replied (answered (0 ∷ 1 ∷ rootWords ++ (0 ∷ 0 ∷ 0 ∷ 0 ∷ 0 ∷ 0 ∷ 0 ∷ 1 ∷ 0 ∷ 0 ∷ 0 ∷ 0 ∷ 0 ∷ []))) rootAlone
+  pub fsinfo : served (callTo 19 (handleTo 0)) rootAlone
+      ≡ replied (answered (0 ∷ 1 ∷ rootWords ++ (4096 ∷ 4096 ∷ 1 ∷ 4096 ∷ 4096 ∷ 1 ∷ 4096 ∷ 0 ∷ 8192 ∷ 0 ∷ 1 ∷ 0x18 ∷ []))) rootAlone
   pub pathconf : served (callTo 20 (handleTo 0)) rootAlone ≡ replied (answered (0 ∷ 1 ∷ rootWords ++ (1 ∷ 32 ∷ 1 ∷ 0 ∷ 0 ∷ 1 ∷ []))) rootAlone
   -- format: 3, then 6
   pub format-clock : format (zeros 99) 9 0 0 0 (record { seconds = 0; nanoseconds = 1000000000 }) .number ≡ 3

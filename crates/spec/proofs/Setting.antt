@@ -3,25 +3,34 @@ use Prim.Native.Nat.{ℕ, _+_, _-_, _*_}
 use lib.ListN.{length, replicate}
 use mathlib.Core.List.{List, [], _∷_, _++_}
 use Rattle.kinds.specs.declared.object.Context.{Context}
-use Rattle.spec.specs.Arguments.{handle, unbounded, nameIn, time, setNumber, setSize, setTime, settable, guard, how, setattrArguments, accessArguments, readArguments, writeArguments, createArguments, mkdirArguments, renameArguments, readdirArguments, commitArguments, arguments}
+use Rattle.spec.specs.Arguments.{handle, unbounded, nameIn, time, setNumber, setSize, setTime, settable, guard, how, setattrArguments}
+use Rattle.spec.specs.Arguments.{accessArguments, readArguments, writeArguments, createArguments, mkdirArguments, renameArguments}
+use Rattle.spec.specs.Arguments.{readdirArguments, commitArguments, arguments}
 use Rattle.spec.specs.Bytes.{part, overlay, zeros, digits, beOf, bytesOf, beAt, words, opaqueBytes, sameBytes, allBytes}
-use Rattle.spec.specs.Check.{isZero, goodCounts, goodShape, goodTime, goodBlock, goodSize, goodLive, goodFree, goodObject, goodRoot, goodUsed, goodNameRecord, isDistinct, isNamedOnce, isUsedOnce, leadsToRoot, passes}
+use Rattle.spec.specs.Check.{isZero, goodCounts, goodShape, goodTime, goodBlock, goodSize, goodLive, goodFree, goodObject, goodRoot, goodUsed}
+use Rattle.spec.specs.Check.{goodNameRecord, isDistinct, isNamedOnce, isUsedOnce, leadsToRoot, passes}
 use Rattle.spec.specs.Count.{sum, count, every, some-below, passing, lowest, times, iterate}
-use Rattle.spec.specs.Edits.{withAttributes, setAttributes, clearBlocks, clearTail, blockNumbers, withSize, resize, withGeneration, createObject, removeObject, moveName, writeThrough, readThrough, writeFile, readFile}
+use Rattle.spec.specs.Edits.{withAttributes, setAttributes, clearBlocks, clearTail, blockNumbers, withSize, resize, withGeneration}
+use Rattle.spec.specs.Edits.{createObject, removeObject, moveName, writeThrough, readThrough, writeFile, readFile}
 use Rattle.spec.specs.Handles.{handleOf, reach, reachDirectory, checkName, shownSize, usedBytes, linkCount, attributes, before, change, handleChange}
 use Rattle.spec.specs.Header.{credential, callHeader, header}
-use Rattle.spec.specs.Image.{Store, volumes, stamp, objects, names, blocks, halvesAt, halvesBytes, timeAt, timeBytes, objectFrom, headBytes, timesBytes, objectBytes, objectAt, putObject, nameFrom, nameBytes, nameAt, nameLength, putName}
+use Rattle.spec.specs.Image.{Store, volumes, stamp, objects, names, blocks, halvesAt, halvesBytes, timeAt, timeBytes, objectFrom, headBytes}
+use Rattle.spec.specs.Image.{timesBytes, objectBytes, objectAt, putObject, nameFrom, nameBytes, nameAt, nameLength, putName}
 use Rattle.spec.specs.Names.{isDot, isDotDot, goodByte, goodBytes, goodName}
 use Rattle.spec.specs.Procedures.{act}
 use Rattle.spec.specs.Procedures.Attributes.{badAttributes, lacksRoom, sizeTouches, getattr, checkSetattr, setattrEdit, setattr, grantedBits, access}
 use Rattle.spec.specs.Procedures.Data.{reachRegular, readLength, readResult, read, checkWrite, writeEdit, writeStore, writeDone, write, commit}
 use Rattle.spec.specs.Procedures.Listing.{entryOf, dotEntries, entries, entriesAbove, fitting, checkListing, checkReaddir, readdir}
-use Rattle.spec.specs.Procedures.Names.{lookIn, checkLookup, lookup, roomForNew, newObject, newEdit, checkExisting, checkNew, checkAttributed, checkCreate, create, checkMkdir, mkdir}
-use Rattle.spec.specs.Procedures.Removal.{checkRemove, hasEntries, checkRmdir, removeFrom, remove, rmdir, isWithin, checkRename, renameEdit, failRenaming, rename}
+use Rattle.spec.specs.Procedures.Names.{lookIn, checkLookup, lookup, roomForNew, newObject, newEdit, checkExisting, checkNew, checkAttributed}
+use Rattle.spec.specs.Procedures.Names.{checkCreate, create, checkMkdir, mkdir}
+use Rattle.spec.specs.Procedures.Removal.{checkRemove, hasEntries, checkRmdir, removeFrom, remove, rmdir, isWithin, checkRename, renameEdit}
+use Rattle.spec.specs.Procedures.Removal.{failRenaming, rename}
 use Rattle.spec.specs.Procedures.Volume.{fsstat, fsinfo, pathconf}
 use Rattle.spec.specs.Replies.{fattr3, postOp, preOp, wccData, entryBytes, entriesBytes, resultBytes}
 use Rattle.spec.specs.Results.{failShowing, failChanging}
-use Rattle.spec.specs.Room.{isLive, isRegular, isDirectory, sizeOf, held, uses, isFreeBlock, freeBlocks, freeBlockCount, isAvailable, availableCount, availableObject, isUsedName, availableName, freeNameCount, isNaming, namings, isIn, isNamed, findName, subdirectories, parent, above, byteAt}
+use Rattle.spec.specs.Room.{isLive, isRegular, isDirectory, sizeOf, held, uses, isFreeBlock, freeBlocks, freeBlockCount, isAvailable}
+use Rattle.spec.specs.Room.{availableCount, availableObject, isUsedName, availableName, freeNameCount, isNaming, namings, isIn, isNamed}
+use Rattle.spec.specs.Room.{findName, subdirectories, parent, above, byteAt}
 use Rattle.spec.specs.Rpc.{denied, accepted, judge, mismatch}
 use Rattle.spec.specs.Serve.{Outcome, serve, check, formatted, format}
 use Rattle.spec.specs.Xdr.{number, word, long, choice, flag, bytes, pad, opaque, end}
@@ -124,7 +133,8 @@ withTags = after (createCall tag0123456789 ∷ createCall tag123456789 ∷ write
 -- a file's reply to READ: its attributes, the count, eof and the bytes
 abbrev pub fileRead : ℕ → List ℕ → List ℕ
 fileRead fileid bytes =
-    answered (0 ∷ 1 ∷ 1 ∷ 0 ∷ 1 ∷ 0 ∷ 0 ∷ 0 ∷ length bytes ∷ 0 ∷ 512 ∷ 0 ∷ 0 ∷ 0 ∷ 9 ∷ 0 ∷ fileid ∷ 5 ∷ 6 ∷ 5 ∷ 6 ∷ 5 ∷ 6 ∷ length bytes ∷ 1 ∷ length bytes ∷ [])
+    answered (0 ∷ 1 ∷ 1 ∷ 0 ∷ 1 ∷ 0 ∷ 0 ∷ 0 ∷ length bytes ∷ 0 ∷ 512 ∷ 0 ∷ 0 ∷ 0 ∷ 9 ∷ 0 ∷ fileid ∷ 5 ∷ 6 ∷ 5 ∷ 6 ∷ 5 ∷ 6 ∷ length bytes ∷ 1 ∷ length
+    bytes ∷ [])
     ++ bytes ++ zeros (4 - length bytes)
 
 -- SETATTR of object o by 24 bytes or more of sattr3 words and a guard
@@ -171,5 +181,19 @@ later = record { clock = record { seconds = 7; nanoseconds = 8 }; verifier = 8 }
 
 -- what computing an entry unfolds: naming `computing` on an `unfolding` line unfolds all of these
 unfoldable pub computing : ℕ
-unfolding handle unbounded nameIn time setNumber setSize setTime settable guard how setattrArguments accessArguments readArguments writeArguments createArguments mkdirArguments renameArguments readdirArguments commitArguments arguments part overlay digits beOf bytesOf beAt words opaqueBytes sameBytes allBytes isZero goodCounts goodShape goodTime goodBlock goodSize goodLive goodFree goodObject goodRoot goodUsed goodNameRecord isDistinct isNamedOnce isUsedOnce leadsToRoot passes sum every some-below passing lowest times iterate withAttributes setAttributes clearBlocks clearTail blockNumbers withSize resize withGeneration createObject removeObject moveName writeThrough readThrough writeFile readFile handleOf reach reachDirectory checkName shownSize usedBytes linkCount attributes before change handleChange credential callHeader header volumes stamp objects names blocks halvesAt halvesBytes timeAt timeBytes objectFrom headBytes timesBytes objectBytes objectAt putObject nameFrom nameBytes nameAt nameLength putName isDot isDotDot goodByte goodBytes goodName act badAttributes lacksRoom sizeTouches getattr checkSetattr setattrEdit setattr grantedBits access reachRegular readLength readResult read checkWrite writeEdit writeStore writeDone write commit entryOf dotEntries entries entriesAbove fitting checkListing checkReaddir readdir lookIn checkLookup lookup roomForNew newObject newEdit checkExisting checkNew checkAttributed checkCreate create checkMkdir mkdir checkRemove hasEntries checkRmdir removeFrom remove rmdir isWithin checkRename renameEdit failRenaming rename fsstat fsinfo pathconf fattr3 postOp preOp wccData entryBytes entriesBytes resultBytes failShowing failChanging isLive isRegular isDirectory sizeOf held uses isFreeBlock freeBlocks freeBlockCount isAvailable availableCount availableObject isUsedName availableName freeNameCount isNaming namings isIn isNamed findName subdirectories parent above byteAt denied accepted judge mismatch serve check formatted format number word long choice flag bytes pad opaque end
+unfolding handle unbounded nameIn time setNumber setSize setTime settable guard how setattrArguments accessArguments readArguments writeArguments
+    createArguments mkdirArguments renameArguments readdirArguments commitArguments arguments part overlay digits beOf bytesOf beAt words opaqueBytes
+    sameBytes allBytes isZero goodCounts goodShape goodTime goodBlock goodSize goodLive goodFree goodObject goodRoot goodUsed goodNameRecord
+    isDistinct isNamedOnce isUsedOnce leadsToRoot passes sum every some-below passing lowest times iterate withAttributes setAttributes clearBlocks
+    clearTail blockNumbers withSize resize withGeneration createObject removeObject moveName writeThrough readThrough writeFile readFile handleOf
+    reach reachDirectory checkName shownSize usedBytes linkCount attributes before change handleChange credential callHeader header volumes stamp
+    objects names blocks halvesAt halvesBytes timeAt timeBytes objectFrom headBytes timesBytes objectBytes objectAt putObject nameFrom nameBytes
+    nameAt nameLength putName isDot isDotDot goodByte goodBytes goodName act badAttributes lacksRoom sizeTouches getattr checkSetattr setattrEdit
+    setattr grantedBits access reachRegular readLength readResult read checkWrite writeEdit writeStore writeDone write commit entryOf dotEntries
+    entries entriesAbove fitting checkListing checkReaddir readdir lookIn checkLookup lookup roomForNew newObject newEdit checkExisting checkNew
+    checkAttributed checkCreate create checkMkdir mkdir checkRemove hasEntries checkRmdir removeFrom remove rmdir isWithin checkRename renameEdit
+    failRenaming rename fsstat fsinfo pathconf fattr3 postOp preOp wccData entryBytes entriesBytes resultBytes failShowing failChanging isLive
+    isRegular isDirectory sizeOf held uses isFreeBlock freeBlocks freeBlockCount isAvailable availableCount availableObject isUsedName availableName
+    freeNameCount isNaming namings isIn isNamed findName subdirectories parent above byteAt denied accepted judge mismatch serve check formatted
+    format number word long choice flag bytes pad opaque end
 computing = 0

@@ -7,7 +7,9 @@ use mathlib.Core.Path.{_≡_, refl}
 use Rattle.spec.specs.Bytes.{part, words}
 use Rattle.spec.specs.Count.{passing}
 use Rattle.spec.specs.Serve.{check}
-use Rattle.spec.proofs.Setting.{space, fresh, callTo, served, replied, answered, statusIn, handleTo, getattrCall, lookupCall, createCall, mkdirCall, writeCall, readCall, readdirCall, rootWords, tag0123456789, tag123456789, nameA, rootAlone, withA, withoutBlocks, withTags, fileRead, computing}
+use Rattle.spec.proofs.Setting.{space, fresh, callTo, served, replied, answered, statusIn, handleTo, getattrCall, lookupCall, createCall}
+use Rattle.spec.proofs.Setting.{mkdirCall, writeCall, readCall, readdirCall, rootWords, tag0123456789, tag123456789, nameA, rootAlone, withA}
+use Rattle.spec.proofs.Setting.{withoutBlocks, withTags, fileRead, computing}
 
 pub record Starred : Type 0 where
   -- "NULL, xid 7: words 7 1 0 0 0 0."
@@ -27,10 +29,12 @@ pub record Starred : Type 0 where
   pub smallest-full : statusIn (served (mkdirCall nameA) rootAlone) ≡ 28
   pub smallest-kept : served (mkdirCall nameA) rootAlone .store ≡ rootAlone
   -- "Root just formatted, READDIR cookie 0, count 160: both dots, eof, 188 bytes."
-  pub listing : served (readdirCall 0 160) rootAlone ≡ replied (answered (0 ∷ 1 ∷ rootWords ++ (0 ∷ 0 ∷ 1 ∷ 0 ∷ 1 ∷ 1 ∷ 0x2E000000 ∷ 0 ∷ 1 ∷ 1 ∷ 0 ∷ 1 ∷ 2 ∷ 0x2E2E0000 ∷ 0 ∷ 2 ∷ 0 ∷ 1 ∷ []))) rootAlone
+  pub listing : served (readdirCall 0 160) rootAlone ≡ replied
+      (answered (0 ∷ 1 ∷ rootWords ++ (0 ∷ 0 ∷ 1 ∷ 0 ∷ 1 ∷ 1 ∷ 0x2E000000 ∷ 0 ∷ 1 ∷ 1 ∷ 0 ∷ 1 ∷ 2 ∷ 0x2E2E0000 ∷ 0 ∷ 2 ∷ 0 ∷ 1 ∷ []))) rootAlone
   pub listing-length : served (readdirCall 0 160) rootAlone .length ≡ 188
   -- "Count 132 to 159: "." only, no eof. 131: TOOSMALL. Cookie 2, count 104: empty, eof."
-  pub dot-only : map (λ k. served (readdirCall 0 (132 + k)) rootAlone) (passing 28 (λ _. true)) ≡ replicate 28 (replied (answered (0 ∷ 1 ∷ rootWords ++ (0 ∷ 0 ∷ 1 ∷ 0 ∷ 1 ∷ 1 ∷ 0x2E000000 ∷ 0 ∷ 1 ∷ 0 ∷ 0 ∷ []))) rootAlone)
+  pub dot-only : map (λ k. served (readdirCall 0 (132 + k)) rootAlone) (passing 28 (λ _. true)) ≡ replicate 28
+      (replied (answered (0 ∷ 1 ∷ rootWords ++ (0 ∷ 0 ∷ 1 ∷ 0 ∷ 1 ∷ 1 ∷ 0x2E000000 ∷ 0 ∷ 1 ∷ 0 ∷ 0 ∷ []))) rootAlone)
   pub too-small : served (readdirCall 0 131) rootAlone ≡ replied (answered (10005 ∷ 1 ∷ rootWords)) rootAlone
   pub empty : served (readdirCall 2 104) rootAlone ≡ replied (answered (0 ∷ 1 ∷ rootWords ++ (0 ∷ 0 ∷ 0 ∷ 1 ∷ []))) rootAlone
   -- "WRITE of 1 byte at 8,191 fits; at 8,192 FBIG; 0 bytes there succeeds."

@@ -5,7 +5,8 @@ use mathlib.Core.Bool.{Bool, _&&_, _||_, not, cond}
 use lib.Dec.{eqb, leb, ltb}
 use lib.ListN.{length, getD}
 use Rattle.kinds.specs.Layout.{blocksHead, modeOffset, objectLength, textOffset, nameRecordLength, blockLength}
-use Rattle.kinds.specs.Numbers.{REGULAR, DIRECTORY, nanosecondsEnd, mostObjects, mostNameRecords, mostBlocks, fileBlocks, unusedBlock, mostFileBytes, spentGeneration, mostMode, mostNameBytes}
+use Rattle.kinds.specs.Numbers.{REGULAR, DIRECTORY, nanosecondsEnd, mostObjects, mostNameRecords, mostBlocks, fileBlocks, unusedBlock, mostFileBytes}
+use Rattle.kinds.specs.Numbers.{spentGeneration, mostMode, mostNameBytes}
 use Rattle.kinds.specs.declared.object.Time.{Time}
 use Rattle.kinds.specs.declared.object.Object.{Object}
 use Rattle.spec.specs.Bytes.{part, allBytes}

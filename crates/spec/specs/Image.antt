@@ -3,7 +3,9 @@ use Prim.Native.Nat.{ℕ, zero, suc, _+_, _*_, _-_}
 use mathlib.Core.List.{List, [], _∷_, _++_}
 use lib.ListN.{length, getD}
 use Rattle.kinds.specs.Numbers.{fileBlocks, mostNameBytes}
-use Rattle.kinds.specs.Layout.{stampOffset, objectCountOffset, objectsHead, namesHead, blocksHead, generationOffset, modeOffset, uidOffset, gidOffset, sizeOffset, atimeOffset, mtimeOffset, ctimeOffset, blocksOffset, objectLength, nanosecondsOffset, childOffset, lengthOffset, textOffset, nameRecordLength, blockLength}
+use Rattle.kinds.specs.Layout.{stampOffset, objectCountOffset, objectsHead, namesHead, blocksHead, generationOffset, modeOffset, uidOffset, gidOffset}
+use Rattle.kinds.specs.Layout.{sizeOffset, atimeOffset, mtimeOffset, ctimeOffset, blocksOffset, objectLength, nanosecondsOffset, childOffset}
+use Rattle.kinds.specs.Layout.{lengthOffset, textOffset, nameRecordLength, blockLength}
 use Rattle.kinds.specs.declared.object.Time.{Time}
 use Rattle.kinds.specs.declared.object.Object.{Object}
 use Rattle.spec.specs.Bytes.{part, overlay, zeros, beAt, bytesOf}

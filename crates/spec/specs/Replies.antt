@@ -10,7 +10,8 @@ use Rattle.kinds.specs.declared.object.Before.{Before}
 use Rattle.kinds.specs.declared.object.Change.{Change}
 use Rattle.spec.specs.Bytes.{words, opaqueBytes}
 use Rattle.spec.specs.Count.{bit}
-use Rattle.spec.specs.Results.{Entry, Result, null, dead, failed, changed, renamed, gotAttributes, found, granted, gotBytes, wrote, created, listed, gotRoom, gotLimits, gotNaming, committed}
+use Rattle.spec.specs.Results.{Entry, Result, null, dead, failed, changed, renamed, gotAttributes, found, granted, gotBytes, wrote, created}
+use Rattle.spec.specs.Results.{listed, gotRoom, gotLimits, gotNaming, committed}
 
 -- uint64, as two words
 abbrev pub hyper : ℕ → List ℕ

@@ -14,7 +14,8 @@ use Rattle.store_records.specs.Text.{nameOf}
 use Rattle.laws.proofs.Bytes.{bytes-length, overlay-more}
 
 pub head-run : (b : List ℕ) (at : ℕ) (v : Object) → at + 24 ≤ length b
-    → overlay (overlay (overlay (overlay (overlay (overlay b at (bytesOf 4 (v .kind))) (at + 4) (bytesOf 4 (v .generation))) (at + 8) (bytesOf 4 (v .mode))) (at + 12) (bytesOf 4 (v .uid))) (at + 16) (bytesOf 4 (v .gid))) (at + 20) (bytesOf 4 (v .size))
+    → overlay (overlay (overlay (overlay (overlay (overlay b at (bytesOf 4 (v .kind))) (at + 4) (bytesOf 4 (v .generation))) (at + 8)
+    (bytesOf 4 (v .mode))) (at + 12) (bytesOf 4 (v .uid))) (at + 16) (bytesOf 4 (v .gid))) (at + 20) (bytesOf 4 (v .size))
     ≡ overlay b at (headBytes v)
 unfolding headBytes bytesOf
 head-run b at v h =
@@ -31,7 +32,8 @@ times-run b at t u v h =
     overlay-more b at _ _ _ _ 16 (omega arith) refl (overlay-more b at _ _ _ _ 8 (omega arith) refl refl refl) refl
 
 pub object-run : (b : List ℕ) (o : ℕ) (v : Object) → objectStart o + objectLength ≤ length b
-    → overlay (overlay (overlay b (objectStart o) (headBytes v)) (objectStart o + 24) (timesBytes v)) (objectStart o + 48) (halvesBytes 16 (v .blocks)) ≡ putObject b o v
+    → overlay (overlay (overlay b (objectStart o) (headBytes v)) (objectStart o + 24) (timesBytes v)) (objectStart o + 48)
+    (halvesBytes 16 (v .blocks)) ≡ putObject b o v
 unfolding putObject objectBytes headBytes timesBytes timeBytes bytesOf
 object-run b o v h =
     overlay-more b (objectStart o) _ _ _ _ 48 (omega arith) refl (overlay-more b (objectStart o) _ _ _ _ 24 (omega arith) refl refl refl) refl

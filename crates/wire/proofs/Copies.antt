@@ -10,4 +10,5 @@ module _ (dst : List ℕ) (at : ℕ) (src : List ℕ) (from : ℕ) where
   -- a store that has the first m bytes of a copy, and then gets the next n
   pub copy-more : (m n : ℕ) (s s′ : List ℕ) → at + m ≤ length dst → from + m ≤ length src
       → s ≡ overlay dst at (part src from m) → s′ ≡ overlay s (at + m) (part src (from + m) n) → s′ ≡ overlay dst at (part src from (m + n))
-  copy-more m n s s′ h k p q = rw (part-add src from m n) (overlay-more dst at (part src from m) (part src (from + m) n) s s′ m h (part-length src from m k) p q)
+  copy-more m n s s′ h k p q = rw (part-add src from m n)
+      (overlay-more dst at (part src from m) (part src (from + m) n) s s′ m h (part-length src from m k) p q)

@@ -57,7 +57,12 @@ pub low-4 : (b : List ℕ) (at : ℕ) → at + 4 ≤ length b
     → getD b at 0 + getD b (at + 1) 0 * 256 + getD b (at + 2) 0 * 65536 + getD b (at + 3) 0 * 16777216 ≡ lowFirst (part b at 4)
 unfolding lowFirst beOf digits part
 low-4 b at h =
-    rw (part-cons b at 3 (omega arith), part-cons b (suc at) 2 (omega arith), part-cons b (suc (suc at)) 1 (omega arith), part-cons b (suc (suc (suc at))) 0 (omega arith))
+    rw (
+      part-cons b at 3 (omega arith),
+      part-cons b (suc at) 2 (omega arith),
+      part-cons b (suc (suc at)) 1 (omega arith),
+      part-cons b (suc (suc (suc at))) 0 (omega arith),
+    )
     (simp towards-suc (omega arith))
 
 pub swap-4 : (v : ℕ) → v % 256 * 16777216 + v / 256 % 256 * 65536 + v / 65536 % 256 * 256 + v / 16777216 % 256 ≡ lowFirst (bytesOf 4 v)
@@ -65,6 +70,7 @@ unfolding lowFirst bytesOf beOf digits
 swap-4 v = simp div-one (omega arith)
 
 pub low-stores-4 : (b : List ℕ) (at v : ℕ) → at + 4 ≤ length b
-    → set (set (set (set b at (v % 256)) (at + 1) (v / 256 % 256)) (at + 2) (v / 65536 % 256)) (at + 3) (v / 16777216 % 256) ≡ overlay b at (reverse (bytesOf 4 v))
+    → set (set (set (set b at (v % 256)) (at + 1) (v / 256 % 256)) (at + 2) (v / 65536 % 256)) (at + 3) (v / 16777216 % 256) ≡ overlay b at
+    (reverse (bytesOf 4 v))
 unfolding overlay bytesOf
 low-stores-4 b at v h = simp (towards-suc, div-one) (simp (towards-suc, div-one) at (sets-eq (reverse (bytesOf 4 v)) b at h))

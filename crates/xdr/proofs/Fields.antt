@@ -58,4 +58,5 @@ pub padded-cut : (n p : ℕ) (s : List ℕ) (at place : ℕ) → length s < at +
     → placed place (bind (bytes n s at) (λ part next. bind (pad p s next) (λ _ last. got part last))) ≡ bad place
 unfolding bytes pad number
 padded-cut n p s at place h =
-    ⊎-elim (λ (k : length s < at + n). rw (lt-leb _ _ k)) (λ (k : at + n ≤ length s). rw (le-leb _ _ k, lt-leb (at + n + p) (length s) (omega arith))) (lt-or-le (length s) (at + n))
+    ⊎-elim (λ (k : length s < at + n). rw (lt-leb _ _ k))
+    (λ (k : at + n ≤ length s). rw (le-leb _ _ k, lt-leb (at + n + p) (length s) (omega arith))) (lt-or-le (length s) (at + n))

@@ -25,7 +25,8 @@ returns-2 c =
 returns-3 : tie.Need-returns-3
 returns-3 c =
     let a = c .before .before .before .before .before .before .args in
-    listing-sent (a .given) (a .limit) (entries (a .store .now) (a .d .0)) (c .before .before .before .before .if1 .left) _ (c .before .before .before .run-of .ensures)
+    listing-sent (a .given) (a .limit) (entries (a .store .now) (a .d .0)) (c .before .before .before .before .if1 .left) _
+    (c .before .before .before .run-of .ensures)
     (sym (c .before .before .nothing-fits .ensures) ∙ c .before .if2 .left)
 
 pub check-listing-spec : {M : Type 1} → statement M

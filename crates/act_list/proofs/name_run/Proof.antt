@@ -61,7 +61,8 @@ loop-again c =
       omega arith,
       omega (arith, l .inv .1),
       omega arith,
-      over-absent s (a .d .0) (a .given) (openRun (a .room) (a .count)) (l .i) (l .left) (l .found) (l .inv .3) (is-absent s (a .d .0) (l .i) (l .at) (l .inv .1) (sym (c .before .length-in .ensures) ∙ c .if1 .taken)),
+      over-absent s (a .d .0) (a .given) (openRun (a .room) (a .count)) (l .i) (l .left) (l .found) (l .inv .3)
+          (is-absent s (a .d .0) (l .i) (l .at) (l .inv .1) (sym (c .before .length-in .ensures) ∙ c .if1 .taken)),
     )
 
 loop-less-2 : tie.Need-loop-less-2 Inv-loop μ-loop
@@ -73,7 +74,9 @@ loop-again-2 c =
     let a = st .args in
     let s = a .store .now in
     let l = c .before .before .before .before .loop in
-    let here = named-here s (a .d .0) (l .i) (l .at) _ (st .pre .0) (omega (arith, c .before .before .before .before .before .before .name-count .ensures)) (l .inv .1) (c .before .before .length-in .ensures) (omega (arith, c .before .if1 .left)) in (
+    let here = named-here s (a .d .0) (l .i) (l .at) _ (st .pre .0)
+    (omega (arith, c .before .before .before .before .before .before .name-count .ensures)) (l .inv .1) (c .before .before .length-in .ensures)
+    (omega (arith, c .before .if1 .left)) in (
       omega arith,
       omega (arith, l .inv .1),
       omega arith,
@@ -86,7 +89,9 @@ entry-cost-requires c κs =
     let a = st .args in
     let s = a .store .now in
     let l = c .before .before .before .before .loop in
-    let here = named-here s (a .d .0) (l .i) (l .at) _ (st .pre .0) (omega (arith, c .before .before .before .before .before .before .name-count .ensures)) (l .inv .1) (c .before .before .length-in .ensures) (omega (arith, c .before .if1 .left)) in
+    let here = named-here s (a .d .0) (l .i) (l .at) _ (st .pre .0)
+    (omega (arith, c .before .before .before .before .before .before .name-count .ensures)) (l .inv .1) (c .before .before .length-in .ensures)
+    (omega (arith, c .before .if1 .left)) in
     here .2
 
 returns : tie.Need-returns Inv-loop μ-loop
@@ -95,8 +100,12 @@ returns c =
     let a = st .args in
     let s = a .store .now in
     let l = c .before .before .before .before .before .before .loop in
-    let here = named-here s (a .d .0) (l .i) (l .at) _ (st .pre .0) (omega (arith, c .before .before .before .before .before .before .before .before .name-count .ensures)) (l .inv .1) (c .before .before .before .before .length-in .ensures) (omega (arith, c .before .before .before .if1 .left)) in
-    over-large s (a .d .0) (a .given) (openRun (a .room) (a .count)) (l .i) (l .left) (l .found) (l .inv .3) _ (names s) (here .0) (here .1) (c .before .before .if2 .left) (omega (arith, c .if3 .taken, c .before .entry-cost .ensures)) (omega (arith, c .before .before .before .before .before .before .before .before .name-count .ensures))
+    let here = named-here s (a .d .0) (l .i) (l .at) _ (st .pre .0)
+    (omega (arith, c .before .before .before .before .before .before .before .before .name-count .ensures)) (l .inv .1)
+    (c .before .before .before .before .length-in .ensures) (omega (arith, c .before .before .before .if1 .left)) in
+    over-large s (a .d .0) (a .given) (openRun (a .room) (a .count)) (l .i) (l .left) (l .found) (l .inv .3) _ (names s) (here .0) (here .1)
+    (c .before .before .if2 .left) (omega (arith, c .if3 .taken, c .before .entry-cost .ensures))
+    (omega (arith, c .before .before .before .before .before .before .before .before .name-count .ensures))
 
 add-found : tie.Need-add-found Inv-loop μ-loop
 add-found c =
@@ -112,17 +121,21 @@ loop-again-3 c =
     let a = st .args in
     let s = a .store .now in
     let l = c .before .before .before .before .before .before .loop in
-    let here = named-here s (a .d .0) (l .i) (l .at) _ (st .pre .0) (omega (arith, c .before .before .before .before .before .before .before .before .name-count .ensures)) (l .inv .1) (c .before .before .before .before .length-in .ensures) (omega (arith, c .before .before .before .if1 .left)) in (
+    let here = named-here s (a .d .0) (l .i) (l .at) _ (st .pre .0)
+    (omega (arith, c .before .before .before .before .before .before .before .before .name-count .ensures)) (l .inv .1)
+    (c .before .before .before .before .length-in .ensures) (omega (arith, c .before .before .before .if1 .left)) in (
       omega arith,
       omega (arith, l .inv .1),
       omega arith,
       rw (c .before .entry-cost .ensures)
-          (over-fitting s (a .d .0) (a .given) (openRun (a .room) (a .count)) (l .i) (l .left) (l .found) (l .inv .3) _ (here .0) (here .1) (c .before .before .if2 .left) (omega (arith, c .if3 .left, c .before .entry-cost .ensures))),
+          (over-fitting s (a .d .0) (a .given) (openRun (a .room) (a .count)) (l .i) (l .left) (l .found) (l .inv .3) _ (here .0) (here .1)
+          (c .before .before .if2 .left) (omega (arith, c .if3 .left, c .before .entry-cost .ensures))),
     )
 
 returns-2 : tie.Need-returns-2 Inv-loop μ-loop
 returns-2 c =
-    let e : c .before .loop .i ≡ names (c .before .before .before .before .before .args .store .now) = omega (arith, c .before .before .before .name-count .ensures) in
+    let e : c .before .loop .i ≡ names (c .before .before .before .before .before .args .store .now) =
+    omega (arith, c .before .before .before .name-count .ensures) in
     rw e at (c .before .loop .inv .3)
 
 pub name-run-spec : {M : Type 1} → statement M

@@ -60,7 +60,8 @@ returns-3 c =
     let h = cut (a .call .now) (a .h) in
     let es = entriesAbove (a .cookie) (entries (a .store .now) (a .d .0)) in
     let e = sym (ap (listingOf es) (c .before .before .listing2 .given .1)) ∙ c .before .before .before .before .check-listing .ensures in
-    let k = listed-refused (a .store .now) h (a .d .0) (a .cookie) (checkListing 104 24 (c .before .before .before .before .before .smaller .result) es) _ e in (
+    let k = listed-refused (a .store .now) h (a .d .0) (a .cookie)
+    (checkListing 104 24 (c .before .before .before .before .before .smaller .result) es) _ e in (
       rw (
         eq-eqb _ _ (c .before .before .before .before .before .before .if1 .left),
         ← c .before .before .before .before .before .smaller .ensures,
@@ -70,4 +71,5 @@ returns-3 c =
     )
 
 pub readdir-in-spec : {M : Type 1} → statement M
-readdir-in-spec = tie.close (tie.spec fail-showing-requires returns smaller-requires check-listing-requires enum-known-listing enum-known-listing-2 fail-showing-requires-2 returns-2 returns-3)
+readdir-in-spec = tie.close (tie.spec fail-showing-requires returns smaller-requires check-listing-requires enum-known-listing enum-known-listing-2
+    fail-showing-requires-2 returns-2 returns-3)

@@ -3,7 +3,9 @@ use lib.ListN.{length}
 use borrow.Author.Needs.{needs}
 use Rattle.laws.proofs.Arguments.{Within}
 use Rattle.laws.proofs.ArgumentRange.{FitsArguments}
-use Rattle.act_procedures.proofs.Told.{good, told-null, told-unserved, told-getattr, told-setattr, told-lookup, told-access, told-read, told-write, told-create, told-mkdir, told-remove, told-rmdir, told-rename, told-readdir, told-fsstat, told-fsinfo, told-pathconf, told-commit}
+use Rattle.act_procedures.proofs.Told.{good, told-null, told-unserved, told-getattr, told-setattr, told-lookup, told-access, told-read}
+use Rattle.act_procedures.proofs.Told.{told-write, told-create, told-mkdir, told-remove, told-rmdir, told-rename, told-readdir, told-fsstat}
+use Rattle.act_procedures.proofs.Told.{told-fsinfo, told-pathconf, told-commit}
 use Rattle.act_procedures.proofs.run.Statement.{statement}
 use Rattle.act_procedures.proofs.run.Tie as tie
 
@@ -176,7 +178,8 @@ same-length-2 c = search needs
 returns-3 : tie.Need-returns-3
 returns-3 c =
     let a = c .before .before .before .before .before .before .before .before .before .args in
-    told-setattr (a .store .now) (a .context) (a .call .now) (a .a) _ _ _ _ _ (c .before .before .before .before .before .a2 .given .1) (c .before .before .setattr .ensures)
+    told-setattr (a .store .now) (a .context) (a .call .now) (a .a) _ _ _ _ _ (c .before .before .before .before .before .a2 .given .1)
+    (c .before .before .setattr .ensures)
 
 same-length-3 : tie.Need-same-length-3
 same-length-3 c = search needs
@@ -208,7 +211,8 @@ same-length-6 c = search needs
 returns-7 : tie.Need-returns-7
 returns-7 c =
     let a = c .before .before .before .before .before .before .before .before .before .args in
-    told-write (a .store .now) (a .context) (a .call .now) (a .a) _ _ _ _ _ _ (c .before .before .before .before .before .a6 .given .1) (c .before .before .write .ensures)
+    told-write (a .store .now) (a .context) (a .call .now) (a .a) _ _ _ _ _ _ (c .before .before .before .before .before .a6 .given .1)
+    (c .before .before .write .ensures)
 
 same-length-7 : tie.Need-same-length-7
 same-length-7 c = search needs
@@ -216,7 +220,8 @@ same-length-7 c = search needs
 returns-8 : tie.Need-returns-8
 returns-8 c =
     let a = c .before .before .before .before .before .before .before .before .before .args in
-    told-create (a .store .now) (a .context) (a .call .now) (a .a) _ _ _ _ (c .before .before .before .before .before .a7 .given .1) (c .before .before .create .ensures)
+    told-create (a .store .now) (a .context) (a .call .now) (a .a) _ _ _ _ (c .before .before .before .before .before .a7 .given .1)
+    (c .before .before .create .ensures)
 
 same-length-8 : tie.Need-same-length-8
 same-length-8 c = search needs
@@ -224,7 +229,8 @@ same-length-8 c = search needs
 returns-9 : tie.Need-returns-9
 returns-9 c =
     let a = c .before .before .before .before .before .before .before .before .before .args in
-    told-mkdir (a .store .now) (a .context) (a .call .now) (a .a) _ _ _ _ (c .before .before .before .before .before .a8 .given .1) (c .before .before .mkdir .ensures)
+    told-mkdir (a .store .now) (a .context) (a .call .now) (a .a) _ _ _ _ (c .before .before .before .before .before .a8 .given .1)
+    (c .before .before .mkdir .ensures)
 
 same-length-9 : tie.Need-same-length-9
 same-length-9 c = search needs
@@ -232,7 +238,8 @@ same-length-9 c = search needs
 returns-10 : tie.Need-returns-10
 returns-10 c =
     let a = c .before .before .before .before .before .before .before .before .before .args in
-    told-remove (a .store .now) (a .context) (a .call .now) (a .a) _ _ _ (c .before .before .before .before .before .a9 .given .1) (c .before .before .remove .ensures)
+    told-remove (a .store .now) (a .context) (a .call .now) (a .a) _ _ _ (c .before .before .before .before .before .a9 .given .1)
+    (c .before .before .remove .ensures)
 
 same-length-10 : tie.Need-same-length-10
 same-length-10 c = search needs
@@ -240,7 +247,8 @@ same-length-10 c = search needs
 returns-11 : tie.Need-returns-11
 returns-11 c =
     let a = c .before .before .before .before .before .before .before .before .before .args in
-    told-rmdir (a .store .now) (a .context) (a .call .now) (a .a) _ _ _ (c .before .before .before .before .before .a10 .given .1) (c .before .before .rmdir .ensures)
+    told-rmdir (a .store .now) (a .context) (a .call .now) (a .a) _ _ _ (c .before .before .before .before .before .a10 .given .1)
+    (c .before .before .rmdir .ensures)
 
 same-length-11 : tie.Need-same-length-11
 same-length-11 c = search needs
@@ -248,7 +256,8 @@ same-length-11 c = search needs
 returns-12 : tie.Need-returns-12
 returns-12 c =
     let a = c .before .before .before .before .before .before .before .before .before .args in
-    told-rename (a .store .now) (a .context) (a .call .now) (a .a) _ _ _ _ (c .before .before .before .before .before .a11 .given .1) (c .before .before .rename .ensures)
+    told-rename (a .store .now) (a .context) (a .call .now) (a .a) _ _ _ _ (c .before .before .before .before .before .a11 .given .1)
+    (c .before .before .rename .ensures)
 
 same-length-12 : tie.Need-same-length-12
 same-length-12 c = search needs
@@ -256,7 +265,8 @@ same-length-12 c = search needs
 returns-13 : tie.Need-returns-13
 returns-13 c =
     let a = c .before .before .before .before .before .before .before .args in
-    told-readdir (a .store .now) (a .context) (a .call .now) (a .a) _ _ _ _ (c .readdir .result) (c .before .before .before .a12 .given .1) (c .readdir .ensures)
+    told-readdir (a .store .now) (a .context) (a .call .now) (a .a) _ _ _ _ (c .readdir .result) (c .before .before .before .a12 .given .1)
+    (c .readdir .ensures)
 
 same-length-13 : tie.Need-same-length-13
 same-length-13 c = search needs
@@ -297,4 +307,10 @@ returns-18 c =
 
 pub run-spec : {M : Type 1} → statement M
 run-spec =
-    tie.close (tie.spec enum-told enum-known-a getattr-requires enum-known-a-2 setattr-requires enum-known-a-3 lookup-requires enum-known-a-4 access-requires enum-known-a-5 read-requires enum-known-a-6 write-requires enum-known-a-7 create-requires enum-known-a-8 mkdir-requires enum-known-a-9 remove-requires enum-known-a-10 rmdir-requires enum-known-a-11 rename-requires enum-known-a-12 readdir-requires enum-known-a-13 fsstat-requires enum-known-a-14 fsinfo-requires enum-known-a-15 pathconf-requires enum-known-a-16 commit-requires enum-told-2 returns same-length returns-2 same-length-2 returns-3 same-length-3 returns-4 same-length-4 returns-5 same-length-5 returns-6 same-length-6 returns-7 same-length-7 returns-8 same-length-8 returns-9 same-length-9 returns-10 same-length-10 returns-11 same-length-11 returns-12 same-length-12 returns-13 same-length-13 returns-14 same-length-14 returns-15 same-length-15 returns-16 same-length-16 returns-17 returns-18)
+    tie.close (tie.spec enum-told enum-known-a getattr-requires enum-known-a-2 setattr-requires enum-known-a-3 lookup-requires enum-known-a-4
+    access-requires enum-known-a-5 read-requires enum-known-a-6 write-requires enum-known-a-7 create-requires enum-known-a-8 mkdir-requires
+    enum-known-a-9 remove-requires enum-known-a-10 rmdir-requires enum-known-a-11 rename-requires enum-known-a-12 readdir-requires
+    enum-known-a-13 fsstat-requires enum-known-a-14 fsinfo-requires enum-known-a-15 pathconf-requires enum-known-a-16 commit-requires enum-told-2
+    returns same-length returns-2 same-length-2 returns-3 same-length-3 returns-4 same-length-4 returns-5 same-length-5 returns-6 same-length-6
+    returns-7 same-length-7 returns-8 same-length-8 returns-9 same-length-9 returns-10 same-length-10 returns-11 same-length-11 returns-12
+    same-length-12 returns-13 same-length-13 returns-14 same-length-14 returns-15 same-length-15 returns-16 same-length-16 returns-17 returns-18)

@@ -21,8 +21,16 @@ unfolding change
 returns c =
     let st = c .before .before .before .before .before .before in
     let n = c .before .before .before .smaller .result in
-    rw (← c .before .before .before .smaller .ensures, no-bytes _ _ _ _ _ (none-moved (st .args .call .now) (st .args .bytes) n (c .before .before .if1 .taken)))
-    (record { result = rw (c .unchanged .ensures); store = refl; writable = rw (c .unchanged .ensures) (record { good = st .pre .0; object = st .pre .1 .1 .0 }) })
+    rw (
+      ← c .before .before .before .smaller .ensures,
+      no-bytes _ _ _ _ _ (none-moved (st .args .call .now) (st .args .bytes) n (c .before .before .if1 .taken)),
+    )
+    (record {
+      result = rw (c .unchanged .ensures);
+      store = refl;
+      writable =
+          rw (c .unchanged .ensures) (record { good = st .pre .0; object = st .pre .1 .1 .0 });
+    })
 
 before-requires : tie.Need-before-requires
 before-requires c κs = let st = c .before .before .before .before .before in (st .pre .0, st .pre .1 .1 .0)
@@ -49,9 +57,19 @@ returns-2 c =
     let e = c .before .before .before .before .before .before .before .smaller .ensures in
     let few : n ≤ st .args .bytes .length = rw e (st .pre .1 .1 .1 .1 .1 .0) in
     let some = c .before .before .before .before .before .before .if1 .left in
-    let l = written-left (st .args .call .now) (st .args .bytes) n (st .args .store .now) (st .args .context) (st .args .offset) (st .args .o .0) some few (st .pre .1 .1 .1 .1 .0) (rw (← e) at (st .pre .1 .1 .1 .1 .1 .1)) in
-    rw (← e, moved-bytes (st .args .call .now) (st .args .bytes) n few, some-bytes _ _ _ _ _ n (moved-length (st .args .call .now) (st .args .bytes) n (st .pre .1 .1 .1 .1 .0) few) some)
-    (record { result = rw (c .before .before .before .before .before2 .ensures, c .before .before .write-edit .ensures); store = c .before .before .write-edit .ensures; writable = left-showable _ _ _ _ l (c .before .before .write-edit .ensures) (st .pre .1 .1 .0) })
+    let l = written-left (st .args .call .now) (st .args .bytes) n (st .args .store .now) (st .args .context) (st .args .offset) (st .args .o .0)
+    some few (st .pre .1 .1 .1 .1 .0) (rw (← e) at (st .pre .1 .1 .1 .1 .1 .1)) in
+    rw (
+      ← e,
+      moved-bytes (st .args .call .now) (st .args .bytes) n few,
+      some-bytes _ _ _ _ _ n (moved-length (st .args .call .now) (st .args .bytes) n (st .pre .1 .1 .1 .1 .0) few) some,
+    )
+    (record {
+      result = rw (c .before .before .before .before .before2 .ensures, c .before .before .write-edit .ensures);
+      store =
+          c .before .before .write-edit .ensures;
+      writable = left-showable _ _ _ _ l (c .before .before .write-edit .ensures) (st .pre .1 .1 .0);
+    })
 
 pub write-checked-spec : {M : Type 1} → statement M
 write-checked-spec =

@@ -29,23 +29,52 @@ larger-requires c κs = search needs
 resize-requires : tie.Need-resize-requires
 resize-requires c κs =
     let st = c .before .before .before .before .before .before in
-    let e : c .larger .result ≡ grown (st .args .store .now) (st .args .o .0) (st .args .offset) (st .args .n) = rw (← c .before .before .size-of .ensures) (c .larger .ensures) in
-    (st .pre .0, (st .pre .1 .0, (st .pre .1 .1 .0 .below, (st .pre .1 .1 .0 .regular, (rw e (grown-small (st .args .store .now) (st .args .o .0) (st .args .offset) (st .args .n) (st .pre .0) (st .pre .1 .1 .0)), rw e (st .pre .1 .1 .0 .room))))))
+    let e : c .larger .result ≡ grown (st .args .store .now) (st .args .o .0) (st .args .offset) (st .args .n) =
+    rw (← c .before .before .size-of .ensures) (c .larger .ensures) in (
+      st .pre .0,
+      (
+        st .pre .1 .0,
+        (
+          st .pre .1 .1 .0 .below,
+          (
+            st .pre .1 .1 .0 .regular,
+            (
+              rw e (grown-small (st .args .store .now) (st .args .o .0) (st .args .offset) (st .args .n) (st .pre .0)
+                  (st .pre .1 .1 .0)),
+              rw e (st .pre .1 .1 .0 .room),
+            ),
+          ),
+        ),
+      ),
+    )
 
 write-file-requires : tie.Need-write-file-requires
 write-file-requires c κs =
     let st = c .before .before .before .before .before .before .before .before .before .before in
-    let e : c .before .before .before .before .larger .result ≡ grown (st .args .store .now) (st .args .o .0) (st .args .offset) (st .args .n) = rw (← c .before .before .before .before .before .before .size-of .ensures) (c .before .before .before .before .larger .ensures) in
-    let f = grown-file (st .args .store .now) (st .args .o .0) (st .args .offset) (st .args .n) (st .pre .0) (st .pre .1 .1 .0) (c .before .before .before .resize .last .0) (c .before .before .before .resize .ensures ∙ ap (resize (st .args .store .now) (st .args .o .0)) e) in
+    let e : c .before .before .before .before .larger .result ≡ grown (st .args .store .now) (st .args .o .0) (st .args .offset) (st .args .n) =
+    rw (← c .before .before .before .before .before .before .size-of .ensures) (c .before .before .before .before .larger .ensures) in
+    let f = grown-file (st .args .store .now) (st .args .o .0) (st .args .offset) (st .args .n) (st .pre .0) (st .pre .1 .1 .0)
+    (c .before .before .before .resize .last .0)
+    (c .before .before .before .resize .ensures ∙ ap (resize (st .args .store .now) (st .args .o .0)) e) in
     (f .still .good, (f .below, (f .live, (f .inside, st .pre .1 .1 .1))))
 
 touch-requires : tie.Need-touch-requires
 touch-requires c κs =
     let st = c .before .before .before .before .before .before .before .before .before .before .before .before .before .before .before in
-    let e : c .before .before .before .before .before .before .before .before .before .larger .result ≡ grown (st .args .store .now) (st .args .o .0) (st .args .offset) (st .args .n) = rw (← c .before .before .before .before .before .before .before .before .before .before .before .size-of .ensures) (c .before .before .before .before .before .before .before .before .before .larger .ensures) in
-    let f = grown-file (st .args .store .now) (st .args .o .0) (st .args .offset) (st .args .n) (st .pre .0) (st .pre .1 .1 .0) (c .before .before .before .before .before .before .before .before .resize .last .0) (c .before .before .before .before .before .before .before .before .resize .ensures ∙ ap (resize (st .args .store .now) (st .args .o .0)) e) in
-    let w = below-part 256 (st .args .call .now) (st .args .start) (st .args .n) (lit< tt) (λ k. c .before .before .before .before .before .before .before .before .before .before .before .before .before .shared-slice-known .given k .fits) in
-    let h = written-shape (st .args .store .now) (st .args .o .0) (st .args .offset) (st .args .n) (st .pre .0) (st .pre .1 .1 .0) (c .before .before .before .before .before .before .before .before .resize .last .0) (c .before .before .before .before .write-file .last .0) (part (st .args .call .now) (st .args .start) (st .args .n)) f w (part-length _ _ _ (st .pre .1 .1 .1)) (c .before .before .before .before .write-file .ensures) in
+    let e : c .before .before .before .before .before .before .before .before .before .larger .result ≡ grown (st .args .store .now) (st .args .o .0)
+    (st .args .offset) (st .args .n) = rw (← c .before .before .before .before .before .before .before .before .before .before .before .size-of
+    .ensures) (c .before .before .before .before .before .before .before .before .before .larger .ensures) in
+    let f = grown-file (st .args .store .now) (st .args .o .0) (st .args .offset) (st .args .n) (st .pre .0) (st .pre .1 .1 .0)
+    (c .before .before .before .before .before .before .before .before .resize .last .0)
+    (c .before .before .before .before .before .before .before .before .resize .ensures ∙ ap (resize (st .args .store .now) (st .args .o .0)) e)
+    in
+    let w = below-part 256 (st .args .call .now) (st .args .start) (st .args .n) (lit< tt)
+    (λ k. c .before .before .before .before .before .before .before .before .before .before .before .before .before .shared-slice-known .given
+    k .fits) in
+    let h = written-shape (st .args .store .now) (st .args .o .0) (st .args .offset) (st .args .n) (st .pre .0) (st .pre .1 .1 .0)
+    (c .before .before .before .before .before .before .before .before .resize .last .0) (c .before .before .before .before .write-file .last .0)
+    (part (st .args .call .now) (st .args .start) (st .args .n)) f w (part-length _ _ _ (st .pre .1 .1 .1))
+    (c .before .before .before .before .write-file .ensures) in
     record-inside (st .args .store .now) (c .before .before .before .before .write-file .last .0) (st .args .o .0) (st .pre .0) h (st .pre .1 .1 .0 .below)
 
 same-length : tie.Need-same-length
@@ -55,7 +84,8 @@ returns : tie.Need-returns
 unfolding writeEdit
 returns c =
     rw (
-      part-length _ _ _ (c .before .before .before .before .before .before .before .before .before .before .before .before .before .before .before .before .before .before .pre .1 .1 .1),
+      part-length _ _ _ (c .before .before .before .before .before .before .before .before .before .before .before .before .before .before .before
+          .before .before .before .pre .1 .1 .1),
       c .before .before .touch .ensures,
       c .before .before .before .before .before .before .before .write-file .ensures,
       c .before .before .before .before .before .before .before .before .before .before .before .resize .ensures,

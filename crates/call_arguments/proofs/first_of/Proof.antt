@@ -1,5 +1,6 @@
 use borrow.Author.Tests.{ne-eqb}
-use Rattle.spec.specs.Arguments.{arguments, setattrArguments, accessArguments, readArguments, writeArguments, createArguments, mkdirArguments, renameArguments, readdirArguments, commitArguments}
+use Rattle.spec.specs.Arguments.{arguments, setattrArguments, accessArguments, readArguments, writeArguments, createArguments, mkdirArguments}
+use Rattle.spec.specs.Arguments.{renameArguments, readdirArguments, commitArguments}
 use Rattle.call_by_handle.specs.After as handled
 use Rattle.call_by_name.specs.After as named
 use Rattle.call_arguments.proofs.first_of.Statement.{statement}

@@ -31,6 +31,8 @@ unfolding code.routine tablesOf
 next-arguments-spec 𝓤 H 𝓜 𝓖 𝓡 =
     entered 𝓤 H (tripleOf 𝓤 H (𝓖 .A) next-arguments.signature (next-arguments.spec 𝓤 H (𝓖 .A) (𝓜 .mem) (𝓡 .run)))
     (tables 𝓤 H 𝓜 𝓡 code.env .C) (tables 𝓤 H 𝓜 𝓡 code.env .Λ) #next-arguments code.function (code.unfolded 𝓤 H 𝓜 𝓡)
-    (taken 𝓤 H (𝓖 .A) (givenOf 𝓤 H 𝓜 𝓖) w32 tt R.the-row R′.mir (λ r u is. EL.lawful R.the-type R′.the-laws 𝓤 H (𝓖 .A) (givenOf 𝓤 H 𝓜 𝓖) tt .typed r _ is .0) Says #arguments-at
+    (taken 𝓤 H (𝓖 .A) (givenOf 𝓤 H 𝓜 𝓖) w32 tt R.the-row R′.mir
+    (λ r u is. EL.lawful R.the-type R′.the-laws 𝓤 H (𝓖 .A) (givenOf 𝓤 H 𝓜 𝓖) tt .typed r _ is .0) Says #arguments-at
     (tablesOf 𝓤 H 𝓜 (tables 𝓤 H 𝓜 𝓡 code.env))
-    (cited 𝓤 H (tripleOf 𝓤 H (𝓖 .A) callee.signature (callee.spec 𝓤 H (𝓖 .A) (𝓜 .mem) (𝓡 .run))) 𝓜 𝓡 code.env #arguments-at callee-def.routine code.calls-call-arguments·arguments-at (callee-thm.met 𝓤 H 𝓜 𝓖 𝓡)))
+    (cited 𝓤 H (tripleOf 𝓤 H (𝓖 .A) callee.signature (callee.spec 𝓤 H (𝓖 .A) (𝓜 .mem) (𝓡 .run))) 𝓜 𝓡 code.env #arguments-at callee-def.routine
+    code.calls-call-arguments·arguments-at (callee-thm.met 𝓤 H 𝓜 𝓖 𝓡)))

@@ -45,31 +45,72 @@ finish-requires c κs = search needs
 
 returns-2 : tie.Need-returns-2
 unfolding after
-returns-2 c = rw (c .setattr .ensures, ← c .before .before .before .before .before .handle .ensures, c .before .before .before .answer .given .1, c .before .match2 .keys1)
+returns-2 c = rw (
+  c .setattr .ensures,
+  ← c .before .before .before .before .before .handle .ensures,
+  c .before .before .before .answer .given .1,
+  c .before .match2 .keys1,
+)
 
 returns-3 : tie.Need-returns-3
 unfolding after
-returns-3 c = rw (c .access .ensures, ← c .before .before .before .before .before .handle .ensures, c .before .before .before .answer .given .1, c .before .match2 .keys2)
+returns-3 c = rw (
+  c .access .ensures,
+  ← c .before .before .before .before .before .handle .ensures,
+  c .before .before .before .answer .given .1,
+  c .before .match2 .keys2,
+)
 
 returns-4 : tie.Need-returns-4
 unfolding after
-returns-4 c = rw (c .read .ensures, ← c .before .before .before .before .before .handle .ensures, c .before .before .before .answer .given .1, c .before .match2 .keys3)
+returns-4 c = rw (
+  c .read .ensures,
+  ← c .before .before .before .before .before .handle .ensures,
+  c .before .before .before .answer .given .1,
+  c .before .match2 .keys3,
+)
 
 returns-5 : tie.Need-returns-5
 unfolding after
-returns-5 c = rw (c .write .ensures, ← c .before .before .before .before .before .handle .ensures, c .before .before .before .answer .given .1, c .before .match2 .keys4)
+returns-5 c = rw (
+  c .write .ensures,
+  ← c .before .before .before .before .before .handle .ensures,
+  c .before .before .before .answer .given .1,
+  c .before .match2 .keys4,
+)
 
 returns-6 : tie.Need-returns-6
 unfolding after
-returns-6 c = rw (c .readdir .ensures, ← c .before .before .before .before .before .handle .ensures, c .before .before .before .answer .given .1, c .before .match2 .keys5)
+returns-6 c = rw (
+  c .readdir .ensures,
+  ← c .before .before .before .before .before .handle .ensures,
+  c .before .before .before .answer .given .1,
+  c .before .match2 .keys5,
+)
 
 returns-7 : tie.Need-returns-7
 unfolding after
-returns-7 c = rw (c .commit .ensures, ← c .before .before .before .before .before .handle .ensures, c .before .before .before .answer .given .1, c .before .match2 .keys6)
+returns-7 c = rw (
+  c .commit .ensures,
+  ← c .before .before .before .before .before .handle .ensures,
+  c .before .before .before .answer .given .1,
+  c .before .match2 .keys6,
+)
 
 returns-8 : tie.Need-returns-8
 unfolding after
-returns-8 c = rw (c .finish .ensures, c .before .alone .ensures, ← c .before .before .before .before .before .before .handle .ensures, c .before .before .before .before .answer .given .1, ne-eqb _ _ (c .before .before .match2 .rest .0 .0 .0 .0 .0 .1), ne-eqb _ _ (c .before .before .match2 .rest .0 .0 .0 .0 .1), ne-eqb _ _ (c .before .before .match2 .rest .0 .0 .0 .1), ne-eqb _ _ (c .before .before .match2 .rest .0 .0 .1), ne-eqb _ _ (c .before .before .match2 .rest .0 .1), ne-eqb _ _ (c .before .before .match2 .rest .1))
+returns-8 c = rw (
+  c .finish .ensures,
+  c .before .alone .ensures,
+  ← c .before .before .before .before .before .before .handle .ensures,
+  c .before .before .before .before .answer .given .1,
+  ne-eqb _ _ (c .before .before .match2 .rest .0 .0 .0 .0 .0 .1),
+  ne-eqb _ _ (c .before .before .match2 .rest .0 .0 .0 .0 .1),
+  ne-eqb _ _ (c .before .before .match2 .rest .0 .0 .0 .1),
+  ne-eqb _ _ (c .before .before .match2 .rest .0 .0 .1),
+  ne-eqb _ _ (c .before .before .match2 .rest .0 .1),
+  ne-eqb _ _ (c .before .before .match2 .rest .1),
+)
 
 pub of-handle-spec : {M : Type 1} → statement M
 of-handle-spec =

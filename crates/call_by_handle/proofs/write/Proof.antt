@@ -30,7 +30,13 @@ place-requires-2 : tie.Need-place-requires-2
 place-requires-2 c κs = search needs
 
 returns-2 : tie.Need-returns-2
-returns-2 c = rw (c .place2 .ensures, ← c .before .before .before .before .before .before .before .long .ensures, c .before .before .before .before .before .answer .given .1, ← c .before .before .before .word .ensures, c .before .enum-told2 .given .1)
+returns-2 c = rw (
+  c .place2 .ensures,
+  ← c .before .before .before .before .before .before .before .long .ensures,
+  c .before .before .before .before .before .answer .given .1,
+  ← c .before .before .before .word .ensures,
+  c .before .enum-told2 .given .1,
+)
 
 choice-requires : tie.Need-choice-requires
 choice-requires c κs = search needs
@@ -45,7 +51,15 @@ place-requires-3 : tie.Need-place-requires-3
 place-requires-3 c κs = search needs
 
 returns-3 : tie.Need-returns-3
-returns-3 c = rw (c .place3 .ensures, ← c .before .before .before .before .before .before .before .before .before .before .before .long .ensures, c .before .before .before .before .before .before .before .before .before .answer .given .1, ← c .before .before .before .before .before .before .before .word .ensures, c .before .before .before .before .before .answer2 .given .1, ← c .before .before .before .choice .ensures, c .before .enum-told3 .given .1)
+returns-3 c = rw (
+  c .place3 .ensures,
+  ← c .before .before .before .before .before .before .before .before .before .before .before .long .ensures,
+  c .before .before .before .before .before .before .before .before .before .answer .given .1,
+  ← c .before .before .before .before .before .before .before .word .ensures,
+  c .before .before .before .before .before .answer2 .given .1,
+  ← c .before .before .before .choice .ensures,
+  c .before .enum-told3 .given .1,
+)
 
 unbounded-requires : tie.Need-unbounded-requires
 unbounded-requires c κs = search needs
@@ -60,13 +74,37 @@ place-requires-4 : tie.Need-place-requires-4
 place-requires-4 c κs = search needs
 
 returns-4 : tie.Need-returns-4
-returns-4 c = rw (c .place4 .ensures, ← c .before .before .before .before .before .before .before .before .before .before .before .before .before .before .before .long .ensures, c .before .before .before .before .before .before .before .before .before .before .before .before .before .answer .given .1, ← c .before .before .before .before .before .before .before .before .before .before .before .word .ensures, c .before .before .before .before .before .before .before .before .before .answer2 .given .1, ← c .before .before .before .before .before .before .before .choice .ensures, c .before .before .before .before .before .answer3 .given .1, ← c .before .before .before .unbounded .ensures, c .before .enum-told4 .given .1)
+returns-4 c = rw (
+  c .place4 .ensures,
+  ← c .before .before .before .before .before .before .before .before .before .before .before .before .before
+      .before .before .long .ensures,
+  c .before .before .before .before .before .before .before .before .before .before .before .before .before .answer
+      .given .1,
+  ← c .before .before .before .before .before .before .before .before .before .before .before .word .ensures,
+  c .before .before .before .before .before .before .before .before .before .answer2 .given .1,
+  ← c .before .before .before .before .before .before .before .choice .ensures,
+  c .before .before .before .before .before .answer3 .given .1,
+  ← c .before .before .before .unbounded .ensures,
+  c .before .enum-told4 .given .1,
+)
 
 finish-requires : tie.Need-finish-requires
 finish-requires c κs = search needs
 
 returns-5 : tie.Need-returns-5
-returns-5 c = rw (c .finish .ensures, ← c .before .before .before .before .before .before .before .before .before .before .before .before .before .before .before .before .long .ensures, c .before .before .before .before .before .before .before .before .before .before .before .before .before .before .answer .given .1, ← c .before .before .before .before .before .before .before .before .before .before .before .before .word .ensures, c .before .before .before .before .before .before .before .before .before .before .answer2 .given .1, ← c .before .before .before .before .before .before .before .before .choice .ensures, c .before .before .before .before .before .before .answer3 .given .1, ← c .before .before .before .before .unbounded .ensures, c .before .before .answer4 .given .1)
+returns-5 c = rw (
+  c .finish .ensures,
+  ← c .before .before .before .before .before .before .before .before .before .before .before .before .before
+      .before .before .before .long .ensures,
+  c .before .before .before .before .before .before .before .before .before .before .before .before .before
+      .before .answer .given .1,
+  ← c .before .before .before .before .before .before .before .before .before .before .before .before .word .ensures,
+  c .before .before .before .before .before .before .before .before .before .before .answer2 .given .1,
+  ← c .before .before .before .before .before .before .before .before .choice .ensures,
+  c .before .before .before .before .before .before .answer3 .given .1,
+  ← c .before .before .before .before .unbounded .ensures,
+  c .before .before .answer4 .given .1,
+)
 
 pub write-spec : {M : Type 1} → statement M
 write-spec =

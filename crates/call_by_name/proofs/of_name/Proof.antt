@@ -36,19 +36,42 @@ finish-requires c κs = search needs
 
 returns-2 : tie.Need-returns-2
 unfolding after
-returns-2 c = rw (c .create .ensures, ← c .before .before .before .before .before .name-in .ensures, c .before .before .before .answer .given .1, c .before .match2 .keys1)
+returns-2 c = rw (
+  c .create .ensures,
+  ← c .before .before .before .before .before .name-in .ensures,
+  c .before .before .before .answer .given .1,
+  c .before .match2 .keys1,
+)
 
 returns-3 : tie.Need-returns-3
 unfolding after
-returns-3 c = rw (c .mkdir .ensures, ← c .before .before .before .before .before .name-in .ensures, c .before .before .before .answer .given .1, c .before .match2 .keys2)
+returns-3 c = rw (
+  c .mkdir .ensures,
+  ← c .before .before .before .before .before .name-in .ensures,
+  c .before .before .before .answer .given .1,
+  c .before .match2 .keys2,
+)
 
 returns-4 : tie.Need-returns-4
 unfolding after
-returns-4 c = rw (c .rename .ensures, ← c .before .before .before .before .before .name-in .ensures, c .before .before .before .answer .given .1, c .before .match2 .keys3)
+returns-4 c = rw (
+  c .rename .ensures,
+  ← c .before .before .before .before .before .name-in .ensures,
+  c .before .before .before .answer .given .1,
+  c .before .match2 .keys3,
+)
 
 returns-5 : tie.Need-returns-5
 unfolding after
-returns-5 c = rw (c .finish .ensures, c .before .alone .ensures, ← c .before .before .before .before .before .before .name-in .ensures, c .before .before .before .before .answer .given .1, ne-eqb _ _ (c .before .before .match2 .rest .0 .0 .1), ne-eqb _ _ (c .before .before .match2 .rest .0 .1), ne-eqb _ _ (c .before .before .match2 .rest .1))
+returns-5 c = rw (
+  c .finish .ensures,
+  c .before .alone .ensures,
+  ← c .before .before .before .before .before .before .name-in .ensures,
+  c .before .before .before .before .answer .given .1,
+  ne-eqb _ _ (c .before .before .match2 .rest .0 .0 .1),
+  ne-eqb _ _ (c .before .before .match2 .rest .0 .1),
+  ne-eqb _ _ (c .before .before .match2 .rest .1),
+)
 
 pub of-name-spec : {M : Type 1} → statement M
 of-name-spec =

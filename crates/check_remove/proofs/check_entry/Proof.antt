@@ -25,7 +25,12 @@ enum-known-checked c = search needs
 
 returns-2 : tie.Need-returns-2
 unfolding checkEntry
-returns-2 c = rw (← c .before .before .before .before .before .before .before .reach-directory .ensures, c .before .before .before .before .before .reached .given .1, ← c .before .before .before .check-name .ensures, c .before .checked .given .1)
+returns-2 c = rw (
+  ← c .before .before .before .before .before .before .before .reach-directory .ensures,
+  c .before .before .before .before .before .reached .given .1,
+  ← c .before .before .before .check-name .ensures,
+  c .before .checked .given .1,
+)
 
 enum-told : tie.Need-enum-told
 enum-told c = search needs
@@ -35,11 +40,19 @@ is-dots-requires c κs = search needs
 
 returns-3 : tie.Need-returns-3
 unfolding checkEntry
-returns-3 c = rw (← c .before .before .before .before .before .before .before .before .reach-directory .ensures, c .before .before .before .before .before .before .reached .given .1, ← c .before .before .before .before .check-name .ensures, c .before .before .enum-told .given .1, ← c .before .is-dots .ensures, c .if1 .taken)
+returns-3 c = rw (
+  ← c .before .before .before .before .before .before .before .before .reach-directory .ensures,
+  c .before .before .before .before .before .before .reached .given .1,
+  ← c .before .before .before .before .check-name .ensures,
+  c .before .before .enum-told .given .1,
+  ← c .before .is-dots .ensures,
+  c .if1 .taken,
+)
 
 find-name-requires : tie.Need-find-name-requires
 find-name-requires c κs =
-    let pre = c .before .before .before .before .before .before .before .before .before .before .before .before .before .pre in (good-shaped _ (pre .0), (good-names-sound _ (pre .0), pre .1 .1))
+    let pre = c .before .before .before .before .before .before .before .before .before .before .before .before .before .pre in
+    (good-shaped _ (pre .0), (good-names-sound _ (pre .0), pre .1 .1))
 
 enum-known-n : tie.Need-enum-known-n
 enum-known-n c = search needs
@@ -49,11 +62,29 @@ enum-told-2 c = search needs
 
 returns-4 : tie.Need-returns-4
 unfolding checkEntry
-returns-4 c = rw (← c .before .before .before .before .before .before .before .before .before .before .before .reach-directory .ensures, c .before .before .before .before .before .before .before .before .before .reached .given .1, ← c .before .before .before .before .before .before .before .check-name .ensures, c .before .before .before .before .before .enum-told .given .1, ← c .before .before .before .before .is-dots .ensures, c .before .before .before .if1 .left, ← c .before .before .find-name .ensures, c .enum-told2 .given .1)
+returns-4 c = rw (
+  ← c .before .before .before .before .before .before .before .before .before .before .before .reach-directory .ensures,
+  c .before .before .before .before .before .before .before .before .before .reached .given .1,
+  ← c .before .before .before .before .before .before .before .check-name .ensures,
+  c .before .before .before .before .before .enum-told .given .1,
+  ← c .before .before .before .before .is-dots .ensures,
+  c .before .before .before .if1 .left,
+  ← c .before .before .find-name .ensures,
+  c .enum-told2 .given .1,
+)
 
 returns-5 : tie.Need-returns-5
 unfolding checkEntry
-returns-5 c = rw (← c .before .before .before .before .before .before .before .before .before .before .before .before .reach-directory .ensures, c .before .before .before .before .before .before .before .before .before .before .reached .given .1, ← c .before .before .before .before .before .before .before .before .check-name .ensures, c .before .before .before .before .before .before .enum-told .given .1, ← c .before .before .before .before .before .is-dots .ensures, c .before .before .before .before .if1 .left, ← c .before .before .before .find-name .ensures, c .before .n .given .1)
+returns-5 c = rw (
+  ← c .before .before .before .before .before .before .before .before .before .before .before .before .reach-directory .ensures,
+  c .before .before .before .before .before .before .before .before .before .before .reached .given .1,
+  ← c .before .before .before .before .before .before .before .before .check-name .ensures,
+  c .before .before .before .before .before .before .enum-told .given .1,
+  ← c .before .before .before .before .before .is-dots .ensures,
+  c .before .before .before .before .if1 .left,
+  ← c .before .before .before .find-name .ensures,
+  c .before .n .given .1,
+)
 
 pub check-entry-spec : {M : Type 1} → statement M
 check-entry-spec =

@@ -22,21 +22,37 @@ name-child-requires : tie.Need-name-child-requires
 name-child-requires c κs =
     let st = c .before .before .before .before .before .before in
     let a = st .args in
-    let k = entry-found (a .store .now) (st .pre .0) (cut (a .call .now) (a .p .directory)) (cut (a .call .now) (a .p .name)) ACCES _ _ _ (c .before .entry .given .1) (c .before .before .before .check-entry .ensures) in
+    let k = entry-found (a .store .now) (st .pre .0) (cut (a .call .now) (a .p .directory)) (cut (a .call .now) (a .p .name)) ACCES _ _ _
+    (c .before .entry .given .1) (c .before .before .before .check-entry .ensures) in
     omega arith
 
 is-directory-requires : tie.Need-is-directory-requires
 is-directory-requires c κs =
     let st = c .before .before .before .before .before .before .before in
     let a = st .args in
-    let k = entry-found (a .store .now) (st .pre .0) (cut (a .call .now) (a .p .directory)) (cut (a .call .now) (a .p .name)) ACCES _ _ _ (c .before .before .entry .given .1) (c .before .before .before .before .check-entry .ensures) in
+    let k = entry-found (a .store .now) (st .pre .0) (cut (a .call .now) (a .p .directory)) (cut (a .call .now) (a .p .name)) ACCES _ _ _
+    (c .before .before .entry .given .1) (c .before .before .before .before .check-entry .ensures) in
     omega arith
 
 returns-2 : tie.Need-returns-2
-returns-2 c = rw (remove-entry, ← c .before .before .before .before .before .before .check-entry .ensures, c .before .before .before .before .entry .given .1, ← c .before .before .name-child .ensures, ← c .before .is-directory .ensures, c .if1 .taken)
+returns-2 c = rw (
+  remove-entry,
+  ← c .before .before .before .before .before .before .check-entry .ensures,
+  c .before .before .before .before .entry .given .1,
+  ← c .before .before .name-child .ensures,
+  ← c .before .is-directory .ensures,
+  c .if1 .taken,
+)
 
 returns-3 : tie.Need-returns-3
-returns-3 c = rw (remove-entry, ← c .before .before .before .before .before .before .check-entry .ensures, c .before .before .before .before .entry .given .1, ← c .before .before .name-child .ensures, ← c .before .is-directory .ensures, c .if1 .left)
+returns-3 c = rw (
+  remove-entry,
+  ← c .before .before .before .before .before .before .check-entry .ensures,
+  c .before .before .before .before .entry .given .1,
+  ← c .before .before .name-child .ensures,
+  ← c .before .is-directory .ensures,
+  c .if1 .left,
+)
 
 pub check-remove-spec : {M : Type 1} → statement M
 check-remove-spec =

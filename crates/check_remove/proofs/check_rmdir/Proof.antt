@@ -22,27 +22,54 @@ name-child-requires : tie.Need-name-child-requires
 name-child-requires c κs =
     let st = c .before .before .before .before .before .before in
     let a = st .args in
-    let k = entry-found (a .store .now) (st .pre .0) (cut (a .call .now) (a .p .directory)) (cut (a .call .now) (a .p .name)) INVAL _ _ _ (c .before .entry .given .1) (c .before .before .before .check-entry .ensures) in
+    let k = entry-found (a .store .now) (st .pre .0) (cut (a .call .now) (a .p .directory)) (cut (a .call .now) (a .p .name)) INVAL _ _ _
+    (c .before .entry .given .1) (c .before .before .before .check-entry .ensures) in
     omega arith
 
 is-directory-requires : tie.Need-is-directory-requires
 is-directory-requires c κs =
     let st = c .before .before .before .before .before .before .before in
     let a = st .args in
-    let k = entry-found (a .store .now) (st .pre .0) (cut (a .call .now) (a .p .directory)) (cut (a .call .now) (a .p .name)) INVAL _ _ _ (c .before .before .entry .given .1) (c .before .before .before .before .check-entry .ensures) in
+    let k = entry-found (a .store .now) (st .pre .0) (cut (a .call .now) (a .p .directory)) (cut (a .call .now) (a .p .name)) INVAL _ _ _
+    (c .before .before .entry .given .1) (c .before .before .before .before .check-entry .ensures) in
     omega arith
 
 returns-2 : tie.Need-returns-2
-returns-2 c = rw (rmdir-entry, ← c .before .before .before .before .before .before .check-entry .ensures, c .before .before .before .before .entry .given .1, ← c .before .before .name-child .ensures, ← c .before .is-directory .ensures, c .if1 .taken)
+returns-2 c = rw (
+  rmdir-entry,
+  ← c .before .before .before .before .before .before .check-entry .ensures,
+  c .before .before .before .before .entry .given .1,
+  ← c .before .before .name-child .ensures,
+  ← c .before .is-directory .ensures,
+  c .if1 .taken,
+)
 
 has-entries-requires : tie.Need-has-entries-requires
 has-entries-requires c κs = search needs
 
 returns-3 : tie.Need-returns-3
-returns-3 c = rw (rmdir-entry, ← c .before .before .before .before .before .before .before .before .check-entry .ensures, c .before .before .before .before .before .before .entry .given .1, ← c .before .before .before .before .name-child .ensures, ← c .before .before .before .is-directory .ensures, c .before .before .if1 .left, ← c .before .has-entries .ensures, c .if2 .taken)
+returns-3 c = rw (
+  rmdir-entry,
+  ← c .before .before .before .before .before .before .before .before .check-entry .ensures,
+  c .before .before .before .before .before .before .entry .given .1,
+  ← c .before .before .before .before .name-child .ensures,
+  ← c .before .before .before .is-directory .ensures,
+  c .before .before .if1 .left,
+  ← c .before .has-entries .ensures,
+  c .if2 .taken,
+)
 
 returns-4 : tie.Need-returns-4
-returns-4 c = rw (rmdir-entry, ← c .before .before .before .before .before .before .before .before .check-entry .ensures, c .before .before .before .before .before .before .entry .given .1, ← c .before .before .before .before .name-child .ensures, ← c .before .before .before .is-directory .ensures, c .before .before .if1 .left, ← c .before .has-entries .ensures, c .if2 .left)
+returns-4 c = rw (
+  rmdir-entry,
+  ← c .before .before .before .before .before .before .before .before .check-entry .ensures,
+  c .before .before .before .before .before .before .entry .given .1,
+  ← c .before .before .before .before .name-child .ensures,
+  ← c .before .before .before .is-directory .ensures,
+  c .before .before .if1 .left,
+  ← c .before .has-entries .ensures,
+  c .if2 .left,
+)
 
 pub check-rmdir-spec : {M : Type 1} → statement M
 check-rmdir-spec =

@@ -28,7 +28,12 @@ enum-known-target c = search needs
 
 returns-2 : tie.Need-returns-2
 unfolding checkMove
-returns-2 c = rw (← c .before .before .before .before .before .before .check-name .ensures, c .before .before .before .before .enum-told .given .1, ← c .before .before .before .check-name2 .ensures, c .before .target .given .1)
+returns-2 c = rw (
+  ← c .before .before .before .before .before .before .check-name .ensures,
+  c .before .before .before .before .enum-told .given .1,
+  ← c .before .before .before .check-name2 .ensures,
+  c .before .target .given .1,
+)
 
 enum-told-2 : tie.Need-enum-told-2
 enum-told-2 c = search needs
@@ -41,15 +46,32 @@ is-dots-requires-2 c κs = search needs
 
 returns-3 : tie.Need-returns-3
 unfolding checkMove
-returns-3 c = rw (← c .before .before .before .before .before .before .before .check-name .ensures, c .before .before .before .before .before .enum-told .given .1, ← c .before .before .before .before .check-name2 .ensures, c .before .before .enum-told2 .given .1, ← c .before .is-dots .ensures, c .if1 .taken)
+returns-3 c = rw (
+  ← c .before .before .before .before .before .before .before .check-name .ensures,
+  c .before .before .before .before .before .enum-told .given .1,
+  ← c .before .before .before .before .check-name2 .ensures,
+  c .before .before .enum-told2 .given .1,
+  ← c .before .is-dots .ensures,
+  c .if1 .taken,
+)
 
 returns-4 : tie.Need-returns-4
 unfolding checkMove
-returns-4 c = rw (← c .before .before .before .before .before .before .before .before .before .check-name .ensures, c .before .before .before .before .before .before .before .enum-told .given .1, ← c .before .before .before .before .before .before .check-name2 .ensures, c .before .before .before .before .enum-told2 .given .1, ← c .before .before .before .is-dots .ensures, c .before .before .if1 .left, ← c .before .is-dots2 .ensures, c .if2 .taken)
+returns-4 c = rw (
+  ← c .before .before .before .before .before .before .before .before .before .check-name .ensures,
+  c .before .before .before .before .before .before .before .enum-told .given .1,
+  ← c .before .before .before .before .before .before .check-name2 .ensures,
+  c .before .before .before .before .enum-told2 .given .1,
+  ← c .before .before .before .is-dots .ensures,
+  c .before .before .if1 .left,
+  ← c .before .is-dots2 .ensures,
+  c .if2 .taken,
+)
 
 find-name-requires : tie.Need-find-name-requires
 find-name-requires c κs =
-    let pre = c .before .before .before .before .before .before .before .before .before .before .before .before .pre in (good-shaped _ (pre .0), (good-names-sound _ (pre .0), pre .1 .0))
+    let pre = c .before .before .before .before .before .before .before .before .before .before .before .before .pre in
+    (good-shaped _ (pre .0), (good-names-sound _ (pre .0), pre .1 .0))
 
 enum-known-n : tie.Need-enum-known-n
 enum-known-n c = search needs
@@ -59,43 +81,115 @@ enum-told-3 c = search needs
 
 returns-5 : tie.Need-returns-5
 unfolding checkMove
-returns-5 c = rw (← c .before .before .before .before .before .before .before .before .before .before .before .before .check-name .ensures, c .before .before .before .before .before .before .before .before .before .before .enum-told .given .1, ← c .before .before .before .before .before .before .before .before .before .check-name2 .ensures, c .before .before .before .before .before .before .before .enum-told2 .given .1, ← c .before .before .before .before .before .before .is-dots .ensures, c .before .before .before .before .before .if1 .left, ← c .before .before .before .before .is-dots2 .ensures, c .before .before .before .if2 .left, ← c .before .before .find-name .ensures, c .enum-told3 .given .1)
+returns-5 c = rw (
+  ← c .before .before .before .before .before .before .before .before .before .before .before .before .check-name .ensures,
+  c .before .before .before .before .before .before .before .before .before .before .enum-told .given .1,
+  ← c .before .before .before .before .before .before .before .before .before .check-name2 .ensures,
+  c .before .before .before .before .before .before .before .enum-told2 .given .1,
+  ← c .before .before .before .before .before .before .is-dots .ensures,
+  c .before .before .before .before .before .if1 .left,
+  ← c .before .before .before .before .is-dots2 .ensures,
+  c .before .before .before .if2 .left,
+  ← c .before .before .find-name .ensures,
+  c .enum-told3 .given .1,
+)
 
 find-name-requires-2 : tie.Need-find-name-requires-2
 find-name-requires-2 c κs =
-    let pre = c .before .before .before .before .before .before .before .before .before .before .before .before .before .before .before .before .pre in (good-shaped _ (pre .0), (good-names-sound _ (pre .0), pre .1 .1))
+    let pre = c .before .before .before .before .before .before .before .before .before .before .before .before .before .before .before .before .pre
+    in (good-shaped _ (pre .0), (good-names-sound _ (pre .0), pre .1 .1))
 
 enum-known-other : tie.Need-enum-known-other
 enum-known-other c = search needs
 
 returns-6 : tie.Need-returns-6
 unfolding checkMove
-returns-6 c = rw (← c .before .before .before .before .before .before .before .before .before .before .before .before .before .before .before .before .before .check-name .ensures, c .before .before .before .before .before .before .before .before .before .before .before .before .before .before .before .enum-told .given .1, ← c .before .before .before .before .before .before .before .before .before .before .before .before .before .before .check-name2 .ensures, c .before .before .before .before .before .before .before .before .before .before .before .before .enum-told2 .given .1, ← c .before .before .before .before .before .before .before .before .before .before .before .is-dots .ensures, c .before .before .before .before .before .before .before .before .before .before .if1 .left, ← c .before .before .before .before .before .before .before .before .before .is-dots2 .ensures, c .before .before .before .before .before .before .before .before .if2 .left, ← c .before .before .before .before .before .before .before .find-name .ensures, c .before .before .before .before .before .n .given .1, ← c .before .before .before .find-name2 .ensures, c .before .other .given .1)
+returns-6 c = rw (
+  ← c .before .before .before .before .before .before .before .before .before .before .before .before .before .before .before .before
+      .before .check-name .ensures,
+  c .before .before .before .before .before .before .before .before .before .before .before .before .before .before
+      .before .enum-told .given .1,
+  ← c .before .before .before .before .before .before .before .before .before .before .before .before .before .before
+      .check-name2 .ensures,
+  c .before .before .before .before .before .before .before .before .before .before .before .before .enum-told2 .given .1,
+  ← c .before .before .before .before .before .before .before .before .before .before .before .is-dots .ensures,
+  c .before .before .before .before .before .before .before .before .before .before .if1 .left,
+  ← c .before .before .before .before .before .before .before .before .before .is-dots2 .ensures,
+  c .before .before .before .before .before .before .before .before .if2 .left,
+  ← c .before .before .before .before .before .before .before .find-name .ensures,
+  c .before .before .before .before .before .n .given .1,
+  ← c .before .before .before .find-name2 .ensures,
+  c .before .other .given .1,
+)
 
 enum-told-4 : tie.Need-enum-told-4
 enum-told-4 c = search needs
 
 name-child-requires : tie.Need-name-child-requires
 name-child-requires c κs =
-    let st = c .before .before .before .before .before .before .before .before .before .before .before .before .before .before .before .before .before .before .before in
+    let st = c .before .before .before .before .before .before .before .before .before .before .before .before .before .before .before .before
+    .before .before .before in
     let a = st .args in
-    let k = name-found (a .store .now) (st .pre .0) (a .d .0) (cut (a .call .now) (a .from)) _ _ (c .before .before .before .before .n .given .1) (c .before .before .before .before .before .before .find-name .ensures) in
+    let k = name-found (a .store .now) (st .pre .0) (a .d .0) (cut (a .call .now) (a .from)) _ _ (c .before .before .before .before .n .given .1)
+    (c .before .before .before .before .before .before .find-name .ensures) in
     omega arith
 
 is-within-requires : tie.Need-is-within-requires
 is-within-requires c κs =
-    let st = c .before .before .before .before .before .before .before .before .before .before .before .before .before .before .before .before .before .before .before .before in
+    let st = c .before .before .before .before .before .before .before .before .before .before .before .before .before .before .before .before
+    .before .before .before .before in
     let a = st .args in
-    let k = name-found (a .store .now) (st .pre .0) (a .d .0) (cut (a .call .now) (a .from)) _ _ (c .before .before .before .before .before .n .given .1) (c .before .before .before .before .before .before .before .find-name .ensures) in
+    let k = name-found (a .store .now) (st .pre .0) (a .d .0) (cut (a .call .now) (a .from)) _ _
+    (c .before .before .before .before .before .n .given .1) (c .before .before .before .before .before .before .before .find-name .ensures) in
     (st .pre .0, omega (arith, c .name-child .ensures))
 
 returns-7 : tie.Need-returns-7
 unfolding checkMove
-returns-7 c = rw (← c .before .before .before .before .before .before .before .before .before .before .before .before .before .before .before .before .before .before .before .check-name .ensures, c .before .before .before .before .before .before .before .before .before .before .before .before .before .before .before .before .before .enum-told .given .1, ← c .before .before .before .before .before .before .before .before .before .before .before .before .before .before .before .before .check-name2 .ensures, c .before .before .before .before .before .before .before .before .before .before .before .before .before .before .enum-told2 .given .1, ← c .before .before .before .before .before .before .before .before .before .before .before .before .before .is-dots .ensures, c .before .before .before .before .before .before .before .before .before .before .before .before .if1 .left, ← c .before .before .before .before .before .before .before .before .before .before .before .is-dots2 .ensures, c .before .before .before .before .before .before .before .before .before .before .if2 .left, ← c .before .before .before .before .before .before .before .before .before .find-name .ensures, c .before .before .before .before .before .before .before .n .given .1, ← c .before .before .before .before .before .find-name2 .ensures, c .before .before .before .enum-told4 .given .1, ← c .before .before .name-child .ensures, ← c .before .is-within .ensures, c .if3 .taken)
+returns-7 c = rw (
+  ← c .before .before .before .before .before .before .before .before .before .before .before .before .before .before .before .before
+      .before .before .before .check-name .ensures,
+  c .before .before .before .before .before .before .before .before .before .before .before .before
+      .before .before .before .before .before .enum-told .given .1,
+  ← c .before .before .before .before .before .before .before .before .before .before .before .before .before .before .before .before .check-name2
+      .ensures,
+  c .before .before .before .before .before .before .before .before .before .before .before .before .before .before .enum-told2 .given
+      .1,
+  ← c .before .before .before .before .before .before .before .before .before .before .before .before .before .is-dots .ensures,
+  c .before .before .before .before .before .before .before .before .before .before .before .before .if1 .left,
+  ← c .before .before .before .before .before .before .before .before .before .before .before .is-dots2 .ensures,
+  c .before .before .before .before .before .before .before .before .before .before .if2 .left,
+  ← c .before .before .before .before .before .before .before .before .before .find-name .ensures,
+  c .before .before .before .before .before .before .before .n .given .1,
+  ← c .before .before .before .before .before .find-name2 .ensures,
+  c .before .before .before .enum-told4 .given .1,
+  ← c .before .before .name-child .ensures,
+  ← c .before .is-within .ensures,
+  c .if3 .taken,
+)
 
 returns-8 : tie.Need-returns-8
 unfolding checkMove
-returns-8 c = rw (← c .before .before .before .before .before .before .before .before .before .before .before .before .before .before .before .before .before .before .before .check-name .ensures, c .before .before .before .before .before .before .before .before .before .before .before .before .before .before .before .before .before .enum-told .given .1, ← c .before .before .before .before .before .before .before .before .before .before .before .before .before .before .before .before .check-name2 .ensures, c .before .before .before .before .before .before .before .before .before .before .before .before .before .before .enum-told2 .given .1, ← c .before .before .before .before .before .before .before .before .before .before .before .before .before .is-dots .ensures, c .before .before .before .before .before .before .before .before .before .before .before .before .if1 .left, ← c .before .before .before .before .before .before .before .before .before .before .before .is-dots2 .ensures, c .before .before .before .before .before .before .before .before .before .before .if2 .left, ← c .before .before .before .before .before .before .before .before .before .find-name .ensures, c .before .before .before .before .before .before .before .n .given .1, ← c .before .before .before .before .before .find-name2 .ensures, c .before .before .before .enum-told4 .given .1, ← c .before .before .name-child .ensures, ← c .before .is-within .ensures, c .if3 .left)
+returns-8 c = rw (
+  ← c .before .before .before .before .before .before .before .before .before .before .before .before .before .before .before .before
+      .before .before .before .check-name .ensures,
+  c .before .before .before .before .before .before .before .before .before .before .before .before
+      .before .before .before .before .before .enum-told .given .1,
+  ← c .before .before .before .before .before .before .before .before .before .before .before .before .before .before .before .before .check-name2
+      .ensures,
+  c .before .before .before .before .before .before .before .before .before .before .before .before .before .before .enum-told2 .given
+      .1,
+  ← c .before .before .before .before .before .before .before .before .before .before .before .before .before .is-dots .ensures,
+  c .before .before .before .before .before .before .before .before .before .before .before .before .if1 .left,
+  ← c .before .before .before .before .before .before .before .before .before .before .before .is-dots2 .ensures,
+  c .before .before .before .before .before .before .before .before .before .before .if2 .left,
+  ← c .before .before .before .before .before .before .before .before .before .find-name .ensures,
+  c .before .before .before .before .before .before .before .n .given .1,
+  ← c .before .before .before .before .before .find-name2 .ensures,
+  c .before .before .before .enum-told4 .given .1,
+  ← c .before .before .name-child .ensures,
+  ← c .before .is-within .ensures,
+  c .if3 .left,
+)
 
 pub check-move-spec : {M : Type 1} → statement M
 check-move-spec =

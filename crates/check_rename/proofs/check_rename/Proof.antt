@@ -28,14 +28,25 @@ enum-known-answer-2 c = search needs
 
 returns-2 : tie.Need-returns-2
 unfolding checkRename
-returns-2 c = rw (← c .before .before .before .before .before .before .before .before .reach-directory .ensures, c .before .before .before .before .before .before .reached .given .1, ← c .before .before .before .reach-directory2 .ensures, c .before .answer2 .given .1)
+returns-2 c = rw (
+  ← c .before .before .before .before .before .before .before .before .reach-directory .ensures,
+  c .before .before .before .before .before .before .reached .given .1,
+  ← c .before .before .before .reach-directory2 .ensures,
+  c .before .answer2 .given .1,
+)
 
 check-move-requires : tie.Need-check-move-requires
 check-move-requires c κs = search needs
 
 returns-3 : tie.Need-returns-3
 unfolding checkRename checkMove
-returns-3 c = rw (← c .before .before .before .before .before .before .before .before .before .before .before .reach-directory .ensures, c .before .before .before .before .before .before .before .before .before .reached .given .1, ← c .before .before .before .before .before .before .reach-directory2 .ensures, c .before .before .before .before .answer .given .1) (c .check-move .ensures)
+returns-3 c = rw (
+  ← c .before .before .before .before .before .before .before .before .before .before .before .reach-directory .ensures,
+  c .before .before .before .before .before .before .before .before .before .reached .given .1,
+  ← c .before .before .before .before .before .before .reach-directory2 .ensures,
+  c .before .before .before .before .answer .given .1,
+)
+    (c .check-move .ensures)
 
 pub check-rename-spec : {M : Type 1} → statement M
 check-rename-spec =

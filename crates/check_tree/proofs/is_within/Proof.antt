@@ -40,7 +40,12 @@ unfolding isWithin
 returns-2 c =
     let a = c .before .before .before .before .before .before .before .before .args in
     let l = c .before .before .before .loop in
-    rw (← c .before .before .before .before .before .before .is-directory .ensures, not-false (c .before .before .before .before .before .before .is-directory .result) (c .before .before .before .before .before .if1 .left)) (sym (some-hit (λ k. eqb (above (a .store .now) k (a .directory .0)) (a .o .0)) (l .steps) (objects (a .store .now)) (eq-eqb _ _ (sym (l .inv .1) ∙ c .if2 .taken)) (omega arith)))
+    rw (
+      ← c .before .before .before .before .before .before .is-directory .ensures,
+      not-false (c .before .before .before .before .before .before .is-directory .result) (c .before .before .before .before .before .if1 .left),
+    )
+    (sym (some-hit (λ k. eqb (above (a .store .now) k (a .directory .0)) (a .o .0)) (l .steps) (objects (a .store .now))
+    (eq-eqb _ _ (sym (l .inv .1) ∙ c .if2 .taken)) (omega arith)))
 
 parent-of-requires : tie.Need-parent-of-requires Inv-loop μ-loop
 parent-of-requires c κs = good-shaped _ (c .before .before .before .before .before .before .before .before .pre .0)
@@ -51,8 +56,13 @@ returns-3 c =
     let a = c .before .before .before .before .before .before .before .before .before .before .args in
     let l = c .before .before .before .before .before .loop in
     let s = a .store .now in
-    rw (← c .before .before .before .before .before .before .before .before .is-directory .ensures, not-false (c .before .before .before .before .before .before .before .before .is-directory .result) (c .before .before .before .before .before .before .before .if1 .left))
-    (sym (way-ended s (a .o .0) (a .directory .0) (l .steps) (objects s) (ap (parent s) (sym (l .inv .1)) ∙ sym (c .before .parent-of .ensures) ∙ c .if3 .taken ∙ l .inv .1) (l .inv .2)
+    rw (
+      ← c .before .before .before .before .before .before .before .before .is-directory .ensures,
+      not-false (c .before .before .before .before .before .before .before .before .is-directory .result)
+          (c .before .before .before .before .before .before .before .if1 .left),
+    )
+    (sym (way-ended s (a .o .0) (a .directory .0) (l .steps) (objects s)
+    (ap (parent s) (sym (l .inv .1)) ∙ sym (c .before .parent-of .ensures) ∙ c .if3 .taken ∙ l .inv .1) (l .inv .2)
     (λ e. c .before .before .if2 .left (l .inv .1 ∙ e)) (omega arith)))
 
 add-steps : tie.Need-add-steps Inv-loop μ-loop
@@ -65,14 +75,22 @@ loop-again : tie.Need-loop-again Inv-loop μ-loop
 loop-again c =
     let a = c .before .before .before .before .before .before .before .before .before .before .args in
     let l = c .before .before .before .before .before .loop in
-    let s = a .store .now in
-    (omega arith, c .before .parent-of .ensures ∙ ap (parent s) (l .inv .1) ∙ sym (above-more s (l .steps) (a .directory .0)), some-more (λ k. eqb (above s k (a .directory .0)) (a .o .0)) (l .steps) (l .inv .2) (ne-eqb _ _ (λ e. c .before .before .if2 .left (l .inv .1 ∙ e))))
+    let s = a .store .now in (
+      omega arith,
+      c .before .parent-of .ensures ∙ ap (parent s) (l .inv .1) ∙ sym (above-more s (l .steps) (a .directory .0)),
+      some-more (λ k. eqb (above s k (a .directory .0)) (a .o .0)) (l .steps) (l .inv .2)
+          (ne-eqb _ _ (λ e. c .before .before .if2 .left (l .inv .1 ∙ e))),
+    )
 
 returns-4 : tie.Need-returns-4 Inv-loop μ-loop
 unfolding isWithin
 returns-4 c =
     let e : c .before .loop .steps ≡ objects (c .before .before .before .before .before .before .args .store .now) = omega arith in
-    rw (← c .before .before .before .before .is-directory .ensures, not-false (c .before .before .before .before .is-directory .result) (c .before .before .before .if1 .left)) (sym (rw e at (c .before .loop .inv .2)))
+    rw (
+      ← c .before .before .before .before .is-directory .ensures,
+      not-false (c .before .before .before .before .is-directory .result)
+          (c .before .before .before .if1 .left),
+    ) (sym (rw e at (c .before .loop .inv .2)))
 
 pub is-within-spec : {M : Type 1} → statement M
 is-within-spec =

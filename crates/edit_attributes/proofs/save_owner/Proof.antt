@@ -28,8 +28,11 @@ same-length c = search needs
 returns : tie.Need-returns
 returns c =
     let a = c .before .before .before .before .before .before .before .before .before .before .before .before .before .args in
-    let two = overlay-more (a .store .now) (a .at) (bytesOf 4 (a .mode)) (bytesOf 4 (a .uid)) _ _ 4 (omega arith) (bytes-length 4 _) (c .before .before .before .before .before .before .before .before .before .before .put-u32 .ensures) (c .before .before .before .before .before .before .put-u322 .ensures) in
-    overlay-more (a .store .now) (a .at) (bytesOf 4 (a .mode) ++ bytesOf 4 (a .uid)) (bytesOf 4 (a .gid)) _ _ 8 (omega arith) (simp (length-append, bytes-length)) two (c .before .before .put-u323 .ensures)
+    let two = overlay-more (a .store .now) (a .at) (bytesOf 4 (a .mode)) (bytesOf 4 (a .uid)) _ _ 4 (omega arith) (bytes-length 4 _)
+    (c .before .before .before .before .before .before .before .before .before .before .put-u32 .ensures)
+    (c .before .before .before .before .before .before .put-u322 .ensures) in
+    overlay-more (a .store .now) (a .at) (bytesOf 4 (a .mode) ++ bytesOf 4 (a .uid)) (bytesOf 4 (a .gid)) _ _ 8 (omega arith)
+    (simp (length-append, bytes-length)) two (c .before .before .put-u323 .ensures)
 
 pub save-owner-spec : {M : Type 1} → statement M
 save-owner-spec =

@@ -44,17 +44,21 @@ object-start-requires : tie.Need-object-start-requires
 object-start-requires c κs = search needs
 
 add-save-owner : tie.Need-add-save-owner
-add-save-owner c = let st = c .before .before .before .before .before .before .before .before .before .before .before .before .before .before .before .before .before .before .before in omega (arith, c .before .object-start .ensures, st .pre, st)
+add-save-owner c = let st = c .before .before .before .before .before .before .before .before .before .before .before .before .before .before .before
+    .before .before .before .before in omega (arith, c .before .object-start .ensures, st .pre, st)
 
 save-owner-requires : tie.Need-save-owner-requires
 save-owner-requires c κs = search needs
 
 add-save-times : tie.Need-add-save-times
-add-save-times c = let st = c .before .before .before .before .before .before .before .before .before .before .before .before .before .before .before .before .before .before .before .before .before .before .before in omega (arith, c .before .before .before .before .before .object-start .ensures, st .pre, st)
+add-save-times c = let st = c .before .before .before .before .before .before .before .before .before .before .before .before .before .before .before
+    .before .before .before .before .before .before .before .before in omega
+    (arith, c .before .before .before .before .before .object-start .ensures, st .pre, st)
 
 save-times-requires : tie.Need-save-times-requires
 save-times-requires c κs =
-    let st = c .before .before .before .before .before .before .before .before .before .before .before .before .before .before .before .before .before .before .before .before .before .before .before in
+    let st = c .before .before .before .before .before .before .before .before .before .before .before .before .before .before .before .before
+    .before .before .before .before .before .before .before in
     let s = st .args .store .now in
     let at = c .before .before .before .before .before .object-start .result in
     let inside : at + 8 + 12 ≤ length s = omega (arith, c .before .before .before .before .before .object-start .ensures, st .pre) in
@@ -67,7 +71,8 @@ same-length c = search needs
 returns : tie.Need-returns
 unfolding setAttributes withAttributes timesBytes
 returns c =
-    let st = c .before .before .before .before .before .before .before .before .before .before .before .before .before .before .before .before .before .before .before .before .before .before .before .before .before .before in
+    let st = c .before .before .before .before .before .before .before .before .before .before .before .before .before .before .before .before
+    .before .before .before .before .before .before .before .before .before .before in
     let a = st .args in
     let s = a .store .now in
     let w = withAttributes (a .clock) (a .a) (objectAt s (a .o .0)) in
@@ -80,13 +85,20 @@ returns c =
       c .before .before .before .before .before .before .before .before .before .before .before .before .before .time-set .ensures,
       c .before .before .before .before .before .before .before .before .before .before .before .before .before .before .atime-of .ensures,
       c .before .before .before .before .before .before .before .before .before .before .before .before .before .before .before .before .number-set3 .ensures,
-      c .before .before .before .before .before .before .before .before .before .before .before .before .before .before .before .before .before .gid-of .ensures,
-      c .before .before .before .before .before .before .before .before .before .before .before .before .before .before .before .before .before .before .before .number-set2 .ensures,
-      c .before .before .before .before .before .before .before .before .before .before .before .before .before .before .before .before .before .before .before .before .uid-of .ensures,
-      c .before .before .before .before .before .before .before .before .before .before .before .before .before .before .before .before .before .before .before .before .before .before .number-set .ensures,
-      c .before .before .before .before .before .before .before .before .before .before .before .before .before .before .before .before .before .before .before .before .before .before .before .mode-of .ensures,
+      c .before .before .before .before .before .before .before .before .before .before .before .before .before .before .before .before .before
+          .gid-of .ensures,
+      c .before .before .before .before .before .before .before .before .before .before .before .before .before .before .before .before .before
+          .before .before .number-set2 .ensures,
+      c .before .before .before .before .before .before .before .before .before .before .before .before .before .before .before .before .before
+          .before .before .before .uid-of .ensures,
+      c .before .before .before .before .before .before .before .before .before .before .before .before .before .before .before .before .before
+          .before .before .before .before .before .number-set .ensures,
+      c .before .before .before .before .before .before .before .before .before .before .before .before .before .before .before .before .before
+          .before .before .before .before .before .before .mode-of .ensures,
     )
-    (attributes-written s (a .o .0) w (λ k. c .before .before .before .before .before .before .before .before .before .before .before .before .before .before .before .before .before .before .before .before .before .before .before .before .before .slice-known .given k .fits) (st .pre) refl refl refl refl)
+    (attributes-written s (a .o .0) w (λ k. c .before .before .before .before .before .before .before .before .before .before .before .before .before
+    .before .before .before .before .before .before .before .before .before .before .before .before .slice-known .given k .fits) (st .pre) refl
+    refl refl refl)
 
 pub set-attributes-spec : {M : Type 1} → statement M
 set-attributes-spec =

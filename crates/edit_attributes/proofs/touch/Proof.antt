@@ -37,9 +37,12 @@ returns c =
     let at = start .result in
     let p : at + 40 ≡ at + 32 + 8 = omega arith in
     overlay-more s (at + 32) t t _ _ 8 (omega (arith, start .ensures, st .pre)) (time-length (st .args .clock))
-    (c .before .before .before .before .before .before .save-time .ensures) (c .before .before .save-time2 .ensures ∙ ap (λ (k : ℕ). overlay (c .before .before .before .before .before .before .save-time .last .0) k t) p)
+    (c .before .before .before .before .before .before .save-time .ensures)
+    (c .before .before .save-time2 .ensures ∙ ap (λ (k : ℕ). overlay (c .before .before .before .before .before .before .save-time .last .0) k t)
+    p)
     ∙ ap (λ (k : ℕ). overlay s (k + 32) (t ++ t)) (start .ensures)
-    ∙ touched s (st .args .o .0) (λ k. c .before .before .before .before .before .before .before .before .before .before .slice-known .given k .fits) (st .pre) (st .args .clock)
+    ∙ touched s (st .args .o .0) (λ k. c .before .before .before .before .before .before .before .before .before .before .slice-known .given k .fits)
+    (st .pre) (st .args .clock)
 
 pub touch-spec : {M : Type 1} → statement M
 touch-spec =

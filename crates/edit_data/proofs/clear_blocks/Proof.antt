@@ -54,7 +54,8 @@ loop-again c =
       l .inv .0,
       omega arith,
       omega arith,
-      cleared-next (a .store .now) (a .t2) (a .start) (a .end) (st .pre .0) (omega arith) (st .pre .1 .1 .1) (l .k) (l .store) (b .last .0) (l .inv .1) (omega arith) (l .inv .3) (b .ensures),
+      cleared-next (a .store .now) (a .t2) (a .start) (a .end) (st .pre .0) (omega arith) (st .pre .1 .1 .1) (l .k) (l .store) (b .last .0)
+          (l .inv .1) (omega arith) (l .inv .3) (b .ensures),
     )
 
 same-length : tie.Need-same-length Inv-loop μ-loop
@@ -62,7 +63,8 @@ same-length c =
     let l = c .before .loop in
     let st = c .before .before .before in
     let a = st .args in
-    cleared-shape (a .store .now) (a .t2) (a .start) (a .end) (st .pre .0) (omega arith) (st .pre .1 .1 .1) (l .k) (l .store) (l .inv .1) (l .inv .2) (l .inv .3) .long
+    cleared-shape (a .store .now) (a .t2) (a .start) (a .end) (st .pre .0) (omega arith) (st .pre .1 .1 .1) (l .k) (l .store) (l .inv .1) (l .inv .2)
+    (l .inv .3) .long
 
 returns : tie.Need-returns Inv-loop μ-loop
 returns c =

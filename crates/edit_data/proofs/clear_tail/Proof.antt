@@ -46,7 +46,8 @@ returns-2 c =
     let a = c .before .before .before .before .before .before .before .before .before .args in
     let m : min (a .end - a .start) (512 - a .start % 512) ≡ a .end - a .start = omega arith in
     rw (ne-eqb _ _ (c .before .before .before .before .before .before .before .if1 .left), m)
-    (c .before .before .clear-bytes .ensures ∙ ap (λ (k : ℕ). overlay (a .store .now) k (zeros (a .end - a .start))) (c .before .before .before .before .before .byte-at .ensures))
+    (c .before .before .clear-bytes .ensures ∙ ap (λ (k : ℕ). overlay (a .store .now) k (zeros (a .end - a .start)))
+    (c .before .before .before .before .before .byte-at .ensures))
 
 clear-bytes-requires-2 : tie.Need-clear-bytes-requires-2
 clear-bytes-requires-2 c κs = omega (arith, tail (c .before .before .before .before) .1, c .before .before .byte-at .ensures)
@@ -60,7 +61,8 @@ returns-3 c =
     let a = c .before .before .before .before .before .before .before .before .before .args in
     let m : min (a .end - a .start) (512 - a .start % 512) ≡ 512 - a .start % 512 = omega arith in
     rw (ne-eqb _ _ (c .before .before .before .before .before .before .before .if1 .left), m)
-    (c .before .before .clear-bytes2 .ensures ∙ ap (λ (k : ℕ). overlay (a .store .now) k (zeros (512 - a .start % 512))) (c .before .before .before .before .before .byte-at .ensures))
+    (c .before .before .clear-bytes2 .ensures ∙ ap (λ (k : ℕ). overlay (a .store .now) k (zeros (512 - a .start % 512)))
+    (c .before .before .before .before .before .byte-at .ensures))
 
 pub clear-tail-spec : {M : Type 1} → statement M
 clear-tail-spec =

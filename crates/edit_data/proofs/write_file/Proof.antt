@@ -54,8 +54,10 @@ copy-bytes-requires : tie.Need-copy-bytes-requires Inv-loop μ-loop
 copy-bytes-requires c κs =
     let l = c .before .before .before .before .before .loop in
     let w = l .inv .0 in
-    let q = next-place w (l .done) (l .store) (omega arith) (l .inv .3) in
-    (omega (arith, c .before .byte-at .ensures, c .before .before .before .smaller .ensures), omega (arith, c .before .before .before .smaller .ensures, w .long))
+    let q = next-place w (l .done) (l .store) (omega arith) (l .inv .3) in (
+      omega (arith, c .before .byte-at .ensures, c .before .before .before .smaller .ensures),
+      omega (arith, c .before .before .before .smaller .ensures, w .long),
+    )
 
 add-done : tie.Need-add-done Inv-loop μ-loop
 add-done c = search needs
@@ -72,7 +74,8 @@ loop-again c =
       l .inv .0,
       l .inv .1,
       omega (arith, m .ensures),
-      written-more (l .inv .0) (l .done) (m .result) (l .store) (b .last .0) (at .result) (omega arith) (omega (arith, m .ensures)) (omega (arith, m .ensures)) (l .inv .3) (at .ensures) (b .ensures),
+      written-more (l .inv .0) (l .done) (m .result) (l .store) (b .last .0) (at .result) (omega arith) (omega (arith, m .ensures))
+          (omega (arith, m .ensures)) (l .inv .3) (at .ensures) (b .ensures),
     )
 
 same-length : tie.Need-same-length Inv-loop μ-loop

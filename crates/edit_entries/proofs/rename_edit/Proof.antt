@@ -22,7 +22,8 @@ touch-directory-requires c κs = search needs
 
 touch-directory-requires-2 : tie.Need-touch-directory-requires-2
 touch-directory-requires-2 c κs =
-    let st = c .before .before .before .before .before .before .before .before .before .before .before .before .before .before .before .before .before .before .before in
+    let st = c .before .before .before .before .before .before .before .before .before .before .before .before .before .before .before .before
+    .before .before .before in
     let w = st .pre .0 .sound .shaped in
     let l = st .pre .1 .0 .target in
     omega arith
@@ -39,7 +40,8 @@ returns c =
       c .before .before .before .before .before .before .before .before .before .before .set-attributes .ensures,
       c .before .before .before .before .before .before .before .before .before .before .before .only-ctime .ensures,
       c .before .before .before .before .before .before .before .before .before .before .before .before .before .before .before .move-name .ensures,
-      c .before .before .before .before .before .before .before .before .before .before .before .before .before .before .before .before .before .name-child .ensures,
+      c .before .before .before .before .before .before .before .before .before .before .before .before .before .before .before .before .before
+          .name-child .ensures,
     )
 
 pub rename-edit-spec : {M : Type 1} → statement M

@@ -42,8 +42,11 @@ returns c =
     let g = st .args .generation in
     let start = c .before .before .before .before .before .before .before .before .before .before .before .before .object-start in
     let at = start .result in
-    let two = overlay-more s at (bytesOf 4 0) (bytesOf 4 g) _ _ 4 (omega (arith, start .ensures, st .pre)) (bytes-length 4 0) (c .before .before .before .before .before .before .before .before .before .before .put-u32 .ensures) (c .before .before .before .before .before .before .put-u322 .ensures) in
-    overlay-more s at (bytesOf 4 0 ++ bytesOf 4 g) (zeros (objectLength - modeOffset)) _ _ 8 (omega (arith, start .ensures, st .pre)) (simp (length-append, bytes-length)) two (c .before .before .clear-bytes .ensures)
+    let two = overlay-more s at (bytesOf 4 0) (bytesOf 4 g) _ _ 4 (omega (arith, start .ensures, st .pre)) (bytes-length 4 0)
+    (c .before .before .before .before .before .before .before .before .before .before .put-u32 .ensures)
+    (c .before .before .before .before .before .before .put-u322 .ensures) in
+    overlay-more s at (bytesOf 4 0 ++ bytesOf 4 g) (zeros (objectLength - modeOffset)) _ _ 8 (omega (arith, start .ensures, st .pre))
+    (simp (length-append, bytes-length)) two (c .before .before .clear-bytes .ensures)
     ∙ ap (overlay s at) (free-bytes g) ∙ ap (λ (k : ℕ). overlay s k (objectBytes (freeObject g))) (start .ensures)
 
 pub clear-object-spec : {M : Type 1} → statement M

@@ -29,7 +29,12 @@ same-length c = search needs
 
 returns : tie.Need-returns
 unfolding createObject
-returns c = rw (c .before .before .save-name .ensures, c .before .before .before .before .before .before .save-object .ensures, c .before .before .before .before .before .before .before .with-generation .ensures, c .before .before .before .before .before .before .before .before .before .generation-of .ensures)
+returns c = rw (
+  c .before .before .save-name .ensures,
+  c .before .before .before .before .before .before .save-object .ensures,
+  c .before .before .before .before .before .before .before .with-generation .ensures,
+  c .before .before .before .before .before .before .before .before .before .generation-of .ensures,
+)
 
 pub create-object-spec : {M : Type 1} → statement M
 create-object-spec =

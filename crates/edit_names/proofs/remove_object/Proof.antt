@@ -47,7 +47,14 @@ clear-blocks-requires c κs =
     let z = b .before .before .before .before in
     let r = removing (z .before .before) in (
       r .good .sound,
-      (zero-le, (omega (arith, n .need .ensures, z .size-of .ensures, child-size r), child-range r (b .blocks-of .result) (z .size-of .result) (n .need .result) (b .blocks-of .ensures) (z .size-of .ensures) (n .need .ensures))),
+      (
+        zero-le,
+        (
+          omega (arith, n .need .ensures, z .size-of .ensures, child-size r),
+          child-range r (b .blocks-of .result) (z .size-of .result)
+              (n .need .result) (b .blocks-of .ensures) (z .size-of .ensures) (n .need .ensures),
+        ),
+      ),
     )
 
 add-clear-object : tie.Need-add-clear-object
@@ -86,7 +93,8 @@ returns c =
     let b = n .before in
     let g = b .before .before in
     let z = g .before .before in
-    removed (removing (z .before .before)) (b .blocks-of .result) (z .size-of .result) (n .need .result) (b .blocks-of .ensures) (z .size-of .ensures) (n .need .ensures)
+    removed (removing (z .before .before)) (b .blocks-of .result) (z .size-of .result) (n .need .result) (b .blocks-of .ensures)
+    (z .size-of .ensures) (n .need .ensures)
     (t .clear-blocks .last .0) (u .clear-object .last .0) (e .clear-name .last .0) (g .generation-of .result) (g .generation-of .ensures)
     (t .clear-blocks .ensures) (u .clear-object .ensures) (e .clear-name .ensures)
 

@@ -14,8 +14,18 @@ enum-told c = search needs
 
 perform-requires : tie.Need-perform-requires
 perform-requires c κs =
-    let st = c .before .before .before .before .before .before .before .before .before in
-    (st .pre .0, (st .pre .1 .0, (runs-few (st .args .h) (judged-runs _ (st .args .h) _ (c .before .before .before .before .judge .ensures) (c .before .before .before .before .before .nfs .ensures) (c .before .before .enum-told .given .1)), st .pre .1 .1)))
+    let st = c .before .before .before .before .before .before .before .before .before in (
+      st .pre .0,
+      (
+        st .pre .1 .0,
+        (
+          runs-few (st .args .h)
+              (judged-runs _ (st .args .h) _ (c .before .before .before .before .judge .ensures) (c .before .before .before .before .before .nfs .ensures)
+              (c .before .before .enum-told .given .1)),
+          st .pre .1 .1,
+        ),
+      ),
+    )
 
 enum-known-judged : tie.Need-enum-known-judged
 enum-known-judged c = search needs
@@ -32,7 +42,9 @@ same-length-2 c = search needs
 returns : tie.Need-returns
 returns c =
     let h = c .before .before .before .before .before .before .before .before .before .before .before .before .before .before .args .h in
-    rw (judged-runs _ h _ (c .before .before .before .before .before .before .before .before .before .judge .ensures) (c .before .before .before .before .before .before .before .before .before .before .nfs .ensures) (c .before .before .before .before .before .before .before .enum-told .given .1)) (c .before .before .before .before .perform .ensures)
+    rw (judged-runs _ h _ (c .before .before .before .before .before .before .before .before .before .judge .ensures)
+    (c .before .before .before .before .before .before .before .before .before .before .nfs .ensures)
+    (c .before .before .before .before .before .before .before .enum-told .given .1)) (c .before .before .before .before .perform .ensures)
 
 same-length-3 : tie.Need-same-length-3
 same-length-3 c = search needs
@@ -40,7 +52,9 @@ same-length-3 c = search needs
 returns-2 : tie.Need-returns-2
 returns-2 c =
     let h = c .before .before .before .before .before .before .before .before .before .before .before .before .args .h in
-    rw (judged-stops _ h _ _ (c .before .before .before .before .before .before .before .judge .ensures) (c .before .before .before .before .before .before .before .before .nfs .ensures) (c .before .before .before .before .before .judged .given .1)) (sends-kept _ _ (c .before .before .stop .ensures))
+    rw (judged-stops _ h _ _ (c .before .before .before .before .before .before .before .judge .ensures)
+    (c .before .before .before .before .before .before .before .before .nfs .ensures)
+    (c .before .before .before .before .before .judged .given .1)) (sends-kept _ _ (c .before .before .stop .ensures))
 
 pub answer-spec : {M : Type 1} → statement M
 answer-spec =

@@ -14,7 +14,9 @@ put-result-requires c κs = search needs
 cast-result : tie.Need-cast-result
 cast-result c =
     let h = c .before .before .before .before .before .before .before .before .before .before .before .before .args .h in
-    let k = reply-short (c .before .before .before .before .before .before .before .run .last .0) (h .procedure) (h .xid) (c .before .before .before .before .before .before .before .run .result) (c .before .before .before .before .before .before .before .run .ensures .writable) in
+    let k = reply-short (c .before .before .before .before .before .before .before .run .last .0) (h .procedure) (h .xid)
+    (c .before .before .before .before .before .before .before .run .result)
+    (c .before .before .before .before .before .before .before .run .ensures .writable) in
     omega (arith, c .before .before .put-result .ensures .place)
 
 same-length : tie.Need-same-length
@@ -26,7 +28,9 @@ same-length-2 c = search needs
 returns : tie.Need-returns
 returns c =
     let h = c .before .before .before .before .before .before .before .before .before .before .before .before .args .h in
-    sends-done h _ (c .before .before .before .before .before .before .before .run .last .0) (c .before .before .before .before .before .before .before .run .result) (c .before .before .before .before .before .before .before .run .ensures) (c .before .before .put-result .ensures)
+    sends-done h _ (c .before .before .before .before .before .before .before .run .last .0)
+    (c .before .before .before .before .before .before .before .run .result)
+    (c .before .before .before .before .before .before .before .run .ensures) (c .before .before .put-result .ensures)
 
 pub finish-spec : {M : Type 1} → statement M
 finish-spec =

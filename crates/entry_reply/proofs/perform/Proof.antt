@@ -24,7 +24,8 @@ finish-requires c κs =
           st .pre .1 .1 .0,
           (
             read-within (a .h .procedure) (a .call .now) (a .c .at) _ _ _ e g,
-            arguments-fit (a .h .procedure) (a .call .now) (λ i. c .before .before .before .before .before .shared-slice-known .given i .fits) (a .c .at) _ _ (sym e ∙ ap argumentsOf g),
+            arguments-fit (a .h .procedure) (a .call .now) (λ i. c .before .before .before .before .before .shared-slice-known .given i .fits)
+                (a .c .at) _ _ (sym e ∙ ap argumentsOf g),
           ),
         ),
       ),
@@ -43,14 +44,20 @@ same-length-2 : tie.Need-same-length-2
 same-length-2 c = search needs
 
 returns : tie.Need-returns
-returns c = rw (← c .before .before .before .before .before .before .before .before .before .before .before .before .before .pre .1 .1 .1, c .before .before .before .before .before .before .before .before .read .given .1) (c .before .before .before .before .finish .ensures)
+returns c = rw (
+  ← c .before .before .before .before .before .before .before .before .before .before .before .before .before .pre .1 .1 .1,
+  c .before .before .before .before .before .before .before .before .read .given .1,
+) (c .before .before .before .before .finish .ensures)
 
 same-length-3 : tie.Need-same-length-3
 same-length-3 c = search needs
 
 returns-2 : tie.Need-returns-2
 unfolding mismatch
-returns-2 c = rw (← c .before .before .before .before .before .before .before .before .before .pre .1 .1 .1, c .before .before .before .before .enum-told .given .1) (sends-kept _ _ (c .before .before .stop .ensures))
+returns-2 c = rw (
+  ← c .before .before .before .before .before .before .before .before .before .pre .1 .1 .1,
+  c .before .before .before .before .enum-told .given .1,
+) (sends-kept _ _ (c .before .before .stop .ensures))
 
 pub perform-spec : {M : Type 1} → statement M
 perform-spec =

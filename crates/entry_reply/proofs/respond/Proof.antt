@@ -7,7 +7,8 @@ enum-known-h : tie.Need-enum-known-h
 enum-known-h c = search needs
 
 answer-requires : tie.Need-answer-requires
-answer-requires c κs = let st = c .before .before .before .before .before .before .before .before in (st .pre .0, (st .pre .1 .0, rw (c .before .before .before .h .given .1) at (st .pre .1 .1)))
+answer-requires c κs = let st = c .before .before .before .before .before .before .before .before in
+    (st .pre .0, (st .pre .1 .0, rw (c .before .before .before .h .given .1) at (st .pre .1 .1)))
 
 enum-known-h-2 : tie.Need-enum-known-h-2
 enum-known-h-2 c = search needs

@@ -35,7 +35,8 @@ returns-4 : tie.Need-returns-4
 returns-4 c =
     let a = c .before .before .before .before .before .before .before .before .before .before .before .before .before .args in
     let s = a .store .now in
-    bad-store (a .call .now) s (a .reply .now) (a .context) (c .before .before .before .before .before .before .before .before .if1 .left) (c .before .before .before .before .before .before .if2 .left) (c .before .before .before .before .before .if3 .left)
+    bad-store (a .call .now) s (a .reply .now) (a .context) (c .before .before .before .before .before .before .before .before .if1 .left)
+    (c .before .before .before .before .before .before .if2 .left) (c .before .before .before .before .before .if3 .left)
     (fails s (sym (c .enum-told2 .given .1) ∙ c .before .before .check-store .ensures .is))
 
 read-call-requires : tie.Need-read-call-requires
@@ -52,7 +53,10 @@ returns-5 c =
     let a = c .before .before .before .before .before .before .before .before .before .before .before .before .before .before .before .before .args in
     let s = a .store .now in
     let e = passed-check s _ (sym (c .before .before .before .enum-told .given .1) ∙ c .before .before .before .before .before .check-store .ensures .is) in
-    bad-header (a .call .now) s (a .reply .now) (a .context) (c .before .before .before .before .before .before .before .before .before .before .before .if1 .left) (c .before .before .before .before .before .before .before .before .before .if2 .left) (c .before .before .before .before .before .before .before .before .if3 .left) e
+    bad-header (a .call .now) s (a .reply .now) (a .context)
+    (c .before .before .before .before .before .before .before .before .before .before .before .if1 .left)
+    (c .before .before .before .before .before .before .before .before .before .if2 .left)
+    (c .before .before .before .before .before .before .before .before .if3 .left) e
     _ (sym (c .before .before .read-call .ensures .0) ∙ ap headerOf (c .enum-told3 .given .1))
 
 returns-6 : tie.Need-returns-6
@@ -62,9 +66,18 @@ returns-6 c =
     let f = c .before .before .before .before .before .before .check-store .ensures in
     let e = passed-check s _ (sym (c .before .before .before .before .enum-told .given .1) ∙ f .is) in
     let f₁ = c .before .before .before .read-call .ensures in
-    hears (a .call .now) s (a .reply .now) (a .context) (c .before .before .before .before .before .before .before .before .before .before .before .before .if1 .left) (c .before .before .before .before .before .before .before .before .before .before .if2 .left) (c .before .before .before .before .before .before .before .before .before .if3 .left) e
-    _ _ _ _ (sym (f₁ .0) ∙ ap headerOf (c .before .read .given .1)) (f₁ .1) (f .map e) (λ i. c .before .before .before .before .before .before .before .before .before .before .before .before .before .before .before .shared-slice-known2 .given i .fits)
-    (record { seconds = let g = c .before .before .before .before .before .before .before .before .before .before .before .struct-known .given .0 in omega arith; nanoseconds = c .before .before .before .before .before .before .before .before .before .before .if2 .left })
+    hears (a .call .now) s (a .reply .now) (a .context)
+    (c .before .before .before .before .before .before .before .before .before .before .before .before .if1 .left)
+    (c .before .before .before .before .before .before .before .before .before .before .if2 .left)
+    (c .before .before .before .before .before .before .before .before .before .if3 .left) e
+    _ _ _ _ (sym (f₁ .0) ∙ ap headerOf (c .before .read .given .1)) (f₁ .1) (f .map e)
+    (λ i. c .before .before .before .before .before .before .before .before .before .before .before .before .before .before .before
+    .shared-slice-known2 .given i .fits)
+    (record {
+      seconds = let g = c .before .before .before .before .before .before .before .before .before .before .before .struct-known .given .0 in
+          omega arith;
+      nanoseconds = c .before .before .before .before .before .before .before .before .before .before .if2 .left;
+    })
 
 pub open-spec : {M : Type 1} → statement M
 open-spec =

@@ -37,7 +37,8 @@ same-length-4 c = search needs
 
 returns-2 : tie.Need-returns-2
 returns-2 c =
-    let k = rw (c .before .before .before .before .before .before .before .before .before .opened2 .given .1) at (c .before .before .before .before .before .before .before .before .before .before .before .«open» .ensures) in
+    let k = rw (c .before .before .before .before .before .before .before .before .before .opened2 .given .1) at
+    (c .before .before .before .before .before .before .before .before .before .before .before .«open» .ensures) in
     serves-sent _ _ _ _ _ _ (k .serves) (c .before .before .before .before .respond .ensures)
 
 pub nfs3-call-spec : {M : Type 1} → statement M

@@ -22,7 +22,9 @@ same-length : tie.Need-same-length
 same-length c = search needs
 
 returns : tie.Need-returns
-returns c = andThen (andThen (c .before .before .before .before .before .before .before .before .before .before .before .before .before .before .put-words .ensures) (c .before .before .before .before .before .before .before .before .before .before .put-handle .ensures)) (andWords _ _ (c .before .before .before .before .before .before .put-post-op .ensures) (c .before .before .put-change .ensures))
+returns c = andThen (andThen (c .before .before .before .before .before .before .before .before .before .before .before .before .before .before
+    .put-words .ensures) (c .before .before .before .before .before .before .before .before .before .before .put-handle .ensures))
+    (andWords _ _ (c .before .before .before .before .before .before .put-post-op .ensures) (c .before .before .put-change .ensures))
 
 pub put-created-spec : {M : Type 1} → statement M
 put-created-spec =

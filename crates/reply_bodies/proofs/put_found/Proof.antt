@@ -19,7 +19,9 @@ same-length : tie.Need-same-length
 same-length c = search needs
 
 returns : tie.Need-returns
-returns c = andThen (andThen (c .before .before .before .before .before .before .before .before .before .before .before .before .before .before .put-word .ensures) (c .before .before .before .before .before .before .before .before .before .before .put-handle .ensures)) (andWords _ _ (c .before .before .before .before .before .before .put-post-op .ensures) (c .before .before .put-post-op2 .ensures))
+returns c = andThen (andThen (c .before .before .before .before .before .before .before .before .before .before .before .before .before .before
+    .put-word .ensures) (c .before .before .before .before .before .before .before .before .before .before .put-handle .ensures))
+    (andWords _ _ (c .before .before .before .before .before .before .put-post-op .ensures) (c .before .before .put-post-op2 .ensures))
 
 pub put-found-spec : {M : Type 1} → statement M
 put-found-spec =

@@ -25,7 +25,9 @@ same-length : tie.Need-same-length
 same-length c = search needs
 
 returns : tie.Need-returns
-returns c = andThen (andWords _ _ (c .before .before .before .before .before .before .before .before .before .before .before .before .put-failed .ensures) (rw (c .before .before .before .before .before .before .before .before .before .flag .ensures) at (c .before .before .before .before .before .before .put-words .ensures))) (c .before .before .put-file-bytes .ensures)
+returns c = andThen (andWords _ _ (c .before .before .before .before .before .before .before .before .before .before .before .before .put-failed
+    .ensures) (rw (c .before .before .before .before .before .before .before .before .before .flag .ensures) at
+    (c .before .before .before .before .before .before .put-words .ensures))) (c .before .before .put-file-bytes .ensures)
 
 pub put-got-bytes-spec : {M : Type 1} → statement M
 put-got-bytes-spec =

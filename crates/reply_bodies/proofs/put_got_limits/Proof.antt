@@ -17,7 +17,8 @@ same-length : tie.Need-same-length
 same-length c = search needs
 
 returns : tie.Need-returns
-returns c = rw append-assoc (andWords _ _ (c .before .before .before .before .before .before .before .put-failed .ensures) (c .before .before .put-words .ensures))
+returns c = rw append-assoc (andWords _ _ (c .before .before .before .before .before .before .before .put-failed .ensures)
+    (c .before .before .put-words .ensures))
 
 pub put-got-limits-spec : {M : Type 1} → statement M
 put-got-limits-spec =

@@ -19,7 +19,9 @@ same-length c = search needs
 
 returns : tie.Need-returns
 returns c =
-    let a = c .before .before .before .before .before .before .before .before .before .before .before .args in rw (room-words _ (a .total) (a .free) (a .objects) (a .available) (omega arith) (omega arith) (omega arith) (omega arith)) (andWords _ _ (c .before .before .before .before .before .before .before .put-failed .ensures) (c .before .before .put-words .ensures))
+    let a = c .before .before .before .before .before .before .before .before .before .before .before .args in rw
+    (room-words _ (a .total) (a .free) (a .objects) (a .available) (omega arith) (omega arith) (omega arith) (omega arith))
+    (andWords _ _ (c .before .before .before .before .before .before .before .put-failed .ensures) (c .before .before .put-words .ensures))
 
 pub put-got-room-spec : {M : Type 1} → statement M
 put-got-room-spec =

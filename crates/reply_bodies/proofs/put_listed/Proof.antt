@@ -28,8 +28,13 @@ same-length : tie.Need-same-length
 same-length c = search needs
 
 returns : tie.Need-returns
-returns c = andThen (andThen (andWords _ _ (c .before .before .before .before .before .before .before .before .before .before .before .before .before .before .before .before .before .put-failed .ensures) (c .before .before .before .before .before .before .before .before .before .before .before .before .put-words .ensures)) (c .before .before .before .before .before .before .before .before .put-entries .ensures)) (rw (c .before .before .before .before .before .flag .ensures) at (c .before .before .put-words2 .ensures))
+returns c = andThen (andThen (andWords _ _ (c .before .before .before .before .before .before .before .before .before .before .before .before .before
+    .before .before .before .before .put-failed .ensures)
+    (c .before .before .before .before .before .before .before .before .before .before .before .before .put-words .ensures))
+    (c .before .before .before .before .before .before .before .before .put-entries .ensures))
+    (rw (c .before .before .before .before .before .flag .ensures) at (c .before .before .put-words2 .ensures))
 
 pub put-listed-spec : {M : Type 1} → statement M
 put-listed-spec =
-    tie.close (tie.spec put-failed-requires slice-aggregate-put-words put-words-requires put-entries-requires flag-requires slice-aggregate-put-words-2 put-words-requires-2 same-length returns)
+    tie.close (tie.spec put-failed-requires slice-aggregate-put-words put-words-requires put-entries-requires flag-requires
+    slice-aggregate-put-words-2 put-words-requires-2 same-length returns)

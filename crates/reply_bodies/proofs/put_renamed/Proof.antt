@@ -20,7 +20,8 @@ same-length : tie.Need-same-length
 same-length c = search needs
 
 returns : tie.Need-returns
-returns c = andWords _ _ (andWords _ _ (c .before .before .before .before .before .before .before .before .before .before .put-word .ensures) (c .before .before .before .before .before .before .put-handle-change .ensures)) (c .before .before .put-handle-change2 .ensures)
+returns c = andWords _ _ (andWords _ _ (c .before .before .before .before .before .before .before .before .before .before .put-word .ensures)
+    (c .before .before .before .before .before .before .put-handle-change .ensures)) (c .before .before .put-handle-change2 .ensures)
 
 pub put-renamed-spec : {M : Type 1} → statement M
 put-renamed-spec =

@@ -22,7 +22,9 @@ same-length : tie.Need-same-length
 same-length c = search needs
 
 returns : tie.Need-returns
-returns c = andWords _ _ (c .before .before .before .before .before .before .before .before .before .put-changed .ensures) (simp (c .before .before .before .before .before .low .ensures, c .before .before .before .before .before .before .high .ensures) at (c .before .before .put-words .ensures))
+returns c = andWords _ _ (c .before .before .before .before .before .before .before .before .before .put-changed .ensures)
+    (simp (c .before .before .before .before .before .low .ensures, c .before .before .before .before .before .before .high .ensures) at
+    (c .before .before .put-words .ensures))
 
 pub put-wrote-spec : {M : Type 1} → statement M
 put-wrote-spec =

@@ -51,7 +51,8 @@ loop-again c =
     let a = st .args in (
       omega arith,
       omega arith,
-      copy-more (a .src .now) (a .from) (l .i) (a .reply .now) (a .at) (l .reply) _ _ (st .pre .0) (omega arith) (omega arith) (l .inv .2) (c .before .before .before .before .get-u32 .ensures) (c .before .before .put-u32 .ensures),
+      copy-more (a .src .now) (a .from) (l .i) (a .reply .now) (a .at) (l .reply) _ _ (st .pre .0) (omega arith) (omega arith) (l .inv .2)
+          (c .before .before .before .before .get-u32 .ensures) (c .before .before .put-u32 .ensures),
     )
 
 same-length : tie.Need-same-length Inv-loop μ-loop

@@ -10,7 +10,8 @@ use Rattle.reply_entries.proofs.put_above.Tie as tie
 returns : tie.Need-returns
 returns c =
     let a = c .before .before .before .args in
-    rw (above-low (a .cookie) (entry (a .fileid) (part (a .src .now) (a .from) (a .len)) (a .number)) (c .if1 .taken)) (sent-none (a .reply .now) (a .p) (omega arith))
+    rw (above-low (a .cookie) (entry (a .fileid) (part (a .src .now) (a .from) (a .len)) (a .number)) (c .if1 .taken))
+    (sent-none (a .reply .now) (a .p) (omega arith))
 
 returns-2 : tie.Need-returns-2
 returns-2 c =
@@ -34,7 +35,10 @@ same-length c = search needs
 returns-3 : tie.Need-returns-3
 returns-3 c =
     let a = c .before .before .before .before .before .before .before .before .args in
-    rw (above-high (a .cookie) (entry (a .fileid) (part (a .src .now) (a .from) (a .len)) (a .number)) (c .before .before .before .before .before .if1 .left)) (sent-one (entry (a .fileid) (part (a .src .now) (a .from) (a .len)) (a .number)) (a .p) (omega arith) (c .before .before .put-entry .ensures))
+    rw (above-high (a .cookie) (entry (a .fileid) (part (a .src .now) (a .from) (a .len)) (a .number))
+    (c .before .before .before .before .before .if1 .left))
+    (sent-one (entry (a .fileid) (part (a .src .now) (a .from) (a .len)) (a .number)) (a .p) (omega arith)
+    (c .before .before .put-entry .ensures))
 
 pub put-above-spec : {M : Type 1} → statement M
 put-above-spec =

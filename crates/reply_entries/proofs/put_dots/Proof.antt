@@ -21,8 +21,12 @@ slice-aggregate-put-above c = search needs
 put-above-requires : tie.Need-put-above-requires
 unfolding part
 put-above-requires c κs =
-    let a = c .before .before .before .before .args in
-    (padded-dot, front-room (a .p) (entriesAbove (a .cookie) (entry (a .directory .0 + 1) (0x2E ∷ []) 1 ∷ [])) (entriesAbove (a .cookie) (entry (a .parent .0 + 1) (0x2E ∷ 0x2E ∷ []) 2 ∷ [])) (a .reply .now) (rw (above-dots (a .cookie) (a .directory .0) (a .parent .0)) at (c .before .before .before .before .pre .1 .1)))
+    let a = c .before .before .before .before .args in (
+      padded-dot,
+      front-room (a .p) (entriesAbove (a .cookie) (entry (a .directory .0 + 1) (0x2E ∷ []) 1 ∷ []))
+          (entriesAbove (a .cookie) (entry (a .parent .0 + 1) (0x2E ∷ 0x2E ∷ []) 2 ∷ [])) (a .reply .now)
+          (rw (above-dots (a .cookie) (a .directory .0) (a .parent .0)) at (c .before .before .before .before .pre .1 .1)),
+    )
 
 cast-put-above-2 : tie.Need-cast-put-above-2
 cast-put-above-2 c = search needs
@@ -36,8 +40,14 @@ slice-aggregate-put-above-2 c = search needs
 put-above-requires-2 : tie.Need-put-above-requires-2
 unfolding part
 put-above-requires-2 c κs =
-    let a = c .before .before .before .before .before .before .before .before .before .before .args in
-    (padded-dots, rest-room (entriesAbove (a .cookie) (entry (a .directory .0 + 1) (0x2E ∷ []) 1 ∷ [])) (entriesAbove (a .cookie) (entry (a .parent .0 + 1) (0x2E ∷ 0x2E ∷ []) 2 ∷ [])) (c .before .before .before .before .before .put-above .ensures) (rw (above-dots (a .cookie) (a .directory .0) (a .parent .0)) at (c .before .before .before .before .before .before .before .before .before .before .pre .1 .1)))
+    let a = c .before .before .before .before .before .before .before .before .before .before .args in (
+      padded-dots,
+      rest-room (entriesAbove (a .cookie) (entry (a .directory .0 + 1) (0x2E ∷ []) 1 ∷ []))
+          (entriesAbove (a .cookie) (entry (a .parent .0 + 1) (0x2E ∷ 0x2E ∷ []) 2 ∷ []))
+          (c .before .before .before .before .before .put-above .ensures)
+          (rw (above-dots (a .cookie) (a .directory .0) (a .parent .0)) at
+          (c .before .before .before .before .before .before .before .before .before .before .pre .1 .1)),
+    )
 
 same-length : tie.Need-same-length
 same-length c = search needs
@@ -46,7 +56,10 @@ returns : tie.Need-returns
 unfolding part
 returns c =
     let a = c .before .before .before .before .before .before .before .before .before .before .before .before .before .args in
-    rw (above-dots (a .cookie) (a .directory .0) (a .parent .0)) (sent-append (entriesAbove (a .cookie) (entry (a .directory .0 + 1) (0x2E ∷ []) 1 ∷ [])) (entriesAbove (a .cookie) (entry (a .parent .0 + 1) (0x2E ∷ 0x2E ∷ []) 2 ∷ [])) (c .before .before .before .before .before .before .before .before .put-above .ensures) (c .before .before .put-above2 .ensures))
+    rw (above-dots (a .cookie) (a .directory .0) (a .parent .0))
+    (sent-append (entriesAbove (a .cookie) (entry (a .directory .0 + 1) (0x2E ∷ []) 1 ∷ []))
+    (entriesAbove (a .cookie) (entry (a .parent .0 + 1) (0x2E ∷ 0x2E ∷ []) 2 ∷ []))
+    (c .before .before .before .before .before .before .before .before .put-above .ensures) (c .before .before .put-above2 .ensures))
 
 pub put-dots-spec : {M : Type 1} → statement M
 put-dots-spec =

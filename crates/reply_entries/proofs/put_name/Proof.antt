@@ -7,7 +7,8 @@ use Rattle.spec.specs.Results.{Entry}
 use Rattle.spec.specs.Procedures.Listing.{entriesAbove}
 use Rattle.store_search.proofs.Named.{elsewhere}
 use Rattle.reply_entries.proofs.Copies.{padded-name}
-use Rattle.reply_entries.proofs.Runs.{cost, sent-none, sent-equal, directory-here, child-here, length-here, is-in-used, is-in-free, entryIn-absent, entryIn-present, child-below, entry-of}
+use Rattle.reply_entries.proofs.Runs.{cost, sent-none, sent-equal, directory-here, child-here, length-here, is-in-used, is-in-free}
+use Rattle.reply_entries.proofs.Runs.{entryIn-absent, entryIn-present, child-below, entry-of}
 use borrow.Author.Needs.{needs}
 use Rattle.reply_entries.proofs.put_name.Statement.{statement}
 use Rattle.reply_entries.proofs.put_name.Tie as tie
@@ -43,7 +44,8 @@ returns-2 c =
     let s = a .store .now in
     let n = a .n .0 in
     let here = st .pre .1 .1 .0 in
-    let no = is-in-free s (a .directory .0) n (sym (directory-here s n (a .at) here) ∙ sym (c .before .before .before .before .get-u32 .ensures) ∙ c .before .before .if1 .left) (sym (length-here s n (a .at) here) ∙ sym (c .before .get-u322 .ensures) ∙ c .if2 .taken) in
+    let no = is-in-free s (a .directory .0) n (sym (directory-here s n (a .at) here) ∙ sym (c .before .before .before .before .get-u32 .ensures) ∙
+    c .before .before .if1 .left) (sym (length-here s n (a .at) here) ∙ sym (c .before .get-u322 .ensures) ∙ c .if2 .taken) in
     rw (entryIn-absent s (a .directory .0) n no) (sent-none (a .reply .now) (a .p) (omega arith))
 
 add-get-u32-2 : tie.Need-add-get-u32-2
@@ -60,7 +62,9 @@ add-fileid c =
     let n = a .n .0 in
     let here = st .pre .1 .1 .0 in
     let len = (c .before .before .get-u322 .ensures) ∙ length-here s n (a .at) here in
-    let yes = is-in-used s (a .directory .0) n (sym (directory-here s n (a .at) here) ∙ sym (c .before .before .before .before .before .get-u32 .ensures) ∙ c .before .before .before .if1 .left) (omega (arith, len, c .before .if2 .left)) in
+    let yes = is-in-used s (a .directory .0) n (sym (directory-here s n (a .at) here) ∙ sym
+    (c .before .before .before .before .before .get-u32 .ensures) ∙ c .before .before .before .if1 .left)
+    (omega (arith, len, c .before .if2 .left)) in
     let child = c .get-u323 .ensures ∙ child-here s n (a .at) here in
     omega (arith, child, child-below s (a .directory .0) n (st .pre .0) (st .pre .1 .0) yes)
 
@@ -84,11 +88,15 @@ put-above-requires c κs =
     let n = a .n .0 in
     let here = st .pre .1 .1 .0 in
     let len = (c .before .before .before .before .get-u322 .ensures) ∙ length-here s n (a .at) here in
-    let yes = is-in-used s (a .directory .0) n (sym (directory-here s n (a .at) here) ∙ sym (c .before .before .before .before .before .before .before .get-u32 .ensures) ∙ c .before .before .before .before .before .if1 .left) (omega (arith, len, c .before .before .before .if2 .left)) in
+    let yes = is-in-used s (a .directory .0) n (sym (directory-here s n (a .at) here) ∙ sym
+    (c .before .before .before .before .before .before .before .get-u32 .ensures) ∙ c .before .before .before .before .before .if1 .left)
+    (omega (arith, len, c .before .before .before .if2 .left)) in
     let child = c .before .before .get-u323 .ensures ∙ child-here s n (a .at) here in
     let room = rw (entryIn-present s (a .directory .0) n yes) at (st .pre .1 .1 .1) in (
       padded-name s n (a .at) _ (st .pre .0) (st .pre .1 .0) here len,
-      subst (λ (e : Entry). a .p .at + cost (a .p) (entriesAbove (a .cookie) (e ∷ [])) ≤ length (a .reply .now)) (sym (entry-of s n (c .before .before .get-u323 .result) (a .at) (c .before .before .before .before .get-u322 .result) child here len)) room,
+      subst (λ (e : Entry). a .p .at + cost (a .p) (entriesAbove (a .cookie) (e ∷ [])) ≤ length (a .reply .now))
+          (sym (entry-of s n (c .before .before .get-u323 .result) (a .at) (c .before .before .before .before .get-u322 .result) child here len))
+          room,
     )
 
 same-length : tie.Need-same-length
@@ -102,10 +110,14 @@ returns-3 c =
     let n = a .n .0 in
     let here = st .pre .1 .1 .0 in
     let len = (c .before .before .before .before .before .before .before .get-u322 .ensures) ∙ length-here s n (a .at) here in
-    let yes = is-in-used s (a .directory .0) n (sym (directory-here s n (a .at) here) ∙ sym (c .before .before .before .before .before .before .before .before .before .before .get-u32 .ensures) ∙ c .before .before .before .before .before .before .before .before .if1 .left) (omega (arith, len, c .before .before .before .before .before .before .if2 .left)) in
+    let yes = is-in-used s (a .directory .0) n (sym (directory-here s n (a .at) here) ∙ sym
+    (c .before .before .before .before .before .before .before .before .before .before .get-u32 .ensures) ∙
+    c .before .before .before .before .before .before .before .before .if1 .left)
+    (omega (arith, len, c .before .before .before .before .before .before .if2 .left)) in
     let child = c .before .before .before .before .before .get-u323 .ensures ∙ child-here s n (a .at) here in
     rw (entryIn-present s (a .directory .0) n yes)
-    (sent-equal (a .cookie) (entry-of s n (c .before .before .before .before .before .get-u323 .result) (a .at) (c .before .before .before .before .before .before .before .get-u322 .result) child here len) (c .before .before .put-above .ensures))
+    (sent-equal (a .cookie) (entry-of s n (c .before .before .before .before .before .get-u323 .result) (a .at)
+    (c .before .before .before .before .before .before .before .get-u322 .result) child here len) (c .before .before .put-above .ensures))
 
 pub put-name-spec : {M : Type 1} → statement M
 put-name-spec =

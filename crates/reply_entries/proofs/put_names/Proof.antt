@@ -26,8 +26,12 @@ names-start-requires c κs = search needs
 
 loop-holds : tie.Need-loop-holds Inv-loop μ-loop
 loop-holds c =
-    let a = c .before .before .before .before .args in
-    (omega arith, rw (above-none (a .store .now) (a .cookie) (a .directory .0)) (sent-none (a .reply .now) (a .p) (omega arith)), refl, omega (arith, c .names-start .ensures))
+    let a = c .before .before .before .before .args in (
+      omega arith,
+      rw (above-none (a .store .now) (a .cookie) (a .directory .0)) (sent-none (a .reply .now) (a .p) (omega arith)),
+      refl,
+      omega (arith, c .names-start .ensures),
+    )
 
 same-length : tie.Need-same-length Inv-loop μ-loop
 same-length c = c .before .before .before .loop .inv .2
@@ -36,7 +40,8 @@ returns : tie.Need-returns Inv-loop μ-loop
 returns c =
     let a = c .before .before .before .before .before .before .before .before .args in
     let l = c .before .before .before .loop in
-    sent-rest (a .store .now) (a .cookie) (a .directory .0) (l .n) (names (a .store .now)) (omega (arith, c .before .before .before .before .before .name-count .ensures)) (c .if1 .taken) (l .inv .1)
+    sent-rest (a .store .now) (a .cookie) (a .directory .0) (l .n) (names (a .store .now))
+    (omega (arith, c .before .before .before .before .before .name-count .ensures)) (c .if1 .taken) (l .inv .1)
 
 put-name-requires : tie.Need-put-name-requires Inv-loop μ-loop
 put-name-requires c κs =
@@ -48,7 +53,8 @@ put-name-requires c κs =
         omega (arith, c .before .before .before .before .before .before .name-count .ensures),
         (
           l .inv .3,
-          name-room (a .store .now) (a .cookie) (a .directory .0) (l .n) (names (a .store .now)) (omega (arith, c .before .before .before .before .before .before .name-count .ensures)) (l .inv .1) (st .pre .1),
+          name-room (a .store .now) (a .cookie) (a .directory .0) (l .n) (names (a .store .now))
+              (omega (arith, c .before .before .before .before .before .before .name-count .ensures)) (l .inv .1) (st .pre .1),
         ),
       ),
     )
@@ -56,7 +62,11 @@ put-name-requires c κs =
 add-start : tie.Need-add-start Inv-loop μ-loop
 add-start c =
     let h = c .before .before .before .before .before .before .before .before .before .before .before .before .pre .0 .sound .shaped in
-    omega (arith, c .before .before .before .before .before .before .before .loop .inv .3, c .before .before .before .before .before .before .before .before .before .name-count .ensures)
+    omega (
+      arith,
+      c .before .before .before .before .before .before .before .loop .inv .3,
+      c .before .before .before .before .before .before .before .before .before .name-count .ensures,
+    )
 
 add-n : tie.Need-add-n Inv-loop μ-loop
 add-n c = omega (arith, c .before .before .before .before .before .before .before .before .before .name-count .ensures)
@@ -67,8 +77,13 @@ loop-less c = omega arith
 loop-again : tie.Need-loop-again Inv-loop μ-loop
 loop-again c =
     let a = c .before .before .before .before .before .before .before .before .before .before .before .before .args in
-    let l = c .before .before .before .before .before .before .before .loop in
-    (omega arith, rw (above-more (a .store .now) (a .cookie) (a .directory .0) (l .n)) (sent-append _ _ (l .inv .1) (c .before .before .put-name .ensures)), omega arith, omega (arith, l .inv .3))
+    let l = c .before .before .before .before .before .before .before .loop in (
+      omega arith,
+      rw (above-more (a .store .now) (a .cookie) (a .directory .0) (l .n))
+          (sent-append _ _ (l .inv .1) (c .before .before .put-name .ensures)),
+      omega arith,
+      omega (arith, l .inv .3),
+    )
 
 same-length-2 : tie.Need-same-length-2 Inv-loop μ-loop
 same-length-2 c = c .before .loop .inv .2

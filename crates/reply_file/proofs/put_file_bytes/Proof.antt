@@ -34,7 +34,9 @@ returns c =
     let a = c .before .before .before .before .before .before .before .before .before .before .before .before .before .before .before .args in
     let l = readFile-length (a .store .now) (a .o .0) (a .offset) (a .n) in
     let z = wrote-over (c .before .before .clear-bytes .ensures) (length-replicate (c .before .before .before .before .padding .result) 0) (omega arith) in
-    rw (l, ← c .before .before .before .before .padding .ensures) (andThen (andThen (c .before .before .before .before .before .before .before .before .before .before .before .put-word .ensures) (c .before .before .before .before .before .before .before .put-runs .ensures)) z)
+    rw (l, ← c .before .before .before .before .padding .ensures)
+    (andThen (andThen (c .before .before .before .before .before .before .before .before .before .before .before .put-word .ensures)
+    (c .before .before .before .before .before .before .before .put-runs .ensures)) z)
 
 pub put-file-bytes-spec : {M : Type 1} → statement M
 put-file-bytes-spec =

@@ -86,4 +86,5 @@ returns c =
 
 pub put-runs-spec : {M : Type 1} → statement M
 put-runs-spec =
-    tie.close (tie.spec Inv-loop μ-loop loop-holds add-i sub-run-length run-length-requires byte-at-requires put-bytes-requires add-done loop-less loop-again same-length returns)
+    tie.close (tie.spec Inv-loop μ-loop loop-holds add-i sub-run-length run-length-requires byte-at-requires put-bytes-requires add-done loop-less
+    loop-again same-length returns)

@@ -28,8 +28,10 @@ block-of-requires : tie.Need-block-of-requires Inv-loop μ-loop
 block-of-requires c κs =
     let st = c .before .before .before in
     let l = c .before .loop in
-    let a = st .args in
-    (object-in (a .store .now) (a .o .0) 0 (st .pre .0 .good) (st .pre .0 .object), omega (arith, run-few (a .store .now) (a .o .0) (a .i) (a .left) (st .pre .0) (st .pre .1) (l .k) (l .run) (l .inv) (omega arith)))
+    let a = st .args in (
+      object-in (a .store .now) (a .o .0) 0 (st .pre .0 .good) (st .pre .0 .object),
+      omega (arith, run-few (a .store .now) (a .o .0) (a .i) (a .left) (st .pre .0) (st .pre .1) (l .k) (l .run) (l .inv) (omega arith)),
+    )
 
 add-block-of : tie.Need-add-block-of Inv-loop μ-loop
 add-block-of c =
@@ -42,15 +44,23 @@ block-of-requires-2 : tie.Need-block-of-requires-2 Inv-loop μ-loop
 block-of-requires-2 c κs =
     let st = c .before .before .before .before in
     let l = c .before .before .loop in
-    let a = st .args in
-    (object-in (a .store .now) (a .o .0) 0 (st .pre .0 .good) (st .pre .0 .object), run-few (a .store .now) (a .o .0) (a .i) (a .left) (st .pre .0) (st .pre .1) (l .k) (l .run) (l .inv) (omega arith))
+    let a = st .args in (
+      object-in (a .store .now) (a .o .0) 0 (st .pre .0 .good) (st .pre .0 .object),
+      run-few (a .store .now) (a .o .0) (a .i) (a .left) (st .pre .0)
+          (st .pre .1) (l .k) (l .run) (l .inv) (omega arith),
+    )
 
 add-if1 : tie.Need-add-if1 Inv-loop μ-loop
 add-if1 c =
     let st = c .before .before .before .before .before .before in
     let l = c .before .before .before .before .loop in
     let a = st .args in
-    omega (arith, c .before .before .block-of .ensures, block-small (a .store .now) (a .o .0) (a .i) (a .left) (st .pre .0) (st .pre .1) (l .k) (l .run) (l .inv) (omega arith))
+    omega (
+      arith,
+      c .before .before .block-of .ensures,
+      block-small (a .store .now) (a .o .0) (a .i) (a .left) (st .pre .0) (st .pre .1) (l .k)
+          (l .run) (l .inv) (omega arith),
+    )
 
 returns : tie.Need-returns Inv-loop μ-loop
 returns c =
@@ -82,7 +92,8 @@ loop-again c =
     let st = c .before .before .before .before .before .before .before .before in
     let l = c .before .before .before .before .before .before .loop in
     let a = st .args in
-    let n : getD (objectAt (a .store .now) (a .o .0) .blocks) (l .k + 1) 0 ≡ getD (objectAt (a .store .now) (a .o .0) .blocks) (l .k) 0 + 1 = omega (arith, c .before .before .before .before .block-of .ensures, c .before .before .before .block-of2 .ensures) in
+    let n : getD (objectAt (a .store .now) (a .o .0) .blocks) (l .k + 1) 0 ≡ getD (objectAt (a .store .now) (a .o .0) .blocks) (l .k) 0 + 1 =
+    omega (arith, c .before .before .before .before .block-of .ensures, c .before .before .before .block-of2 .ensures) in
     next-run (a .store .now) (a .o .0) (a .i) (a .left) (st .pre .0) (st .pre .1) (l .k) (l .run) (l .inv) (omega arith) n
 
 returns-2 : tie.Need-returns-2 Inv-loop μ-loop
@@ -96,4 +107,5 @@ returns-2 c =
 pub run-length-spec : {M : Type 1} → statement M
 run-length-spec =
     tie.close
-    (tie.spec Inv-loop μ-loop sub-run loop-holds block-of-requires add-block-of block-of-requires-2 add-if1 returns add-k add-run loop-less loop-again returns-2)
+    (tie.spec Inv-loop μ-loop sub-run loop-holds block-of-requires add-block-of block-of-requires-2 add-if1 returns add-k add-run loop-less
+    loop-again returns-2)

@@ -54,7 +54,19 @@ roomForNew s size = do
 unfoldable pub newObject : Time → ℕ → Settable → Object
 newObject clock kind a =
     withAttributes clock a
-    (record { kind = kind; generation = 0; mode = 0; uid = 0; gid = 0; size = 0; atime = clock; mtime = clock; ctime = clock; blocks = replicate fileBlocks unusedBlock })
+    (record {
+      kind = kind;
+      generation = 0;
+      mode = 0;
+      uid = 0;
+      gid = 0;
+      size = 0;
+      atime = clock;
+      mtime = clock;
+      ctime = clock;
+      blocks =
+          replicate fileBlocks unusedBlock;
+    })
 
 -- "Added or removed names set the directory's mtime and ctime."
 abbrev pub touchDirectory : Store → Context → ℕ → Store

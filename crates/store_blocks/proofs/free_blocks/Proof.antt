@@ -80,7 +80,8 @@ loop-again-2 c =
     let p = isFreeBlock (st .args .store .now) in (
       omega arith,
       ⊎-elim
-          (λ w. listed-hit p (st .args .wanted) (l .i) (l .k) (l .list) (l .inv .1) _ _ (st .pre .1 .1) (c .before .before .before .if1 .left) (sym free ∙ w .0 .taken) (w .1) (w .2))
+          (λ w. listed-hit p (st .args .wanted) (l .i) (l .k) (l .list) (l .inv .1) _ _ (st .pre .1 .1) (c .before .before .before .if1 .left)
+          (sym free ∙ w .0 .taken) (w .1) (w .2))
           (λ w. listed-miss p (st .args .wanted) (l .i) (l .k) (l .list) (l .inv .1) _ _ (sym free ∙ w .0 .left) (w .1) (w .2))
           (c .if5 .came),
     )

@@ -40,7 +40,8 @@ returns c =
     let i = at-loop .loop .i in
     let a = at-loop .before .args in
     sym (same-no _ _ (λ e. c .if1 .taken
-    (sym (getD-part (a .a .now) (a .at) (a .len) i (omega arith)) ∙ ap (λ (l : List ℕ). getD l i 0) e ∙ getD-part (a .b .now) (a .from) (a .len) i (omega arith))))
+    (sym (getD-part (a .a .now) (a .at) (a .len) i (omega arith)) ∙ ap (λ (l : List ℕ). getD l i 0) e ∙ getD-part (a .b .now) (a .from) (a .len) i
+    (omega arith))))
 
 add-i : tie.Need-add-i Inv-loop μ-loop
 add-i c = search needs

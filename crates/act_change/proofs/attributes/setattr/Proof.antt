@@ -39,7 +39,12 @@ returns : tie.Need-returns
 unfolding setattr
 returns c =
     rw (← c .before .before .before .before .before .check-setattr .ensures, c .before .before .before .enum-told .given .1)
-    (record { result = rw (c .fail-changing .ensures .0, c .before .reached-status .ensures, c .before .before .before .enum-told .given .1); store = refl; writable = c .fail-changing .ensures .1 })
+    (record {
+      result = rw (c .fail-changing .ensures .0, c .before .reached-status .ensures, c .before .before .before .enum-told .given .1);
+      store =
+          refl;
+      writable = c .fail-changing .ensures .1;
+    })
 
 before-requires : tie.Need-before-requires
 before-requires c κs =
@@ -53,7 +58,8 @@ setattr-edit-requires : tie.Need-setattr-edit-requires
 setattr-edit-requires c κs =
     let st = c .before .before .before .before .before .before .before .before .before .before in
     let g = valid-records (st .args .store .now) (st .pre .0 .valid) (st .pre .0 .bytes) in
-    let e = sym (c .before .before .before .before .before .before .check-setattr .ensures) ∙ ap reachedOf (c .before .before .before .before .answer .given .1) in
+    let e = sym (c .before .before .before .before .before .before .check-setattr .ensures) ∙ ap reachedOf
+    (c .before .before .before .before .answer .given .1) in
     let p = setattr-passed (st .args .store .now) (cut (st .args .call .now) (st .args .h)) (st .args .a) (st .args .g) _ e in
     (g, (st .pre .0 .map, setattr-sizable (st .args .store .now) (cut (st .args .call .now) (st .args .h)) (st .args .a) (st .args .g) _ g p))
 
@@ -64,11 +70,22 @@ returns-2 : tie.Need-returns-2
 unfolding setattr change
 returns-2 c =
     let st = c .before .before .before .before .before .before .before .before .before .before .before .before .before in
-    let e = sym (c .before .before .before .before .before .before .before .before .before .check-setattr .ensures) ∙ ap reachedOf (c .before .before .before .before .before .before .before .answer .given .1) in
+    let e = sym (c .before .before .before .before .before .before .before .before .before .check-setattr .ensures) ∙ ap reachedOf
+    (c .before .before .before .before .before .before .before .answer .given .1) in
     let p = setattr-passed (st .args .store .now) (cut (st .args .call .now) (st .args .h)) (st .args .a) (st .args .g) _ e in
-    let l = setattr-left (st .args .store .now) (st .args .context) (st .pre .0 .valid) (st .pre .0 .bytes) (st .pre .0 .clock) (st .args .call .now) (λ k. c .before .before .before .before .before .before .before .before .before .before .before .shared-slice-known .given k .fits) (st .args .h) (st .args .a) (st .args .g) _ (st .pre .1 .0) e in
-    rw (← c .before .before .before .before .before .before .before .before .before .check-setattr .ensures, c .before .before .before .before .before .before .before .answer .given .1)
-    (record { result = rw (c .before .before .before .before .before2 .ensures, c .before .before .setattr-edit .ensures); store = c .before .before .setattr-edit .ensures; writable = left-showable _ _ _ _ l (c .before .before .setattr-edit .ensures) (p .reached .below) })
+    let l = setattr-left (st .args .store .now) (st .args .context) (st .pre .0 .valid) (st .pre .0 .bytes) (st .pre .0 .clock) (st .args .call .now)
+    (λ k. c .before .before .before .before .before .before .before .before .before .before .before .shared-slice-known .given k .fits)
+    (st .args .h) (st .args .a) (st .args .g) _ (st .pre .1 .0) e in
+    rw (
+      ← c .before .before .before .before .before .before .before .before .before .check-setattr .ensures,
+      c .before .before .before .before .before .before .before .answer .given .1,
+    )
+    (record {
+      result = rw (c .before .before .before .before .before2 .ensures, c .before .before .setattr-edit .ensures);
+      store =
+          c .before .before .setattr-edit .ensures;
+      writable = left-showable _ _ _ _ l (c .before .before .setattr-edit .ensures) (p .reached .below);
+    })
 
 pub setattr-spec : {M : Type 1} → statement M
 setattr-spec =

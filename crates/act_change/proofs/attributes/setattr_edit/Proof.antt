@@ -15,7 +15,8 @@ set-attributes-requires : tie.Need-set-attributes-requires
 set-attributes-requires c κs =
     let st = c .before .before .before .before .before .before .before .before in
     let r = sized-still (st .args .store .now) (st .args .o .0) (st .args .a .size) (st .pre .0) (st .pre .1 .1) in
-    record-inside (st .args .store .now) (c .before .before .before .before .before .resize-to .last .0) (st .args .o .0) (st .pre .0) (rw (c .before .before .before .before .before .resize-to .ensures) (r .shape)) (st .pre .1 .1 .below)
+    record-inside (st .args .store .now) (c .before .before .before .before .before .resize-to .last .0) (st .args .o .0) (st .pre .0)
+    (rw (c .before .before .before .before .before .resize-to .ensures) (r .shape)) (st .pre .1 .1 .below)
 
 same-length : tie.Need-same-length
 same-length c = search needs

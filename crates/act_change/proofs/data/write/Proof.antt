@@ -37,7 +37,12 @@ returns : tie.Need-returns
 unfolding write
 returns c =
     rw (← c .before .before .before .before .before .check-write .ensures, c .before .before .before .enum-told .given .1)
-    (record { result = rw (c .fail-changing .ensures .0, c .before .reached-status .ensures, c .before .before .before .enum-told .given .1); store = refl; writable = c .fail-changing .ensures .1 })
+    (record {
+      result = rw (c .fail-changing .ensures .0, c .before .reached-status .ensures, c .before .before .before .enum-told .given .1);
+      store =
+          refl;
+      writable = c .fail-changing .ensures .1;
+    })
 
 write-checked-requires : tie.Need-write-checked-requires
 write-checked-requires c κs =
@@ -49,15 +54,34 @@ write-checked-requires c κs =
     let e = sym (c .before .before .before .before .check-write .ensures) ∙ ap reachedOf (c .before .before .answer .given .1) in
     let p = write-passed s (cut call (st .args .h)) (st .args .offset) (st .args .count) (cut call bytes) _ e in
     let few = few-moved call bytes (st .args .count) (st .pre .1 .1) (p .counted) in
-    let left = write-left s (st .args .context) (st .pre .0 .valid) (st .pre .0 .bytes) (st .pre .0 .clock) call (λ k. c .before .before .before .before .before .before .shared-slice-known .given k .fits) (st .args .h) (st .args .offset) (st .args .count) bytes _ e in
-    (g, (st .pre .0 .map, (p .reached .below, (record { some = write-writable s (cut call (st .args .h)) (st .args .offset) (st .args .count) (cut call bytes) _ p }, (st .pre .1 .1, (few, left))))))
+    let left = write-left s (st .args .context) (st .pre .0 .valid) (st .pre .0 .bytes) (st .pre .0 .clock) call
+    (λ k. c .before .before .before .before .before .before .shared-slice-known .given k .fits) (st .args .h) (st .args .offset)
+    (st .args .count) bytes _ e in (
+      g,
+      (
+        st .pre .0 .map,
+        (
+          p .reached .below,
+          (
+            record {
+              some = write-writable s (cut call (st .args .h)) (st .args .offset) (st .args .count)
+                  (cut call bytes) _ p;
+            },
+            (st .pre .1 .1, (few, left)),
+          ),
+        ),
+      ),
+    )
 
 same-length-2 : tie.Need-same-length-2
 same-length-2 c = search needs
 
 returns-2 : tie.Need-returns-2
 unfolding write
-returns-2 c = rw (← c .before .before .before .before .before .before .before .check-write .ensures, c .before .before .before .before .before .answer .given .1) (c .before .before .write-checked .ensures)
+returns-2 c = rw (
+  ← c .before .before .before .before .before .before .before .check-write .ensures,
+  c .before .before .before .before .before .answer .given .1,
+) (c .before .before .write-checked .ensures)
 
 pub write-spec : {M : Type 1} → statement M
 write-spec =

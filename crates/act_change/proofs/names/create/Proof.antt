@@ -37,7 +37,11 @@ returns : tie.Need-returns
 unfolding create
 returns c =
     rw (← c .before .before .before .before .before .before .check-create .ensures, c .before .before .before .before .enum-told .given .1)
-    (record { result = rw (c .fail-changing .ensures .0, c .before .create-status .ensures, c .before .before .before .before .enum-told .given .1); store = refl; writable = c .fail-changing .ensures .1 })
+    (record {
+      result = rw (c .fail-changing .ensures .0, c .before .create-status .ensures, c .before .before .before .before .enum-told .given .1);
+      store = refl;
+      writable = c .fail-changing .ensures .1;
+    })
 
 settable-of-requires : tie.Need-settable-of-requires
 settable-of-requires c κs = search needs
@@ -49,9 +53,22 @@ make-new-requires : tie.Need-make-new-requires
 make-new-requires c κs =
     let st = c .before .before .before .before .before .before .before .before .before .before .before .before .before in
     let g = valid-records (st .args .store .now) (st .pre .0 .valid) (st .pre .0 .bytes) in
-    let e = sym (c .before .before .before .before .before .before .before .before .before .check-create .ensures) ∙ ap createOf (c .before .before .before .before .before .before .before .answer .given .1) in
-    let p = create-passed (st .args .store .now) (cut (st .args .call .now) (st .args .place .directory)) (cut (st .args .call .now) (st .args .place .name)) (st .args .manner) _ e in
-    (g, (st .pre .0 .map, (st .pre .1 .1 .1, create-makable (st .args .store .now) (cut (st .args .call .now) (st .args .place .directory)) (cut (st .args .call .now) (st .args .place .name)) (st .args .manner) (c .before .before .before .before .before .settable-of .result) _ _ p (c .before .before .before .before .before .settable-of .ensures) (st .args .context) _ _ (c .before .before .t .given .1) (st .pre .0 .clock) (st .pre .1 .0))))
+    let e = sym (c .before .before .before .before .before .before .before .before .before .check-create .ensures) ∙ ap createOf
+    (c .before .before .before .before .before .before .before .answer .given .1) in
+    let p = create-passed (st .args .store .now) (cut (st .args .call .now) (st .args .place .directory))
+    (cut (st .args .call .now) (st .args .place .name)) (st .args .manner) _ e in (
+      g,
+      (
+        st .pre .0 .map,
+        (
+          st .pre .1 .1 .1,
+          create-makable (st .args .store .now) (cut (st .args .call .now) (st .args .place .directory))
+              (cut (st .args .call .now) (st .args .place .name)) (st .args .manner) (c .before .before .before .before .before .settable-of .result) _ _ p
+              (c .before .before .before .before .before .settable-of .ensures) (st .args .context) _ _ (c .before .before .t .given .1)
+              (st .pre .0 .clock) (st .pre .1 .0),
+        ),
+      ),
+    )
 
 enum-known-t-2 : tie.Need-enum-known-t-2
 enum-known-t-2 c = search needs
@@ -60,9 +77,24 @@ obey-size-requires : tie.Need-obey-size-requires
 obey-size-requires c κs =
     let st = c .before .before .before .before .before .before .before .before .before .before .before .before .before in
     let g = valid-records (st .args .store .now) (st .pre .0 .valid) (st .pre .0 .bytes) in
-    let e = sym (c .before .before .before .before .before .before .before .before .before .check-create .ensures) ∙ ap createOf (c .before .before .before .before .before .before .before .answer .given .1) in
-    let p = create-passed (st .args .store .now) (cut (st .args .call .now) (st .args .place .directory)) (cut (st .args .call .now) (st .args .place .name)) (st .args .manner) _ e in
-    (g, (st .pre .0 .map, (st .pre .0 .clock, (p .reached .below, create-sizable (st .args .store .now) (cut (st .args .call .now) (st .args .place .directory)) (cut (st .args .call .now) (st .args .place .name)) (st .args .manner) (c .before .before .before .before .before .settable-of .result) _ _ p (c .before .before .before .before .before .settable-of .ensures) _ (c .before .before .t2 .given .1) g))))
+    let e = sym (c .before .before .before .before .before .before .before .before .before .check-create .ensures) ∙ ap createOf
+    (c .before .before .before .before .before .before .before .answer .given .1) in
+    let p = create-passed (st .args .store .now) (cut (st .args .call .now) (st .args .place .directory))
+    (cut (st .args .call .now) (st .args .place .name)) (st .args .manner) _ e in (
+      g,
+      (
+        st .pre .0 .map,
+        (
+          st .pre .0 .clock,
+          (
+            p .reached .below,
+            create-sizable (st .args .store .now) (cut (st .args .call .now) (st .args .place .directory))
+                (cut (st .args .call .now) (st .args .place .name)) (st .args .manner) (c .before .before .before .before .before .settable-of .result) _ _ p
+                (c .before .before .before .before .before .settable-of .ensures) _ (c .before .before .t2 .given .1) g,
+          ),
+        ),
+      ),
+    )
 
 same-length-2 : tie.Need-same-length-2
 same-length-2 c = search needs
@@ -70,7 +102,12 @@ same-length-2 c = search needs
 returns-2 : tie.Need-returns-2
 unfolding create
 returns-2 c =
-    rw (← c .before .before .before .before .before .before .before .before .before .before .before .before .check-create .ensures, c .before .before .before .before .before .before .before .before .before .before .answer .given .1, c .before .before .before .before .before .t .given .1, ← c .before .before .before .before .before .before .before .before .settable-of .ensures)
+    rw (
+      ← c .before .before .before .before .before .before .before .before .before .before .before .before .check-create .ensures,
+      c .before .before .before .before .before .before .before .before .before .before .answer .given .1,
+      c .before .before .before .before .before .t .given .1,
+      ← c .before .before .before .before .before .before .before .before .settable-of .ensures,
+    )
     (c .before .before .make-new .ensures)
 
 same-length-3 : tie.Need-same-length-3
@@ -79,7 +116,12 @@ same-length-3 c = search needs
 returns-3 : tie.Need-returns-3
 unfolding create
 returns-3 c =
-    rw (← c .before .before .before .before .before .before .before .before .before .before .before .before .check-create .ensures, c .before .before .before .before .before .before .before .before .before .before .answer .given .1, c .before .before .before .before .before .t2 .given .1, ← c .before .before .before .before .before .before .before .before .settable-of .ensures)
+    rw (
+      ← c .before .before .before .before .before .before .before .before .before .before .before .before .check-create .ensures,
+      c .before .before .before .before .before .before .before .before .before .before .answer .given .1,
+      c .before .before .before .before .before .t2 .given .1,
+      ← c .before .before .before .before .before .before .before .before .settable-of .ensures,
+    )
     (c .before .before .obey-size .ensures)
 
 pub create-spec : {M : Type 1} → statement M

@@ -28,7 +28,8 @@ touch-requires c κs =
     let p : Sizable (st .args .store .now) (st .args .o .0) (st .args .size) = st .pre .1 .1 in
     let z = rw (c .before .before .before .before .before .before .before .size .given .1) at p in
     let r = resize-still (st .args .store .now) (st .pre .0) (st .args .o .0) _ (z .below) (z .regular refl) (z .small) (z .room) in
-    record-inside (st .args .store .now) (c .before .before .before .before .resize .last .0) (st .args .o .0) (st .pre .0) (rw (c .before .before .before .before .resize .ensures) (r .shape)) (z .below)
+    record-inside (st .args .store .now) (c .before .before .before .before .resize .last .0) (st .args .o .0) (st .pre .0)
+    (rw (c .before .before .before .before .resize .ensures) (r .shape)) (z .below)
 
 same-length : tie.Need-same-length
 same-length c = search needs

@@ -37,15 +37,30 @@ returns : tie.Need-returns
 unfolding mkdir
 returns c =
     rw (← c .before .before .before .before .before .before .check-mkdir .ensures, c .before .before .before .before .enum-told .given .1)
-    (record { result = rw (c .fail-changing .ensures .0, c .before .mkdir-status .ensures, c .before .before .before .before .enum-told .given .1); store = refl; writable = c .fail-changing .ensures .1 })
+    (record {
+      result = rw (c .fail-changing .ensures .0, c .before .mkdir-status .ensures, c .before .before .before .before .enum-told .given .1);
+      store = refl;
+      writable = c .fail-changing .ensures .1;
+    })
 
 make-new-requires : tie.Need-make-new-requires
 make-new-requires c κs =
     let st = c .before .before .before .before .before .before .before .before .before in
     let g = valid-records (st .args .store .now) (st .pre .0 .valid) (st .pre .0 .bytes) in
     let e = sym (c .before .before .before .before .before .check-mkdir .ensures) ∙ ap mkdirOf (c .before .before .before .answer .given .1) in
-    let p = mkdir-passed (st .args .store .now) (cut (st .args .call .now) (st .args .place .directory)) (cut (st .args .call .now) (st .args .place .name)) (st .args .a) _ e in
-    (g, (st .pre .0 .map, (st .pre .1 .1 .1, mkdir-makable (st .args .store .now) (st .args .context) (cut (st .args .call .now) (st .args .place .directory)) (cut (st .args .call .now) (st .args .place .name)) (st .args .a) _ _ _ (st .pre .0 .clock) (st .pre .1 .0) p)))
+    let p = mkdir-passed (st .args .store .now) (cut (st .args .call .now) (st .args .place .directory))
+    (cut (st .args .call .now) (st .args .place .name)) (st .args .a) _ e in (
+      g,
+      (
+        st .pre .0 .map,
+        (
+          st .pre .1 .1 .1,
+          mkdir-makable (st .args .store .now) (st .args .context)
+              (cut (st .args .call .now) (st .args .place .directory)) (cut (st .args .call .now) (st .args .place .name)) (st .args .a) _ _ _
+              (st .pre .0 .clock) (st .pre .1 .0) p,
+        ),
+      ),
+    )
 
 same-length-2 : tie.Need-same-length-2
 same-length-2 c = search needs
@@ -53,7 +68,10 @@ same-length-2 c = search needs
 returns-2 : tie.Need-returns-2
 unfolding mkdir
 returns-2 c =
-    rw (← c .before .before .before .before .before .before .before .before .check-mkdir .ensures, c .before .before .before .before .before .before .answer .given .1)
+    rw (
+      ← c .before .before .before .before .before .before .before .before .check-mkdir .ensures,
+      c .before .before .before .before .before .before .answer .given .1,
+    )
     (c .before .before .make-new .ensures)
 
 pub mkdir-spec : {M : Type 1} → statement M

@@ -18,25 +18,67 @@ new-object-requires c κs = search needs
 
 create-object-requires : tie.Need-create-object-requires
 create-object-requires c κs =
-    let st = c .before .before .before .before .before in
-    (st .pre .0, (st .pre .1 .1 .1 .room .object-below, (st .pre .1 .1 .1 .room .name-below, (st .pre .1 .1 .1 .below, (st .pre .1 .1 .0, omega (arith, st .pre .1 .1 .1 .good .short, part-length (st .args .call .now) (st .args .name .start) (st .args .name .length) (st .pre .1 .1 .0)))))))
+    let st = c .before .before .before .before .before in (
+      st .pre .0,
+      (
+        st .pre .1 .1 .1 .room .object-below,
+        (
+          st .pre .1 .1 .1 .room .name-below,
+          (
+            st .pre .1 .1 .1 .below,
+            (
+              st .pre .1 .1 .0,
+              omega (
+                arith,
+                st .pre .1 .1 .1 .good .short,
+                part-length (st .args .call .now) (st .args .name .start)
+                    (st .args .name .length) (st .pre .1 .1 .0),
+              ),
+            ),
+          ),
+        ),
+      ),
+    )
 
 resize-to-requires : tie.Need-resize-to-requires
 resize-to-requires c κs =
     let st = c .before .before .before .before .before .before .before .before .before in
-    let w = below-part 256 (st .args .call .now) (st .args .name .start) (st .args .name .length) (lit< tt) (λ k. c .before .before .before .before .before .before .before .shared-slice-known .given k .fits) in
-    let e : c .before .before .before .create-object .last .0 ≡ created (st .args .store .now) (st .args .context) (st .args .kind) (st .args .o .0) (st .args .n .0) (st .args .d .0) (cut (st .args .call .now) (st .args .name)) (st .args .a) (st .pre .0) (st .pre .1 .1 .1) w = rw (c .before .before .before .create-object .ensures, c .before .before .before .before .before .new-object .ensures) in
-    (rw e (created-still (st .args .store .now) (st .args .context) (st .args .kind) (st .args .o .0) (st .args .n .0) (st .args .d .0) (cut (st .args .call .now) (st .args .name)) (st .args .a) (st .pre .0) (st .pre .1 .1 .1) w .good), (rw e (created-map (st .args .store .now) (st .args .context) (st .args .kind) (st .args .o .0) (st .args .n .0) (st .args .d .0) (cut (st .args .call .now) (st .args .name)) (st .args .a) (st .pre .0) (st .pre .1 .1 .1) w (st .args .used .now) (st .pre .1 .0)), rw e (created-sizable (st .args .store .now) (st .args .context) (st .args .kind) (st .args .o .0) (st .args .n .0) (st .args .d .0) (cut (st .args .call .now) (st .args .name)) (st .args .a) (st .pre .0) (st .pre .1 .1 .1) w)))
+    let w = below-part 256 (st .args .call .now) (st .args .name .start) (st .args .name .length) (lit< tt)
+    (λ k. c .before .before .before .before .before .before .before .shared-slice-known .given k .fits) in
+    let e : c .before .before .before .create-object .last .0 ≡ created (st .args .store .now) (st .args .context) (st .args .kind) (st .args .o .0)
+    (st .args .n .0) (st .args .d .0) (cut (st .args .call .now) (st .args .name)) (st .args .a) (st .pre .0) (st .pre .1 .1 .1) w =
+    rw (c .before .before .before .create-object .ensures, c .before .before .before .before .before .new-object .ensures) in (
+      rw e (created-still (st .args .store .now) (st .args .context) (st .args .kind) (st .args .o .0) (st .args .n .0) (st .args .d .0)
+          (cut (st .args .call .now) (st .args .name)) (st .args .a) (st .pre .0) (st .pre .1 .1 .1) w .good),
+      (
+        rw e (created-map (st .args .store .now) (st .args .context) (st .args .kind) (st .args .o .0) (st .args .n .0) (st .args .d .0)
+            (cut (st .args .call .now) (st .args .name)) (st .args .a) (st .pre .0) (st .pre .1 .1 .1) w (st .args .used .now) (st .pre .1 .0)),
+        rw e (created-sizable (st .args .store .now) (st .args .context) (st .args .kind) (st .args .o .0) (st .args .n .0) (st .args .d .0)
+            (cut (st .args .call .now) (st .args .name)) (st .args .a) (st .pre .0) (st .pre .1 .1 .1) w),
+      ),
+    )
 
 touch-requires : tie.Need-touch-requires
 touch-requires c κs =
     let st = c .before .before .before .before .before .before .before .before .before .before .before .before .before in
-    let w = below-part 256 (st .args .call .now) (st .args .name .start) (st .args .name .length) (lit< tt) (λ k. c .before .before .before .before .before .before .before .before .before .before .before .shared-slice-known .given k .fits) in
-    let e : c .before .before .before .before .before .before .before .create-object .last .0 ≡ created (st .args .store .now) (st .args .context) (st .args .kind) (st .args .o .0) (st .args .n .0) (st .args .d .0) (cut (st .args .call .now) (st .args .name)) (st .args .a) (st .pre .0) (st .pre .1 .1 .1) w = rw (c .before .before .before .before .before .before .before .create-object .ensures, c .before .before .before .before .before .before .before .before .before .new-object .ensures) in
-    let s = created-still (st .args .store .now) (st .args .context) (st .args .kind) (st .args .o .0) (st .args .n .0) (st .args .d .0) (cut (st .args .call .now) (st .args .name)) (st .args .a) (st .pre .0) (st .pre .1 .1 .1) w in
-    let q = sized-still (created (st .args .store .now) (st .args .context) (st .args .kind) (st .args .o .0) (st .args .n .0) (st .args .d .0) (cut (st .args .call .now) (st .args .name)) (st .args .a) (st .pre .0) (st .pre .1 .1 .1) w) (st .args .o .0) (st .args .a .size) (s .good) (created-sizable (st .args .store .now) (st .args .context) (st .args .kind) (st .args .o .0) (st .args .n .0) (st .args .d .0) (cut (st .args .call .now) (st .args .name)) (st .args .a) (st .pre .0) (st .pre .1 .1 .1) w) in
-    let h = still-trans (st .args .store .now) (created (st .args .store .now) (st .args .context) (st .args .kind) (st .args .o .0) (st .args .n .0) (st .args .d .0) (cut (st .args .call .now) (st .args .name)) (st .args .a) (st .pre .0) (st .pre .1 .1 .1) w) _ s q in
-    record-inside (st .args .store .now) (c .before .before .before .resize-to .last .0) (st .args .d .0) (st .pre .0) (rw (c .before .before .before .resize-to .ensures, e) (h .shape)) (st .pre .1 .1 .1 .below)
+    let w = below-part 256 (st .args .call .now) (st .args .name .start) (st .args .name .length) (lit< tt)
+    (λ k. c .before .before .before .before .before .before .before .before .before .before .before .shared-slice-known .given k .fits) in
+    let e : c .before .before .before .before .before .before .before .create-object .last .0 ≡ created (st .args .store .now) (st .args .context)
+    (st .args .kind) (st .args .o .0) (st .args .n .0) (st .args .d .0) (cut (st .args .call .now) (st .args .name)) (st .args .a) (st .pre .0)
+    (st .pre .1 .1 .1) w = rw (
+      c .before .before .before .before .before .before .before .create-object .ensures,
+      c .before .before .before .before .before .before .before .before .before .new-object .ensures,
+    ) in
+    let s = created-still (st .args .store .now) (st .args .context) (st .args .kind) (st .args .o .0) (st .args .n .0) (st .args .d .0)
+    (cut (st .args .call .now) (st .args .name)) (st .args .a) (st .pre .0) (st .pre .1 .1 .1) w in
+    let q = sized-still (created (st .args .store .now) (st .args .context) (st .args .kind) (st .args .o .0) (st .args .n .0) (st .args .d .0)
+    (cut (st .args .call .now) (st .args .name)) (st .args .a) (st .pre .0) (st .pre .1 .1 .1) w) (st .args .o .0) (st .args .a .size) (s .good)
+    (created-sizable (st .args .store .now) (st .args .context) (st .args .kind) (st .args .o .0) (st .args .n .0) (st .args .d .0)
+    (cut (st .args .call .now) (st .args .name)) (st .args .a) (st .pre .0) (st .pre .1 .1 .1) w) in
+    let h = still-trans (st .args .store .now) (created (st .args .store .now) (st .args .context) (st .args .kind) (st .args .o .0) (st .args .n .0)
+    (st .args .d .0) (cut (st .args .call .now) (st .args .name)) (st .args .a) (st .pre .0) (st .pre .1 .1 .1) w) _ s q in
+    record-inside (st .args .store .now) (c .before .before .before .resize-to .last .0) (st .args .d .0) (st .pre .0)
+    (rw (c .before .before .before .resize-to .ensures, e) (h .shape)) (st .pre .1 .1 .1 .below)
 
 same-length : tie.Need-same-length
 same-length c = search needs

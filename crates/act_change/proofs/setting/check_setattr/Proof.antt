@@ -24,7 +24,8 @@ returns c = rw (← c .before .before .reach .ensures, c .enum-told .given .1)
 load-object-requires : tie.Need-load-object-requires
 load-object-requires c κs =
     let st = c .before .before .before .before .before .before in
-    let below = object-reached (st .args .store .now) (cut (st .args .call .now) (st .args .h)) _ _ (c .before .answer .given .1) (c .before .before .before .reach .ensures) .below in
+    let below = object-reached (st .args .store .now) (cut (st .args .call .now) (st .args .h)) _ _ (c .before .answer .given .1)
+    (c .before .before .before .reach .ensures) .below in
     omega arith
 
 differs-requires : tie.Need-differs-requires
@@ -60,7 +61,9 @@ returns-3 c =
 sizes-directory-requires : tie.Need-sizes-directory-requires
 sizes-directory-requires c κs =
     let st = c .before .before .before .before .before .before .before .before .before .before .before .before in
-    let below = object-reached (st .args .store .now) (cut (st .args .call .now) (st .args .h)) _ _ (c .before .before .before .before .before .before .before .answer .given .1) (c .before .before .before .before .before .before .before .before .before .reach .ensures) .below in
+    let below = object-reached (st .args .store .now) (cut (st .args .call .now) (st .args .h)) _ _
+    (c .before .before .before .before .before .before .before .answer .given .1)
+    (c .before .before .before .before .before .before .before .before .before .reach .ensures) .below in
     (st .pre .0, below)
 
 returns-4 : tie.Need-returns-4
@@ -81,7 +84,9 @@ returns-4 c =
 lacks-room-for-size-requires : tie.Need-lacks-room-for-size-requires
 lacks-room-for-size-requires c κs =
     let st = c .before .before .before .before .before .before .before .before .before .before .before .before .before .before in
-    let below = object-reached (st .args .store .now) (cut (st .args .call .now) (st .args .h)) _ _ (c .before .before .before .before .before .before .before .before .before .answer .given .1) (c .before .before .before .before .before .before .before .before .before .before .before .reach .ensures) .below in
+    let below = object-reached (st .args .store .now) (cut (st .args .call .now) (st .args .h)) _ _
+    (c .before .before .before .before .before .before .before .before .before .answer .given .1)
+    (c .before .before .before .before .before .before .before .before .before .before .before .reach .ensures) .below in
     (st .pre .0, (st .pre .1 .0, (below, valid-size (st .args .a) (sym (c .before .before .before .bad-attributes .ensures) ∙ c .before .before .if2 .left))))
 
 returns-5 : tie.Need-returns-5

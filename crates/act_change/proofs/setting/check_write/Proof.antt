@@ -66,8 +66,19 @@ returns-4 c =
 lacks-room-for-bytes-requires : tie.Need-lacks-room-for-bytes-requires
 lacks-room-for-bytes-requires c κs =
     let st = c .before .before .before .before .before .before .before .before .before .before .before .before in
-    let below = regular-reached (st .args .store .now) (cut (st .args .call .now) (st .args .h)) _ _ (c .before .before .before .before .before .before .before .answer .given .1) (c .before .before .before .before .before .before .before .before .before .reach-regular .ensures) .0 .below in
-    (st .pre .0, (st .pre .1 .0, (below, ltb-false 8192 (st .args .offset + c .before .before .smaller .result) (sym (c .before .is-past-end .ensures) ∙ c .if3 .left))))
+    let below = regular-reached (st .args .store .now) (cut (st .args .call .now) (st .args .h)) _ _
+    (c .before .before .before .before .before .before .before .answer .given .1)
+    (c .before .before .before .before .before .before .before .before .before .reach-regular .ensures) .0 .below in (
+      st .pre .0,
+      (
+        st .pre .1 .0,
+        (
+          below,
+          ltb-false 8192 (st .args .offset + c .before .before .smaller .result)
+              (sym (c .before .is-past-end .ensures) ∙ c .if3 .left),
+        ),
+      ),
+    )
 
 returns-5 : tie.Need-returns-5
 unfolding checkWrite

@@ -27,7 +27,8 @@ unfolding commit change
 returns c =
     let st = c .before .before .before .before .before .before .before in (
       rw (c .unchanged .ensures, ← c .before .before .before .before .reach-regular .ensures, c .before .before .answer .given .1),
-      rw (c .unchanged .ensures) (regular-showable _ _ _ _ (c .before .before .answer .given .1) (st .pre .0) (c .before .before .before .before .reach-regular .ensures)),
+      rw (c .unchanged .ensures) (regular-showable _ _ _ _ (c .before .before .answer .given .1) (st .pre .0)
+          (c .before .before .before .before .reach-regular .ensures)),
     )
 
 returns-2 : tie.Need-returns-2

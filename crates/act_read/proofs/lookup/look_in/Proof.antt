@@ -58,7 +58,11 @@ name-child-requires : tie.Need-name-child-requires
 name-child-requires c κs =
     let st = c .before .before .before .before .before .before .before .before .before .before in
     let a = st .args in
-    omega (arith, name-found (a .store .now) (st .pre .0) (a .d .0) (cut (a .call .now) (a .name)) _ _ (c .before .found .given .1) (c .before .before .before .find-name .ensures) .record-below)
+    omega (
+      arith,
+      name-found (a .store .now) (st .pre .0) (a .d .0) (cut (a .call .now) (a .name)) _ _ (c .before .found .given .1)
+          (c .before .before .before .find-name .ensures) .record-below,
+    )
 
 returns-4 : tie.Need-returns-4
 unfolding lookIn

@@ -22,7 +22,8 @@ unfolding lookup
 returns c =
     let st = c .before .before .before .before .before .before .before in
     let a = st .args in
-    let b = looked-below (a .store .now) (st .pre .0) (cut (a .call .now) (a .p .directory)) (cut (a .call .now) (a .p .name)) _ _ _ (c .before .looked .given .1) (c .before .before .before .check-lookup .ensures) in (
+    let b = looked-below (a .store .now) (st .pre .0) (cut (a .call .now) (a .p .directory)) (cut (a .call .now) (a .p .name)) _ _ _
+    (c .before .looked .given .1) (c .before .before .before .check-lookup .ensures) in (
       rw (← c .before .before .before .check-lookup .ensures, c .before .looked .given .1),
       (record { good = st .pre .0; object = b .1 }, record { good = st .pre .0; object = b .0 }),
     )

@@ -37,7 +37,12 @@ cast-t12 c = omega (arith, available-few (c .before .before .before .before .bef
 returns : tie.Need-returns
 returns c =
     let st = c .before .before .before .before .before in (
-      rw (← c .available-count .ensures, ← c .before .object-count .ensures, ← c .before .before .free-block-count .ensures, ← c .before .before .before .block-count .ensures),
+      rw (
+        ← c .available-count .ensures,
+        ← c .before .object-count .ensures,
+        ← c .before .before .free-block-count .ensures,
+        ← c .before .before .before .block-count .ensures,
+      ),
       record { good = st .pre .0; object = st .pre .1 .0 },
     )
 

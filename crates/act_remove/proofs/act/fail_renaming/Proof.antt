@@ -18,7 +18,10 @@ returns : tie.Need-returns
 unfolding failRenaming
 returns c = (
   rw (← c .before .before .before .before .handle-change .ensures .0, c .before .from .given .1, ← c .before .before .before .handle-change2 .ensures .0),
-  (subst (ShowableChange _) (c .before .from .given .1) (c .before .before .before .before .handle-change .ensures .1), c .before .before .before .handle-change2 .ensures .1),
+  (
+    subst (ShowableChange _) (c .before .from .given .1) (c .before .before .before .before .handle-change .ensures .1),
+    c .before .before .before .handle-change2 .ensures .1,
+  ),
 )
 
 enum-told : tie.Need-enum-told
@@ -30,8 +33,17 @@ enum-known-to c = search needs
 returns-2 : tie.Need-returns-2
 unfolding failRenaming
 returns-2 c = (
-  rw (← c .before .before .before .before .before .before .handle-change .ensures .0, c .before .before .before .enum-told .given .1, ← c .before .before .before .before .before .handle-change2 .ensures .0, c .before .to .given .1),
-  (c .before .before .before .before .before .before .handle-change .ensures .1, subst (ShowableChange _) (c .before .to .given .1) (c .before .before .before .before .before .handle-change2 .ensures .1)),
+  rw (
+    ← c .before .before .before .before .before .before .handle-change .ensures .0,
+    c .before .before .before .enum-told .given .1,
+    ← c .before .before .before .before .before .handle-change2 .ensures .0,
+    c .before .to .given .1,
+  ),
+  (
+    c .before .before .before .before .before .before .handle-change .ensures .1,
+    subst (ShowableChange _) (c .before .to .given .1)
+        (c .before .before .before .before .before .handle-change2 .ensures .1),
+  ),
 )
 
 enum-told-2 : tie.Need-enum-told-2
@@ -39,7 +51,15 @@ enum-told-2 c = search needs
 
 returns-3 : tie.Need-returns-3
 unfolding failRenaming
-returns-3 c = (rw (← c .before .before .before .before .before .handle-change .ensures .0, c .before .before .enum-told .given .1, ← c .before .before .before .before .handle-change2 .ensures .0, c .enum-told2 .given .1), tt)
+returns-3 c = (
+  rw (
+    ← c .before .before .before .before .before .handle-change .ensures .0,
+    c .before .before .enum-told .given .1,
+    ← c .before .before .before .before .handle-change2 .ensures .0,
+    c .enum-told2 .given .1,
+  ),
+  tt,
+)
 
 pub fail-renaming-spec : {M : Type 1} → statement M
 fail-renaming-spec =

@@ -16,7 +16,9 @@ rename-entry-requires c κs =
     let st = c .before .before .before .before .before .before .before .before .before .before .before in
     let a = st .args in
     let fits = st .pre .1 .1 .1 .1 .1 .1 in
-    let k = rename-found (a .store .now) (a .context) (st .pre .0) (st .pre .1 .0) (st .pre .1 .1 .0) (a .call .now) (λ i. c .before .before .before .before .before .before .before .before .before .shared-slice-known .given i .fits) (a .p) (a .q) fits _ _ _ _ (c .before .before .checked .given .1) (c .before .before .before .before .check-rename .ensures) in
+    let k = rename-found (a .store .now) (a .context) (st .pre .0) (st .pre .1 .0) (st .pre .1 .1 .0) (a .call .now)
+    (λ i. c .before .before .before .before .before .before .before .before .before .shared-slice-known .given i .fits) (a .p) (a .q) fits _ _ _
+    _ (c .before .before .checked .given .1) (c .before .before .before .before .check-rename .ensures) in
     (st .pre .1 .0, (k .at, (fits, k .still)))
 
 enum-known-checked-2 : tie.Need-enum-known-checked-2
@@ -30,14 +32,18 @@ same-length c = search needs
 
 returns : tie.Need-returns
 unfolding rename
-returns c = rw (← c .before .before .before .before .before .before .before .check-rename .ensures, c .before .before .before .before .before .checked .given .1) (c .before .before .rename-entry .ensures)
+returns c = rw (
+  ← c .before .before .before .before .before .before .before .check-rename .ensures,
+  c .before .before .before .before .before .checked .given .1,
+) (c .before .before .rename-entry .ensures)
 
 same-length-2 : tie.Need-same-length-2
 same-length-2 c = search needs
 
 returns-2 : tie.Need-returns-2
 unfolding rename
-returns-2 c = rw (← c .before .before .before .before .before .check-rename .ensures, c .before .before .before .checked2 .given .1) (record { result = c .fail-renaming .ensures .0; store = refl; writable = c .fail-renaming .ensures .1 })
+returns-2 c = rw (← c .before .before .before .before .before .check-rename .ensures, c .before .before .before .checked2 .given .1)
+    (record { result = c .fail-renaming .ensures .0; store = refl; writable = c .fail-renaming .ensures .1 })
 
 pub rename-spec : {M : Type 1} → statement M
 rename-spec =

@@ -28,7 +28,11 @@ returns c =
     let a = st .args in
     let e = c .before .before .rename-edit .ensures in
     record {
-      result = ap₂ (λ (x y : Change). renamed OK (some x) (some y)) (change-made (a .store .now) (renameEdit (a .store .now) (a .context) (a .d .0) (a .e .0) (a .n .0) (cut (a .call .now) (a .name))) (c .before .before .rename-edit .last .0) (a .d) _ (c .before .before .before .before .before .before .before2 .ensures) e) (change-made (a .store .now) (renameEdit (a .store .now) (a .context) (a .d .0) (a .e .0) (a .n .0) (cut (a .call .now) (a .name))) (c .before .before .rename-edit .last .0) (a .e) _ (c .before .before .before .before .before3 .ensures) e);
+      result = ap₂ (λ (x y : Change). renamed OK (some x) (some y))
+          (change-made (a .store .now) (renameEdit (a .store .now) (a .context) (a .d .0) (a .e .0) (a .n .0) (cut (a .call .now) (a .name)))
+          (c .before .before .rename-edit .last .0) (a .d) _ (c .before .before .before .before .before .before .before2 .ensures) e)
+          (change-made (a .store .now) (renameEdit (a .store .now) (a .context) (a .d .0) (a .e .0) (a .n .0) (cut (a .call .now) (a .name)))
+          (c .before .before .rename-edit .last .0) (a .e) _ (c .before .before .before .before .before3 .ensures) e);
       store = e;
       writable = (
         still-showable (a .store .now) _ _ (a .d .0) (st .pre .1 .1 .1) (st .pre .1 .0 .directory) e,

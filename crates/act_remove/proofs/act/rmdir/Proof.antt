@@ -15,7 +15,9 @@ remove-entry-requires : tie.Need-remove-entry-requires
 remove-entry-requires c κs =
     let st = c .before .before .before .before .before .before .before .before .before in
     let a = st .args in
-    let k = rmdir-found (a .store .now) (a .context) (st .pre .0) (st .pre .1 .0) (st .pre .1 .1 .0) (a .call .now) (λ i. c .before .before .before .before .before .before .before .shared-slice-known .given i .fits) (a .p) _ _ _ (c .before .before .checked .given .1) (c .before .before .before .before .check-rmdir .ensures) in
+    let k = rmdir-found (a .store .now) (a .context) (st .pre .0) (st .pre .1 .0) (st .pre .1 .1 .0) (a .call .now)
+    (λ i. c .before .before .before .before .before .before .before .shared-slice-known .given i .fits) (a .p) _ _ _
+    (c .before .before .checked .given .1) (c .before .before .before .before .check-rmdir .ensures) in
     (st .pre .1 .0, (k .at, k .still))
 
 enum-known-checked-2 : tie.Need-enum-known-checked-2
@@ -29,14 +31,18 @@ same-length c = search needs
 
 returns : tie.Need-returns
 unfolding rmdir removeFrom
-returns c = rw (← c .before .before .before .before .before .before .before .check-rmdir .ensures, c .before .before .before .before .before .checked .given .1) (c .before .before .remove-entry .ensures)
+returns c = rw (
+  ← c .before .before .before .before .before .before .before .check-rmdir .ensures,
+  c .before .before .before .before .before .checked .given .1,
+) (c .before .before .remove-entry .ensures)
 
 same-length-2 : tie.Need-same-length-2
 same-length-2 c = search needs
 
 returns-2 : tie.Need-returns-2
 unfolding rmdir removeFrom
-returns-2 c = rw (← c .before .before .before .before .before .check-rmdir .ensures, c .before .before .before .checked2 .given .1) (record { result = c .fail-changing .ensures .0; store = refl; writable = c .fail-changing .ensures .1 })
+returns-2 c = rw (← c .before .before .before .before .before .check-rmdir .ensures, c .before .before .before .checked2 .given .1)
+    (record { result = c .fail-changing .ensures .0; store = refl; writable = c .fail-changing .ensures .1 })
 
 pub rmdir-spec : {M : Type 1} → statement M
 rmdir-spec =

@@ -34,11 +34,24 @@ place-requires-2 c κs = search needs
 
 returns-2 : tie.Need-returns-2
 unfolding how
-returns-2 c = rw (c .place2 .ensures, ← c .before .before .before .before .before .before .before .before .choice .ensures, c .before .before .before .before .before .before .answer .given .1, eq-eqb _ _ (c .before .before .before .before .if1 .taken), ← c .before .before .before .long .ensures, c .before .enum-told2 .given .1)
+returns-2 c = rw (
+  c .place2 .ensures,
+  ← c .before .before .before .before .before .before .before .before .choice .ensures,
+  c .before .before .before .before .before .before .answer .given .1,
+  eq-eqb _ _ (c .before .before .before .before .if1 .taken),
+  ← c .before .before .before .long .ensures,
+  c .before .enum-told2 .given .1,
+)
 
 returns-3 : tie.Need-returns-3
 unfolding how
-returns-3 c = rw (← c .before .before .before .before .before .before .before .before .choice .ensures, c .before .before .before .before .before .before .answer .given .1, eq-eqb _ _ (c .before .before .before .before .if1 .taken), ← c .before .before .before .long .ensures, c .before .answer2 .given .1)
+returns-3 c = rw (
+  ← c .before .before .before .before .before .before .before .before .choice .ensures,
+  c .before .before .before .before .before .before .answer .given .1,
+  eq-eqb _ _ (c .before .before .before .before .if1 .taken),
+  ← c .before .before .before .long .ensures,
+  c .before .answer2 .given .1,
+)
 
 settable-requires : tie.Need-settable-requires
 settable-requires c κs = search needs
@@ -54,15 +67,36 @@ place-requires-3 c κs = search needs
 
 returns-4 : tie.Need-returns-4
 unfolding how
-returns-4 c = rw (c .place3 .ensures, ← c .before .before .before .before .before .before .before .before .choice .ensures, c .before .before .before .before .before .before .answer .given .1, ne-eqb _ _ (c .before .before .before .before .if1 .left), ← c .before .before .before .settable .ensures, c .before .enum-told3 .given .1)
+returns-4 c = rw (
+  c .place3 .ensures,
+  ← c .before .before .before .before .before .before .before .before .choice .ensures,
+  c .before .before .before .before .before .before .answer .given .1,
+  ne-eqb _ _ (c .before .before .before .before .if1 .left),
+  ← c .before .before .before .settable .ensures,
+  c .before .enum-told3 .given .1,
+)
 
 returns-5 : tie.Need-returns-5
 unfolding how
-returns-5 c = rw (← c .before .before .before .before .before .before .before .before .before .choice .ensures, c .before .before .before .before .before .before .before .answer .given .1, ne-eqb _ _ (c .before .before .before .before .before .if1 .left), ← c .before .before .before .before .settable .ensures, c .before .before .answer3 .given .1, eq-eqb _ _ (c .if2 .taken))
+returns-5 c = rw (
+  ← c .before .before .before .before .before .before .before .before .before .choice .ensures,
+  c .before .before .before .before .before .before .before .answer .given .1,
+  ne-eqb _ _ (c .before .before .before .before .before .if1 .left),
+  ← c .before .before .before .before .settable .ensures,
+  c .before .before .answer3 .given .1,
+  eq-eqb _ _ (c .if2 .taken),
+)
 
 returns-6 : tie.Need-returns-6
 unfolding how
-returns-6 c = rw (← c .before .before .before .before .before .before .before .before .before .choice .ensures, c .before .before .before .before .before .before .before .answer .given .1, ne-eqb _ _ (c .before .before .before .before .before .if1 .left), ← c .before .before .before .before .settable .ensures, c .before .before .answer3 .given .1, ne-eqb _ _ (c .if2 .left))
+returns-6 c = rw (
+  ← c .before .before .before .before .before .before .before .before .before .choice .ensures,
+  c .before .before .before .before .before .before .before .answer .given .1,
+  ne-eqb _ _ (c .before .before .before .before .before .if1 .left),
+  ← c .before .before .before .before .settable .ensures,
+  c .before .before .answer3 .given .1,
+  ne-eqb _ _ (c .if2 .left),
+)
 
 pub how-spec : {M : Type 1} → statement M
 how-spec =

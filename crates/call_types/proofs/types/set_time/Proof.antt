@@ -26,7 +26,12 @@ returns-2 c = rw (← c .before .before .before .before .choice .ensures, c .bef
 
 returns-3 : tie.Need-returns-3
 unfolding setTime
-returns-3 c = rw (← c .before .before .before .before .before .choice .ensures, c .before .before .before .answer .given .1, ne-eqb _ _ (c .before .if1 .left), eq-eqb _ _ (c .if2 .taken))
+returns-3 c = rw (
+  ← c .before .before .before .before .before .choice .ensures,
+  c .before .before .before .answer .given .1,
+  ne-eqb _ _ (c .before .if1 .left),
+  eq-eqb _ _ (c .if2 .taken),
+)
 
 time-requires : tie.Need-time-requires
 time-requires c κs = search needs
@@ -42,11 +47,26 @@ place-requires-2 c κs = search needs
 
 returns-4 : tie.Need-returns-4
 unfolding setTime
-returns-4 c = rw (c .place2 .ensures, ← c .before .before .before .before .before .before .before .before .before .choice .ensures, c .before .before .before .before .before .before .before .answer .given .1, ne-eqb _ _ (c .before .before .before .before .before .if1 .left), ne-eqb _ _ (c .before .before .before .before .if2 .left), ← c .before .before .before .time .ensures, c .before .enum-told2 .given .1)
+returns-4 c = rw (
+  c .place2 .ensures,
+  ← c .before .before .before .before .before .before .before .before .before .choice .ensures,
+  c .before .before .before .before .before .before .before .answer .given .1,
+  ne-eqb _ _ (c .before .before .before .before .before .if1 .left),
+  ne-eqb _ _ (c .before .before .before .before .if2 .left),
+  ← c .before .before .before .time .ensures,
+  c .before .enum-told2 .given .1,
+)
 
 returns-5 : tie.Need-returns-5
 unfolding setTime
-returns-5 c = rw (← c .before .before .before .before .before .before .before .before .before .choice .ensures, c .before .before .before .before .before .before .before .answer .given .1, ne-eqb _ _ (c .before .before .before .before .before .if1 .left), ne-eqb _ _ (c .before .before .before .before .if2 .left), ← c .before .before .before .time .ensures, c .before .answer2 .given .1)
+returns-5 c = rw (
+  ← c .before .before .before .before .before .before .before .before .before .choice .ensures,
+  c .before .before .before .before .before .before .before .answer .given .1,
+  ne-eqb _ _ (c .before .before .before .before .before .if1 .left),
+  ne-eqb _ _ (c .before .before .before .before .if2 .left),
+  ← c .before .before .before .time .ensures,
+  c .before .answer2 .given .1,
+)
 
 pub set-time-spec : {M : Type 1} → statement M
 set-time-spec =

@@ -33,7 +33,13 @@ place-requires-2 c κs = search needs
 
 returns-2 : tie.Need-returns-2
 unfolding settable
-returns-2 c = rw (c .place2 .ensures, ← c .before .before .before .before .before .before .before .set-number .ensures, c .before .before .before .before .before .answer .given .1, ← c .before .before .before .set-number2 .ensures, c .before .enum-told2 .given .1)
+returns-2 c = rw (
+  c .place2 .ensures,
+  ← c .before .before .before .before .before .before .before .set-number .ensures,
+  c .before .before .before .before .before .answer .given .1,
+  ← c .before .before .before .set-number2 .ensures,
+  c .before .enum-told2 .given .1,
+)
 
 set-number-requires-3 : tie.Need-set-number-requires-3
 set-number-requires-3 c κs = search needs
@@ -49,7 +55,16 @@ place-requires-3 c κs = search needs
 
 returns-3 : tie.Need-returns-3
 unfolding settable
-returns-3 c = rw (c .place3 .ensures, ← c .before .before .before .before .before .before .before .before .before .before .before .set-number .ensures, c .before .before .before .before .before .before .before .before .before .answer .given .1, ← c .before .before .before .before .before .before .before .set-number2 .ensures, c .before .before .before .before .before .answer2 .given .1, ← c .before .before .before .set-number3 .ensures, c .before .enum-told3 .given .1)
+returns-3 c = rw (
+  c .place3 .ensures,
+  ← c .before .before .before .before .before .before .before .before .before .before .before .set-number
+      .ensures,
+  c .before .before .before .before .before .before .before .before .before .answer .given .1,
+  ← c .before .before .before .before .before .before .before .set-number2 .ensures,
+  c .before .before .before .before .before .answer2 .given .1,
+  ← c .before .before .before .set-number3 .ensures,
+  c .before .enum-told3 .given .1,
+)
 
 set-size-requires : tie.Need-set-size-requires
 set-size-requires c κs = search needs
@@ -65,7 +80,19 @@ place-requires-4 c κs = search needs
 
 returns-4 : tie.Need-returns-4
 unfolding settable
-returns-4 c = rw (c .place4 .ensures, ← c .before .before .before .before .before .before .before .before .before .before .before .before .before .before .before .set-number .ensures, c .before .before .before .before .before .before .before .before .before .before .before .before .before .answer .given .1, ← c .before .before .before .before .before .before .before .before .before .before .before .set-number2 .ensures, c .before .before .before .before .before .before .before .before .before .answer2 .given .1, ← c .before .before .before .before .before .before .before .set-number3 .ensures, c .before .before .before .before .before .answer3 .given .1, ← c .before .before .before .set-size .ensures, c .before .enum-told4 .given .1)
+returns-4 c = rw (
+  c .place4 .ensures,
+  ← c .before .before .before .before .before .before .before .before .before .before .before .before .before
+      .before .before .set-number .ensures,
+  c .before .before .before .before .before .before .before .before .before .before .before .before .before
+      .answer .given .1,
+  ← c .before .before .before .before .before .before .before .before .before .before .before .set-number2 .ensures,
+  c .before .before .before .before .before .before .before .before .before .answer2 .given .1,
+  ← c .before .before .before .before .before .before .before .set-number3 .ensures,
+  c .before .before .before .before .before .answer3 .given .1,
+  ← c .before .before .before .set-size .ensures,
+  c .before .enum-told4 .given .1,
+)
 
 set-time-requires : tie.Need-set-time-requires
 set-time-requires c κs = search needs
@@ -81,7 +108,23 @@ place-requires-5 c κs = search needs
 
 returns-5 : tie.Need-returns-5
 unfolding settable
-returns-5 c = rw (c .place5 .ensures, ← c .before .before .before .before .before .before .before .before .before .before .before .before .before .before .before .before .before .before .before .set-number .ensures, c .before .before .before .before .before .before .before .before .before .before .before .before .before .before .before .before .before .answer .given .1, ← c .before .before .before .before .before .before .before .before .before .before .before .before .before .before .before .set-number2 .ensures, c .before .before .before .before .before .before .before .before .before .before .before .before .before .answer2 .given .1, ← c .before .before .before .before .before .before .before .before .before .before .before .set-number3 .ensures, c .before .before .before .before .before .before .before .before .before .answer3 .given .1, ← c .before .before .before .before .before .before .before .set-size .ensures, c .before .before .before .before .before .answer4 .given .1, ← c .before .before .before .set-time .ensures, c .before .enum-told5 .given .1)
+returns-5 c = rw (
+  c .place5 .ensures,
+  ← c .before .before .before .before .before .before .before .before .before .before .before .before .before
+      .before .before .before .before .before .before .set-number .ensures,
+  c .before .before .before .before .before .before .before .before .before .before .before .before .before .before .before .before .before .answer
+      .given .1,
+  ← c .before .before .before .before .before .before .before .before .before .before .before .before .before .before .before
+      .set-number2 .ensures,
+  c .before .before .before .before .before .before .before .before .before .before .before .before .before .answer2 .given
+      .1,
+  ← c .before .before .before .before .before .before .before .before .before .before .before .set-number3 .ensures,
+  c .before .before .before .before .before .before .before .before .before .answer3 .given .1,
+  ← c .before .before .before .before .before .before .before .set-size .ensures,
+  c .before .before .before .before .before .answer4 .given .1,
+  ← c .before .before .before .set-time .ensures,
+  c .before .enum-told5 .given .1,
+)
 
 set-time-requires-2 : tie.Need-set-time-requires-2
 set-time-requires-2 c κs = search needs
@@ -97,11 +140,50 @@ place-requires-6 c κs = search needs
 
 returns-6 : tie.Need-returns-6
 unfolding settable
-returns-6 c = rw (c .place6 .ensures, ← c .before .before .before .before .before .before .before .before .before .before .before .before .before .before .before .before .before .before .before .before .before .before .before .set-number .ensures, c .before .before .before .before .before .before .before .before .before .before .before .before .before .before .before .before .before .before .before .before .before .answer .given .1, ← c .before .before .before .before .before .before .before .before .before .before .before .before .before .before .before .before .before .before .before .set-number2 .ensures, c .before .before .before .before .before .before .before .before .before .before .before .before .before .before .before .before .before .answer2 .given .1, ← c .before .before .before .before .before .before .before .before .before .before .before .before .before .before .before .set-number3 .ensures, c .before .before .before .before .before .before .before .before .before .before .before .before .before .answer3 .given .1, ← c .before .before .before .before .before .before .before .before .before .before .before .set-size .ensures, c .before .before .before .before .before .before .before .before .before .answer4 .given .1, ← c .before .before .before .before .before .before .before .set-time .ensures, c .before .before .before .before .before .answer5 .given .1, ← c .before .before .before .set-time2 .ensures, c .before .enum-told6 .given .1)
+returns-6 c = rw (
+  c .place6 .ensures,
+  ← c .before .before .before .before .before .before .before .before .before .before .before .before .before
+      .before .before .before .before .before .before .before .before .before .before .set-number .ensures,
+  c .before .before .before .before .before .before .before .before .before .before .before .before .before .before .before .before .before .before
+      .before .before .before .answer .given .1,
+  ← c .before .before .before .before .before .before .before .before .before .before .before .before
+      .before .before .before .before .before .before .before .set-number2 .ensures,
+  c .before .before .before .before .before .before .before .before .before .before .before .before .before .before .before .before .before
+      .answer2 .given .1,
+  ← c .before .before .before .before .before .before .before .before .before .before .before .before .before .before .before
+      .set-number3 .ensures,
+  c .before .before .before .before .before .before .before .before .before .before .before .before .before .answer3 .given
+      .1,
+  ← c .before .before .before .before .before .before .before .before .before .before .before .set-size .ensures,
+  c .before .before .before .before .before .before .before .before .before .answer4 .given .1,
+  ← c .before .before .before .before .before .before .before .set-time .ensures,
+  c .before .before .before .before .before .answer5 .given .1,
+  ← c .before .before .before .set-time2 .ensures,
+  c .before .enum-told6 .given .1,
+)
 
 returns-7 : tie.Need-returns-7
 unfolding settable
-returns-7 c = rw (← c .before .before .before .before .before .before .before .before .before .before .before .before .before .before .before .before .before .before .before .before .before .before .before .set-number .ensures, c .before .before .before .before .before .before .before .before .before .before .before .before .before .before .before .before .before .before .before .before .before .answer .given .1, ← c .before .before .before .before .before .before .before .before .before .before .before .before .before .before .before .before .before .before .before .set-number2 .ensures, c .before .before .before .before .before .before .before .before .before .before .before .before .before .before .before .before .before .answer2 .given .1, ← c .before .before .before .before .before .before .before .before .before .before .before .before .before .before .before .set-number3 .ensures, c .before .before .before .before .before .before .before .before .before .before .before .before .before .answer3 .given .1, ← c .before .before .before .before .before .before .before .before .before .before .before .set-size .ensures, c .before .before .before .before .before .before .before .before .before .answer4 .given .1, ← c .before .before .before .before .before .before .before .set-time .ensures, c .before .before .before .before .before .answer5 .given .1, ← c .before .before .before .set-time2 .ensures, c .before .answer6 .given .1)
+returns-7 c = rw (
+  ← c .before .before .before .before .before .before .before .before .before .before .before .before .before .before .before .before
+      .before .before .before .before .before .before .before .set-number .ensures,
+  c .before .before .before .before .before .before .before .before .before .before .before .before .before .before .before .before .before .before
+      .before .before .before .answer .given .1,
+  ← c .before .before .before .before .before .before .before .before .before .before .before .before
+      .before .before .before .before .before .before .before .set-number2 .ensures,
+  c .before .before .before .before .before .before .before .before .before .before .before .before .before .before .before .before .before
+      .answer2 .given .1,
+  ← c .before .before .before .before .before .before .before .before .before .before .before .before .before .before .before
+      .set-number3 .ensures,
+  c .before .before .before .before .before .before .before .before .before .before .before .before .before .answer3 .given
+      .1,
+  ← c .before .before .before .before .before .before .before .before .before .before .before .set-size .ensures,
+  c .before .before .before .before .before .before .before .before .before .answer4 .given .1,
+  ← c .before .before .before .before .before .before .before .set-time .ensures,
+  c .before .before .before .before .before .answer5 .given .1,
+  ← c .before .before .before .set-time2 .ensures,
+  c .before .answer6 .given .1,
+)
 
 pub settable-spec : {M : Type 1} → statement M
 settable-spec =

@@ -28,7 +28,8 @@ unfolding failChanging change
 returns-2 c =
     let st = c .before .before .before .before .before .before .before in (
       rw (c .unchanged .ensures, ← c .before .before .before .before .reach .ensures, c .before .before .answer .given .1),
-      rw (c .unchanged .ensures) (object-showable _ _ _ _ (c .before .before .answer .given .1) (st .pre .0) (c .before .before .before .before .reach .ensures)),
+      rw (c .unchanged .ensures) (object-showable _ _ _ _ (c .before .before .answer .given .1) (st .pre .0)
+          (c .before .before .before .before .reach .ensures)),
     )
 
 pub fail-changing-spec : {M : Type 1} → statement M

@@ -89,7 +89,8 @@ returns-5 : tie.Need-returns-5
 unfolding reach
 returns-5 c =
     let st = c .before .before .before .before .before .before .before .before .before .before .before .before .before .before in
-    let h = handle-read (st .args .call .now) (st .args .h) (st .pre .1) (c .before .before .before .before .before .before .before .before .before .before .before .if1 .left) in
+    let h = handle-read (st .args .call .now) (st .args .h) (st .pre .1)
+    (c .before .before .before .before .before .before .before .before .before .before .before .if1 .left) in
     rw (
       h .long,
       h .object,
@@ -112,7 +113,8 @@ returns-6 : tie.Need-returns-6
 unfolding reach
 returns-6 c =
     let st = c .before .before .before .before .before .before .before .before .before .before .before .before .before .before in
-    let h = handle-read (st .args .call .now) (st .args .h) (st .pre .1) (c .before .before .before .before .before .before .before .before .before .before .before .if1 .left) in
+    let h = handle-read (st .args .call .now) (st .args .h) (st .pre .1)
+    (c .before .before .before .before .before .before .before .before .before .before .before .if1 .left) in
     rw (
       h .long,
       h .object,

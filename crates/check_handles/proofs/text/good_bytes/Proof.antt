@@ -44,8 +44,11 @@ loop-less c = search needs
 loop-again : tie.Need-loop-again Inv-loop μ-loop
 loop-again c =
     let st = c .before .before .before .before .before .before in
-    let l = c .before .before .before .before .loop in
-    (omega arith, good-more (st .args .call .now) (st .args .at) (l .i) (omega arith) (l .inv .1) (sym (c .before .good-byte .ensures) ∙ not-false _ (c .if1 .left)))
+    let l = c .before .before .before .before .loop in (
+      omega arith,
+      good-more (st .args .call .now) (st .args .at) (l .i) (omega arith) (l .inv .1)
+          (sym (c .before .good-byte .ensures) ∙ not-false _ (c .if1 .left)),
+    )
 
 returns-2 : tie.Need-returns-2 Inv-loop μ-loop
 returns-2 c =

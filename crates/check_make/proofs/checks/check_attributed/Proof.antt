@@ -35,7 +35,9 @@ returns c =
 check-target-requires : tie.Need-check-target-requires
 check-target-requires c κs =
     let st = c .before .before .before .before .before .before in
-    let good = new-valid (st .args .store .now) (st .args .d .0) (cut (st .args .call .now) (st .args .name)) (c .before .before .before .bad-attributes .result) (sym (c .before .before .check-new .ensures (st .args .store .now) (st .args .d .0)) ∙ ap textOf (c .enum-told .given .1)) in
+    let good = new-valid (st .args .store .now) (st .args .d .0) (cut (st .args .call .now) (st .args .name))
+    (c .before .before .before .bad-attributes .result)
+    (sym (c .before .before .check-new .ensures (st .args .store .now) (st .args .d .0)) ∙ ap textOf (c .enum-told .given .1)) in
     (st .pre .0, (st .pre .1 .0, (st .pre .1 .1, valid-size (st .args .a) (sym (c .before .before .before .bad-attributes .ensures) ∙ good))))
 
 returns-2 : tie.Need-returns-2

@@ -18,7 +18,8 @@ resizing : (c : tie.After-need2) → let v = c .before .before .before .before i
     Resizing (a .store .now) (a .o .0) (a .size) (v .load-object .result) (c .before .need .result) (c .need2 .result)
 resizing c = loaded (c .before .before .before .before) (c .before .need .result) (c .need2 .result) (c .before .need .ensures) (c .need2 .ensures)
 
-larger : (c : tie.After-need2) → c .before .before .before .before .load-object .result .size ≤ c .before .before .before .before .before .before .before .args .size
+larger : (c : tie.After-need2) → c .before .before .before .before .load-object .result .size
+    ≤ c .before .before .before .before .before .before .before .args .size
 larger c = omega (arith, c .before .before .before .before .before .before .before .pre .1 .1 .1 .1 .0, old-size (resizing c))
 
 load-object-requires : tie.Need-load-object-requires
@@ -67,11 +68,22 @@ clear-blocks-requires c κs =
 
 resized-blocks-requires : tie.Need-resized-blocks-requires
 resized-blocks-requires c κs =
-    let r = resizing (c .before .before .before .before .before .before .before .before .before .before) in
-    (omega (arith, r .had, old-small r), omega (arith, r .gets, c .before .before .before .before .before .before .before .before .before .before .before .before .before .before .before .before .before .pre .1 .1 .1 .1 .1 .0))
+    let r = resizing (c .before .before .before .before .before .before .before .before .before .before) in (
+      omega (arith, r .had, old-small r),
+      omega (
+        arith,
+        r .gets,
+        c .before .before .before .before .before .before .before .before .before .before .before .before .before .before .before .before .before
+            .pre .1 .1 .1 .1 .1 .0,
+      ),
+    )
 
 cast-with-size : tie.Need-cast-with-size
-cast-with-size c = omega (arith, c .before .before .before .before .before .before .before .before .before .before .before .before .before .before .before .before .before .before .before .pre .1 .1 .1 .1 .1 .0)
+cast-with-size c = omega (
+  arith,
+  c .before .before .before .before .before .before .before .before .before .before .before .before .before .before
+      .before .before .before .before .before .pre .1 .1 .1 .1 .1 .0,
+)
 
 with-size-requires : tie.Need-with-size-requires
 with-size-requires c κs = search needs
@@ -94,7 +106,8 @@ returns c =
     let t = u .before .before .before .before in
     let added = t .before .before in
     let n = added .before .before in
-    grown (resizing n) (larger n) (n .before .before .before .before .before .before .before .pre .1 .1 .1 .1 .1 .1) (added .free-blocks .result) (added .free-blocks .ensures)
+    grown (resizing n) (larger n) (n .before .before .before .before .before .before .before .pre .1 .1 .1 .1 .1 .1) (added .free-blocks .result)
+    (added .free-blocks .ensures)
     (t .clear-tail .last .0) (u .clear-blocks .last .0) (z .save-object .last .0) (numbers .resized-blocks .result) (w .with-size .result)
     (t .clear-tail .ensures) (u .clear-blocks .ensures) (numbers .resized-blocks .ensures) (w .with-size .ensures) (z .save-object .ensures)
 

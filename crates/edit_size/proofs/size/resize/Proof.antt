@@ -22,7 +22,8 @@ returns c =
     let s = st .args .store .now in
     let o = st .args .o .0 in
     let same : st .args .size ≡ sizeOf s o = omega (arith, c .if1 .taken, c .before .size-of .ensures) in
-    sym (ap (resize s o) same ∙ resize-same s o (st .pre .0) (st .pre .1 .1 .0) (st .pre .1 .1 .1 .0) (λ k. c .before .before .before .slice-known .given k .fits))
+    sym (ap (resize s o) same ∙ resize-same s o (st .pre .0) (st .pre .1 .1 .0) (st .pre .1 .1 .1 .0)
+    (λ k. c .before .before .before .slice-known .given k .fits))
 
 shrink-requires : tie.Need-shrink-requires
 shrink-requires c κs =
@@ -37,8 +38,19 @@ returns-2 c = c .before .before .shrink .ensures
 
 grow-requires : tie.Need-grow-requires
 grow-requires c κs =
-    let p = c .before .before .before .before .before .before .pre in
-    (p .0, (p .1 .0, (p .1 .1 .0, (p .1 .1 .1 .0, (omega (arith, c .before .before .before .size-of .ensures, c .before .if2 .left), (p .1 .1 .1 .1 .0, p .1 .1 .1 .1 .1))))))
+    let p = c .before .before .before .before .before .before .pre in (
+      p .0,
+      (
+        p .1 .0,
+        (
+          p .1 .1 .0,
+          (
+            p .1 .1 .1 .0,
+            (omega (arith, c .before .before .before .size-of .ensures, c .before .if2 .left), (p .1 .1 .1 .1 .0, p .1 .1 .1 .1 .1)),
+          ),
+        ),
+      ),
+    )
 
 same-length-3 : tie.Need-same-length-3
 same-length-3 c = search needs

@@ -58,8 +58,10 @@ loop-again c =
       l .inv .2,
       ⊎-elim (λ w. rw (w .1) (simp length-set (l .inv .3))) (λ w. rw (w .1) (simp length-set (l .inv .3))) (c .if1 .came),
       ⊎-elim
-          (λ w. w .1 ∙ own-next (a .t1) (a .t2) (a .before) (a .after) (st .pre .0) (st .pre .1) (l .inv .1) (l .inv .2) (l .k) (l .numbers) (omega arith) (w .0 .taken) (l .inv .4))
-          (λ w. w .1 ∙ added-next (a .t1) (a .t2) (a .before) (a .after) (st .pre .0) (st .pre .1) (l .inv .1) (l .inv .2) (l .k) (l .numbers) (omega arith) (w .0 .left) (l .inv .4))
+          (λ w. w .1 ∙ own-next (a .t1) (a .t2) (a .before) (a .after) (st .pre .0) (st .pre .1) (l .inv .1) (l .inv .2) (l .k) (l .numbers)
+          (omega arith) (w .0 .taken) (l .inv .4))
+          (λ w. w .1 ∙ added-next (a .t1) (a .t2) (a .before) (a .after) (st .pre .0) (st .pre .1) (l .inv .1) (l .inv .2) (l .k) (l .numbers)
+          (omega arith) (w .0 .left) (l .inv .4))
           (c .if1 .came),
     )
 

@@ -18,7 +18,8 @@ resizing : (c : tie.After-need2) → let v = c .before .before .before .before i
     Resizing (a .store .now) (a .o .0) (a .size) (v .load-object .result) (c .before .need .result) (c .need2 .result)
 resizing c = loaded (c .before .before .before .before) (c .before .need .result) (c .need2 .result) (c .before .need .ensures) (c .need2 .ensures)
 
-smaller : (c : tie.After-need2) → c .before .before .before .before .before .before .before .args .size ≤ c .before .before .before .before .load-object .result .size
+smaller : (c : tie.After-need2) → c .before .before .before .before .before .before .before .args .size
+    ≤ c .before .before .before .before .load-object .result .size
 smaller c = omega (arith, c .before .before .before .before .before .before .before .pre .1 .1 .1, old-size (resizing c))
 
 load-object-requires : tie.Need-load-object-requires
@@ -81,7 +82,8 @@ returns c =
     let u = numbers .before .before .before in
     let t = u .before .before .before .before in
     let n = t .before .before in
-    shrunk (resizing n) (smaller n) (t .clear-tail .last .0) (u .clear-blocks .last .0) (z .save-object .last .0) (numbers .resized-blocks .result) (w .with-size .result)
+    shrunk (resizing n) (smaller n) (t .clear-tail .last .0) (u .clear-blocks .last .0) (z .save-object .last .0) (numbers .resized-blocks .result)
+    (w .with-size .result)
     (t .clear-tail .ensures) (u .clear-blocks .ensures) (numbers .resized-blocks .ensures) (w .with-size .ensures) (z .save-object .ensures)
 
 pub shrink-spec : {M : Type 1} → statement M

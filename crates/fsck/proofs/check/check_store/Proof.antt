@@ -30,7 +30,8 @@ kind-of-requires c κs =
     omega (arith, t .least, t .long)
 
 returns-2 : tie.Need-returns-2
-returns-2 c = checked-bad (c .before .before .before .before .before .before .before .args .store .now) _ _ (root-no (c .before .before .before .before .before .before .before .args .store .now) (λ e. c .if1 .taken (c .before .kind-of .ensures ∙ e)))
+returns-2 c = checked-bad (c .before .before .before .before .before .before .before .args .store .now) _ _
+    (root-no (c .before .before .before .before .before .before .before .args .store .now) (λ e. c .if1 .taken (c .before .kind-of .ensures ∙ e)))
 
 inside-map-requires : tie.Need-inside-map-requires
 inside-map-requires c κs = search needs
@@ -39,29 +40,56 @@ objects-pass-requires : tie.Need-objects-pass-requires
 objects-pass-requires c κs =
     let s = c .before .before .before .before .before .before .before .before .before .before .args .store .now in
     let k = c .before .before .before .before .before .before .found .given .0 .0 in
-    let y = shape-yes s k (sym (c .before .before .before .before .before .before .before .before .shape .ensures) ∙ c .before .before .before .before .before .before .found .given .1) in
-    (y .0, (c .before .before .inside-map .ensures, (ap (λ (x : Counts). x .objects) (y .1), (ap (λ (x : Counts). x .blocks) (y .1), c .before .before .before .before .before .before .before .before .before .before .pre .0))))
+    let y = shape-yes s k (sym (c .before .before .before .before .before .before .before .before .shape .ensures) ∙
+    c .before .before .before .before .before .before .found .given .1) in (
+      y .0,
+      (
+        c .before .before .inside-map .ensures,
+        (
+          ap (λ (x : Counts). x .objects) (y .1),
+          (ap (λ (x : Counts). x .blocks) (y .1), c .before .before .before .before .before .before .before .before .before .before .pre .0),
+        ),
+      ),
+    )
 
 returns-3 : tie.Need-returns-3
-returns-3 c = checked-bad (c .before .before .before .before .before .before .before .before .before .before .before .before .args .store .now) _ _ (c .before .objects-pass .ensures .no (not-true _ (c .if2 .taken)))
+returns-3 c = checked-bad (c .before .before .before .before .before .before .before .before .before .before .before .before .args .store .now) _ _
+    (c .before .objects-pass .ensures .no (not-true _ (c .if2 .taken)))
 
 names-and-tree-requires : tie.Need-names-and-tree-requires
 names-and-tree-requires c κs =
     let s = c .before .before .before .before .before .before .before .before .before .before .before .before .before .before .args .store .now in
     let k = c .before .before .before .before .before .before .before .before .before .before .found .given .0 .0 in
-    let y = shape-yes s k (sym (c .before .before .before .before .before .before .before .before .before .before .before .before .shape .ensures) ∙ c .before .before .before .before .before .before .before .before .before .before .found .given .1) in
-    (y .0, (ap (λ (x : Counts). x .objects) (y .1), (ap (λ (x : Counts). x .names) (y .1), (c .before .before .before .before .before .before .inside-map .ensures, c .before .before .before .before .before .before .before .before .before .before .before .before .before .before .pre .1))))
+    let y = shape-yes s k (sym (c .before .before .before .before .before .before .before .before .before .before .before .before .shape .ensures) ∙
+    c .before .before .before .before .before .before .before .before .before .before .found .given .1) in (
+      y .0,
+      (
+        ap (λ (x : Counts). x .objects) (y .1),
+        (
+          ap (λ (x : Counts). x .names) (y .1),
+          (
+            c .before .before .before .before .before .before .inside-map .ensures,
+            c .before .before .before .before .before .before .before .before .before .before .before .before .before .before .pre .1,
+          ),
+        ),
+      ),
+    )
 
 returns-4 : tie.Need-returns-4
-returns-4 c = checked-bad (c .before .before .before .before .before .before .before .before .before .before .before .before .before .before .before .before .args .store .now) _ _ (c .before .names-and-tree .ensures .no (not-true _ (c .if3 .taken)))
+returns-4 c = checked-bad (c .before .before .before .before .before .before .before .before .before .before .before .before .before .before .before
+    .before .args .store .now) _ _ (c .before .names-and-tree .ensures .no (not-true _ (c .if3 .taken)))
 
 returns-5 : tie.Need-returns-5
 returns-5 c =
-    let s = c .before .before .before .before .before .before .before .before .before .before .before .before .before .before .before .before .args .store .now in
+    let s = c .before .before .before .before .before .before .before .before .before .before .before .before .before .before .before .before .args
+    .store .now in
     let k = c .before .before .before .before .before .before .before .before .before .before .before .before .found .given .0 .0 in
-    let y = shape-yes s k (sym (c .before .before .before .before .before .before .before .before .before .before .before .before .before .before .shape .ensures) ∙ c .before .before .before .before .before .before .before .before .before .before .before .before .found .given .1) in
-    let g = root-yes s (sym (c .before .before .before .before .before .before .before .before .before .before .kind-of .ensures) ∙ c .before .before .before .before .before .before .before .before .before .if1 .left) in
-    let o = rw (ap (λ (x : Counts). x .objects) (y .1)) at (c .before .before .before .before .before .objects-pass .ensures .yes (not-false _ (c .before .before .before .before .if2 .left))) in
+    let y = shape-yes s k (sym (c .before .before .before .before .before .before .before .before .before .before .before .before .before .before
+    .shape .ensures) ∙ c .before .before .before .before .before .before .before .before .before .before .before .before .found .given .1) in
+    let g = root-yes s (sym (c .before .before .before .before .before .before .before .before .before .before .kind-of .ensures) ∙
+    c .before .before .before .before .before .before .before .before .before .if1 .left) in
+    let o = rw (ap (λ (x : Counts). x .objects) (y .1)) at
+    (c .before .before .before .before .before .objects-pass .ensures .yes (not-false _ (c .before .before .before .before .if2 .left))) in
     checked-good s k _ _ (y .0) (y .1) g o (c .before .names-and-tree .ensures .yes (not-false _ (c .if3 .left)))
 
 pub check-store-spec : {M : Type 1} → statement M

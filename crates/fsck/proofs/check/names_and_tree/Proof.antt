@@ -25,7 +25,11 @@ returns-2 c =
     let st = c .before .before .before .before .before .before .before .before .before in
     let s = st .args .store .now in
     let f = rw (st .pre .1 .1 .0) at (c .before .before .before .before .names-pass .ensures .yes (not-false _ (c .before .before .before .if1 .left))) in
-    record { yes = λ e. rest-by s (st .args .p) _ _ _ _ (st .pre .0) (st .pre .1 .0) f (c .tree-passes .ensures .yes e); no = λ e. c .tree-passes .ensures .no e }
+    record {
+      yes = λ e. rest-by s (st .args .p) _ _ _ _ (st .pre .0) (st .pre .1 .0) f (c .tree-passes .ensures .yes e);
+      no =
+          λ e. c .tree-passes .ensures .no e;
+    }
 
 pub names-and-tree-spec : {M : Type 1} → statement M
 names-and-tree-spec =

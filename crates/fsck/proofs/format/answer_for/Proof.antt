@@ -19,11 +19,22 @@ returns-3 c = rw (lt-ltb _ _ (c .before .before .if1 .left), le-leb _ _ (c .befo
 
 returns-4 : tie.Need-returns-4
 unfolding answerFor goodCounts
-returns-4 c = rw (lt-ltb _ _ (c .before .before .before .if1 .left), le-leb _ _ (c .before .before .if2 .left), le-leb _ _ (c .before .if3 .left), lt-leb _ _ (c .if4 .taken))
+returns-4 c = rw (
+  lt-ltb _ _ (c .before .before .before .if1 .left),
+  le-leb _ _ (c .before .before .if2 .left),
+  le-leb _ _ (c .before .if3 .left),
+  lt-leb _ _ (c .if4 .taken),
+)
 
 returns-5 : tie.Need-returns-5
 unfolding answerFor goodCounts
-returns-5 c = rw (lt-ltb _ _ (c .before .before .before .before .if1 .left), le-leb _ _ (c .before .before .before .if2 .left), le-leb _ _ (c .before .before .if3 .left), le-leb _ _ (c .before .if4 .left), lt-leb _ _ (c .if5 .taken))
+returns-5 c = rw (
+  lt-ltb _ _ (c .before .before .before .before .if1 .left),
+  le-leb _ _ (c .before .before .before .if2 .left),
+  le-leb _ _ (c .before .before .if3 .left),
+  le-leb _ _ (c .before .if4 .left),
+  lt-leb _ _ (c .if5 .taken),
+)
 
 mul-if6 : tie.Need-mul-if6
 mul-if6 c = search needs
@@ -45,11 +56,25 @@ add-if6-3 c = search needs
 
 returns-6 : tie.Need-returns-6
 unfolding answerFor goodCounts
-returns-6 c = rw (lt-ltb _ _ (c .before .before .before .before .before .if1 .left), le-leb _ _ (c .before .before .before .before .if2 .left), le-leb _ _ (c .before .before .before .if3 .left), le-leb _ _ (c .before .before .if4 .left), le-leb _ _ (c .before .if5 .left), ne-eqb _ _ (c .if6 .taken))
+returns-6 c = rw (
+  lt-ltb _ _ (c .before .before .before .before .before .if1 .left),
+  le-leb _ _ (c .before .before .before .before .if2 .left),
+  le-leb _ _ (c .before .before .before .if3 .left),
+  le-leb _ _ (c .before .before .if4 .left),
+  le-leb _ _ (c .before .if5 .left),
+  ne-eqb _ _ (c .if6 .taken),
+)
 
 returns-7 : tie.Need-returns-7
 unfolding answerFor goodCounts
-returns-7 c = rw (lt-ltb _ _ (c .before .before .before .before .before .if1 .left), le-leb _ _ (c .before .before .before .before .if2 .left), le-leb _ _ (c .before .before .before .if3 .left), le-leb _ _ (c .before .before .if4 .left), le-leb _ _ (c .before .if5 .left), eq-eqb _ _ (c .if6 .left))
+returns-7 c = rw (
+  lt-ltb _ _ (c .before .before .before .before .before .if1 .left),
+  le-leb _ _ (c .before .before .before .before .if2 .left),
+  le-leb _ _ (c .before .before .before .if3 .left),
+  le-leb _ _ (c .before .before .if4 .left),
+  le-leb _ _ (c .before .if5 .left),
+  eq-eqb _ _ (c .if6 .left),
+)
 
 pub answer-for-spec : {M : Type 1} → statement M
 answer-for-spec =

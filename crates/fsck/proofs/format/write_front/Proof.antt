@@ -29,7 +29,15 @@ same-length c = search needs
 
 returns : tie.Need-returns
 unfolding frontOf
-returns c = rw (c .before .before .clear-bytes .ensures, c .before .before .before .before .before .before .save-object .ensures, c .before .before .before .before .before .before .before .root .ensures, c .before .before .before .before .before .before .before .before .before .before .before .put-u323 .ensures, c .before .before .before .before .before .before .before .before .before .before .before .before .before .before .before .put-u322 .ensures, c .before .before .before .before .before .before .before .before .before .before .before .before .before .before .before .before .before .before .before .put-u32 .ensures)
+returns c = rw (
+  c .before .before .clear-bytes .ensures,
+  c .before .before .before .before .before .before .save-object .ensures,
+  c .before .before .before .before .before .before .before .root .ensures,
+  c .before .before .before .before .before .before .before .before .before .before .before .put-u323 .ensures,
+  c .before .before .before .before .before .before .before .before .before .before .before .before .before .before .before .put-u322 .ensures,
+  c .before .before .before .before .before .before .before .before .before .before .before .before .before .before .before .before .before .before
+      .before .put-u32 .ensures,
+)
 
 pub write-front-spec : {M : Type 1} → statement M
 write-front-spec =

@@ -38,8 +38,11 @@ returns : tie.Need-returns
 returns c =
     let st = c .before .before .before .before .before .before .before .before .before .before .before .before .before in
     let a = st .args in
-    format-run (a .store .now) (c .before .before .before .before .before .before .before .before .before .before .write-front .last .0) (c .before .before .before .before .before .before .put-u32 .last .0) (c .before .before .put-u322 .last .0) (a .stamp) (a .p) (a .q) (a .r) (objectsHead + objectLength * a .p) (objectsHead + objectLength * a .p + 4 + nameRecordLength * a .q) (a .clock)
-    (st .pre .0) (st .pre .1 .1 .1) (c .before .before .before .before .before .before .before .before .before .before .write-front .ensures) refl (omega arith) (c .before .before .before .before .before .before .put-u32 .ensures) (c .before .before .put-u322 .ensures)
+    format-run (a .store .now) (c .before .before .before .before .before .before .before .before .before .before .write-front .last .0)
+    (c .before .before .before .before .before .before .put-u32 .last .0) (c .before .before .put-u322 .last .0) (a .stamp) (a .p) (a .q) (a .r)
+    (objectsHead + objectLength * a .p) (objectsHead + objectLength * a .p + 4 + nameRecordLength * a .q) (a .clock)
+    (st .pre .0) (st .pre .1 .1 .1) (c .before .before .before .before .before .before .before .before .before .before .write-front .ensures) refl
+    (omega arith) (c .before .before .before .before .before .before .put-u32 .ensures) (c .before .before .put-u322 .ensures)
 
 pub write-store-spec : {M : Type 1} → statement M
 write-store-spec =

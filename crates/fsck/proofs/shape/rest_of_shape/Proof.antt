@@ -58,8 +58,10 @@ returns-3 : tie.Need-returns-3
 returns-3 c =
     let st = c .before .before .before .before .before .before in
     let s = st .args .store .now in
-    let q : c .before .before .before .before .get-u32 .result ≡ names s = c .before .before .before .before .get-u32 .ensures ∙ names-are s (st .args .objects) (st .pre .count) in
-    let r : c .before .get-u322 .result ≡ blocks s = c .before .get-u322 .ensures ∙ blocks-are s (st .args .objects) (c .before .before .before .before .get-u32 .result) _ (st .pre .count) q (omega arith) in
+    let q : c .before .before .before .before .get-u32 .result ≡ names s = c .before .before .before .before .get-u32 .ensures ∙ names-are s
+    (st .args .objects) (st .pre .count) in
+    let r : c .before .get-u322 .result ≡ blocks s = c .before .get-u322 .ensures ∙ blocks-are s (st .args .objects)
+    (c .before .before .before .before .get-u32 .result) _ (st .pre .count) q (omega arith) in
     shape-bad s (λ (t : Shaped s). omega (arith, t .few-blocks))
 
 mul-if4 : tie.Need-mul-if4
@@ -72,16 +74,20 @@ returns-4 : tie.Need-returns-4
 returns-4 c =
     let st = c .before .before .before .before .before .before .before in
     let s = st .args .store .now in
-    let q : c .before .before .before .before .before .get-u32 .result ≡ names s = c .before .before .before .before .before .get-u32 .ensures ∙ names-are s (st .args .objects) (st .pre .count) in
-    let r : c .before .before .get-u322 .result ≡ blocks s = c .before .before .get-u322 .ensures ∙ blocks-are s (st .args .objects) (c .before .before .before .before .before .get-u32 .result) _ (st .pre .count) q (omega arith) in
+    let q : c .before .before .before .before .before .get-u32 .result ≡ names s = c .before .before .before .before .before .get-u32 .ensures ∙
+    names-are s (st .args .objects) (st .pre .count) in
+    let r : c .before .before .get-u322 .result ≡ blocks s = c .before .before .get-u322 .ensures ∙ blocks-are s (st .args .objects)
+    (c .before .before .before .before .before .get-u32 .result) _ (st .pre .count) q (omega arith) in
     shape-bad s (λ (t : Shaped s). c .if4 .taken (omega (arith, t .long)))
 
 returns-5 : tie.Need-returns-5
 returns-5 c =
     let st = c .before .before .before .before .before .before .before in
     let s = st .args .store .now in
-    let q : c .before .before .before .before .before .get-u32 .result ≡ names s = c .before .before .before .before .before .get-u32 .ensures ∙ names-are s (st .args .objects) (st .pre .count) in
-    let r : c .before .before .get-u322 .result ≡ blocks s = c .before .before .get-u322 .ensures ∙ blocks-are s (st .args .objects) (c .before .before .before .before .before .get-u32 .result) _ (st .pre .count) q (omega arith) in
+    let q : c .before .before .before .before .before .get-u32 .result ≡ names s = c .before .before .before .before .before .get-u32 .ensures ∙
+    names-are s (st .args .objects) (st .pre .count) in
+    let r : c .before .before .get-u322 .result ≡ blocks s = c .before .before .get-u322 .ensures ∙ blocks-are s (st .args .objects)
+    (c .before .before .before .before .before .get-u32 .result) _ (st .pre .count) q (omega arith) in
     shape-counts s (st .args .objects) (c .before .before .before .before .before .get-u32 .result) (c .before .before .get-u322 .result) (st .pre .count) q r
     (record { one = st .pre .one; least = omega arith; few = omega arith; few-names = omega arith; few-blocks = omega arith; long = omega arith })
 

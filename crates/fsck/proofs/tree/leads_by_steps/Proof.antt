@@ -45,7 +45,8 @@ returns-2 c =
             named = named-free s (st .pre .0) (a .parents .now) (st .pre .1 .1 .0) (a .o) z f;
             leads = leads-free s (a .o) f;
           };
-      no = λ e. unnamed-fails s (st .pre .0) (a .parents .now) (st .pre .1 .1 .0) (a .o) h z (live-yes s (a .o) (λ q. true-false (sym (eq-eqb _ 0 (k ∙ q)) ∙ e))) (c .before .if2 .taken);
+      no = λ e. unnamed-fails s (st .pre .0) (a .parents .now) (st .pre .1 .1 .0) (a .o) h z
+          (live-yes s (a .o) (λ q. true-false (sym (eq-eqb _ 0 (k ∙ q)) ∙ e))) (c .before .if2 .taken);
     }
 
 steps-requires : tie.Need-steps-requires
@@ -63,7 +64,8 @@ returns-3 c =
     let s = a .store .now in
     let h = below-p (a .o) (a .p) _ (st .pre .1 .0) (st .pre .1 .1 .1 .1) in
     told-false (by-bool (isLive s (a .o))
-    (λ v. fails-leads s (a .o) h (leads-no s (a .o) v (λ e. c .before .steps .ensures .lost (c .if3 .taken) (ap (λ (n : ℕ). above s n (a .o)) (st .pre .1 .0) ∙ e))))
+    (λ v. fails-leads s (a .o) h (leads-no s (a .o) v
+    (λ e. c .before .steps .ensures .lost (c .if3 .taken) (ap (λ (n : ℕ). above s n (a .o)) (st .pre .1 .0) ∙ e))))
     (marked-free-fails s (st .pre .0) (a .parents .now) (st .pre .1 .1 .0) (a .o) h (c .before .before .before .if2 .left)))
 
 note-steps-requires : tie.Need-note-steps-requires
@@ -85,7 +87,8 @@ returns-4 c =
     let e = depth-most s (a .p) (a .parents .now) m (a .o) (c .before .before .before .steps .result) d (c .before .before .if3 .left) in
     told-true (record {
       known = c .note-steps .ensures;
-      named = named-live s (st .pre .0) (a .parents .now) (st .pre .1 .1 .0) (a .o) h (c .before .before .before .before .before .before .before .if1 .left) (c .before .before .before .before .before .if2 .left);
+      named = named-live s (st .pre .0) (a .parents .now) (st .pre .1 .1 .0) (a .o) h
+          (c .before .before .before .before .before .before .before .if1 .left) (c .before .before .before .before .before .if2 .left);
       leads = leads-yes s (a .o) (ap (λ (n : ℕ). above s n (a .o)) (sym (st .pre .1 .0)) ∙ e);
     })
 

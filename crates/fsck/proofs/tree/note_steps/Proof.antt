@@ -35,7 +35,8 @@ sub-d c =
     let l = c .before .before .before in
     let st = c .before .before .before .before .before in
     let a = st .args in
-    let z = note-not-zero (a .store .now) (a .p) (a .parents .now) (st .pre .0) (l .loop .depths) (l .loop .at) (l .loop .d) (l .loop .inv) (c .before .if1 .taken) in
+    let z = note-not-zero (a .store .now) (a .p) (a .parents .now) (st .pre .0) (l .loop .depths) (l .loop .at) (l .loop .d) (l .loop .inv)
+    (c .before .if1 .taken) in
     positive (l .loop .d) z
 
 loop-less : tie.Need-loop-less Inv-loop μ-loop
@@ -43,7 +44,8 @@ loop-less c =
     let l = c .before .before .before in
     let st = c .before .before .before .before .before in
     let a = st .args in
-    let z = note-not-zero (a .store .now) (a .p) (a .parents .now) (st .pre .0) (l .loop .depths) (l .loop .at) (l .loop .d) (l .loop .inv) (c .before .if1 .taken) in
+    let z = note-not-zero (a .store .now) (a .p) (a .parents .now) (st .pre .0) (l .loop .depths) (l .loop .at) (l .loop .d) (l .loop .inv)
+    (c .before .if1 .taken) in
     omega (arith, positive (l .loop .d) z)
 
 loop-again : tie.Need-loop-again Inv-loop μ-loop
@@ -51,7 +53,8 @@ loop-again c =
     let l = c .before .before .before in
     let st = c .before .before .before .before .before in
     let a = st .args in
-    note-more (a .store .now) (a .p) (a .parents .now) (st .pre .0) (l .loop .depths) (l .loop .at) (l .loop .d) (c .parent-of .result) (l .loop .inv) (c .before .if1 .taken) (c .parent-of .ensures)
+    note-more (a .store .now) (a .p) (a .parents .now) (st .pre .0) (l .loop .depths) (l .loop .at) (l .loop .d) (c .parent-of .result)
+    (l .loop .inv) (c .before .if1 .taken) (c .parent-of .ensures)
 
 returns : tie.Need-returns Inv-loop μ-loop
 returns c = c .before .before .loop .inv .known

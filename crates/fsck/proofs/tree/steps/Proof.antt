@@ -32,7 +32,8 @@ returns c =
     let l = c .before .before .before .before in
     let st = c .before .before .before .before .before .before in
     let a = st .args in
-    climb-found (a .store .now) (a .p) (a .parents .now) (st .pre .0) (a .depths .now) (st .pre .1 .0) (a .o) (l .loop .at) (l .loop .k) (c .before .index .result) (l .loop .inv) (c .before .index .ensures .0) (c .if1 .taken)
+    climb-found (a .store .now) (a .p) (a .parents .now) (st .pre .0) (a .depths .now) (st .pre .1 .0) (a .o) (l .loop .at) (l .loop .k)
+    (c .before .index .result) (l .loop .inv) (c .before .index .ensures .0) (c .if1 .taken)
 
 parent-of-requires : tie.Need-parent-of-requires Inv-loop μ-loop
 parent-of-requires c κs = search needs
@@ -48,7 +49,9 @@ loop-again c =
     let l = c .before .before .before .before .before in
     let st = c .before .before .before .before .before .before .before in
     let a = st .args in
-    climb-more (a .store .now) (a .p) (a .parents .now) (st .pre .0) (a .depths .now) (st .pre .1 .0) (a .o) (l .loop .at) (l .loop .k) (c .parent-of .result) (omega arith) (l .loop .inv) (sym (c .before .before .index .ensures .0) ∙ c .before .if1 .left) (c .parent-of .ensures)
+    climb-more (a .store .now) (a .p) (a .parents .now) (st .pre .0) (a .depths .now) (st .pre .1 .0) (a .o) (l .loop .at) (l .loop .k)
+    (c .parent-of .result) (omega arith) (l .loop .inv) (sym (c .before .before .index .ensures .0) ∙ c .before .if1 .left)
+    (c .parent-of .ensures)
 
 returns-2 : tie.Need-returns-2 Inv-loop μ-loop
 returns-2 c =

@@ -13,7 +13,8 @@ use Rattle.fsck_blocks.proofs.objects.objects_pass.Statement.{statement
 use Rattle.fsck_blocks.proofs.objects.objects_pass.Tie as tie
 
 abbrev Inv-loop : tie.InvT-loop
-Inv-loop store inside count limit used₀ total₀ o₀ used total o = (o ≤ count) × (total ≡ placesBelow store o) × (total ≤ 16 * o) × MarkedBy store o used × (every o (goodObject store) ≡ true)
+Inv-loop store inside count limit used₀ total₀ o₀ used total o = (o ≤ count) × (total ≡ placesBelow store o) × (total ≤ 16 * o) × MarkedBy store o
+    used × (every o (goodObject store) ≡ true)
 
 abbrev μ-loop : tie.MeasureT-loop
 μ-loop store inside count limit used₀ total₀ o₀ used total o = count - o
@@ -55,8 +56,13 @@ loop-again c =
     let l = c .before .before .before .before .before .before in
     let s = c .before .before .before .before .before .before .before .before .args .store .now in
     let f = c .before .before .before .object-uses .ensures .yes _ (c .before .found .given .1) in
-    let p = places-next s (l .loop .o) _ (f .places) in
-    (omega arith, omega (arith, l .loop .inv .1), omega (arith, f .few, l .loop .inv .2), f .map, every-more (goodObject s) (l .loop .o) (l .loop .inv .4) (f .good))
+    let p = places-next s (l .loop .o) _ (f .places) in (
+      omega arith,
+      omega (arith, l .loop .inv .1),
+      omega (arith, f .few, l .loop .inv .2),
+      f .map,
+      every-more (goodObject s) (l .loop .o) (l .loop .inv .4) (f .good),
+    )
 
 marked-requires : tie.Need-marked-requires Inv-loop μ-loop
 marked-requires c κs =
@@ -70,7 +76,8 @@ returns-2 c =
     let st = c .before .before .before .before .before in
     let s = st .args .store .now in
     let e : l .loop .o ≡ st .args .count = omega arith in
-    told-all s (l .loop .used) (l .loop .total) (c .marked .result) (st .args .count) (st .args .limit) (st .pre .1 .1 .0) (st .pre .1 .1 .1 .0) (rw e at (l .loop .inv .1)) (rw e at (l .loop .inv .3)) (rw e at (l .loop .inv .4)) (c .marked .ensures)
+    told-all s (l .loop .used) (l .loop .total) (c .marked .result) (st .args .count) (st .args .limit) (st .pre .1 .1 .0) (st .pre .1 .1 .1 .0)
+    (rw e at (l .loop .inv .1)) (rw e at (l .loop .inv .3)) (rw e at (l .loop .inv .4)) (c .marked .ensures)
 
 pub objects-pass-spec : {M : Type 1} → statement M
 objects-pass-spec =

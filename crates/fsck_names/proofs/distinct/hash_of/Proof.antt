@@ -58,8 +58,19 @@ add-result c = search needs
 returns : tie.Need-returns
 returns c =
     let st = c .before .before .before .before .before .before .before .before .before .before .before in (
-      hash-by (st .args .store .now) (st .args .p) (st .args .n) (c .before .before .before .before .before .before .before .before .before .name-start .result) (c .before .before .before .before .before .before .before .before .directory-of .result) (c .before .before .before .before .before .before .before .word-at .result) (c .before .before .before .before .before .word-at2 .result) (c .before .before .before .word-at3 .result) (c .before .word-at4 .result) (c .before .before .before .before .before .before .join .result) (c .before .before .before .before .join2 .result) (c .before .before .join3 .result) (c .join4 .result)
-          (st .pre .1 .0) (c .before .before .before .before .before .before .before .before .before .name-start .ensures) (c .before .before .before .before .before .before .before .before .directory-of .ensures) (c .before .before .before .before .before .before .before .word-at .ensures) (c .before .before .before .before .before .word-at2 .ensures) (c .before .before .before .word-at3 .ensures) (c .before .word-at4 .ensures) (c .before .before .before .before .before .before .join .ensures) (c .before .before .before .before .join2 .ensures) (c .before .before .join3 .ensures) (c .join4 .ensures),
+      hash-by (st .args .store .now) (st .args .p) (st .args .n)
+          (c .before .before .before .before .before .before .before .before .before .name-start .result)
+          (c .before .before .before .before .before .before .before .before .directory-of .result)
+          (c .before .before .before .before .before .before .before .word-at .result) (c .before .before .before .before .before .word-at2 .result)
+          (c .before .before .before .word-at3 .result) (c .before .word-at4 .result)
+          (c .before .before .before .before .before .before .join .result) (c .before .before .before .before .join2 .result)
+          (c .before .before .join3 .result) (c .join4 .result)
+          (st .pre .1 .0) (c .before .before .before .before .before .before .before .before .before .name-start .ensures)
+          (c .before .before .before .before .before .before .before .before .directory-of .ensures)
+          (c .before .before .before .before .before .before .before .word-at .ensures)
+          (c .before .before .before .before .before .word-at2 .ensures) (c .before .before .before .word-at3 .ensures)
+          (c .before .word-at4 .ensures) (c .before .before .before .before .before .before .join .ensures)
+          (c .before .before .before .before .join2 .ensures) (c .before .before .join3 .ensures) (c .join4 .ensures),
       omega arith,
     )
 

@@ -22,7 +22,8 @@ index-requires c κs = search needs
 loop-holds : tie.Need-loop-holds Inv-loop μ-loop
 loop-holds c =
     let st = c .before .before .before in
-    walk-start (st .args .store .now) (st .pre .0) (st .args .n) (st .args .h) (st .pre .1 .1 .0) (c .index .result) (c .index .ensures .0 ∙ st .pre .1 .1 .1 .heads (st .args .h) (st .pre .1 .1 .0 .small))
+    walk-start (st .args .store .now) (st .pre .0) (st .args .n) (st .args .h) (st .pre .1 .1 .0) (c .index .result)
+    (c .index .ensures .0 ∙ st .pre .1 .1 .1 .heads (st .args .h) (st .pre .1 .1 .0 .small))
 
 sub-same-name : tie.Need-sub-same-name Inv-loop μ-loop
 sub-same-name c = search needs
@@ -31,8 +32,17 @@ same-name-requires : tie.Need-same-name-requires Inv-loop μ-loop
 same-name-requires c κs =
     let l = c .before in
     let st = c .before .before .before .before .before in
-    let w = st .pre .1 .1 .0 in
-    (st .pre .0, (st .pre .1 .0, (used-before (st .args .store .now) (st .pre .0) (st .args .n) (st .args .h) w (l .loop .k - 1) (omega (arith, l .loop .inv .most)) (l .loop .inv .at (c .loop-test .taken) .0), w .itself)))
+    let w = st .pre .1 .1 .0 in (
+      st .pre .0,
+      (
+        st .pre .1 .0,
+        (
+          used-before (st .args .store .now) (st .pre .0) (st .args .n) (st .args .h) w (l .loop .k - 1)
+              (omega (arith, l .loop .inv .most)) (l .loop .inv .at (c .loop-test .taken) .0),
+          w .itself,
+        ),
+      ),
+    )
 
 sub-index : tie.Need-sub-index Inv-loop μ-loop
 sub-index c = search needs
@@ -47,16 +57,20 @@ loop-less : tie.Need-loop-less Inv-loop μ-loop
 loop-less c =
     let l = c .before .before .before .before in
     let st = c .before .before .before .before .before .before .before .before in
-    walk-less (st .args .store .now) (st .pre .0) (st .args .n) (st .args .h) (st .pre .1 .1 .0) (l .loop .k) (c .index2 .result) (c .before .before .before .loop-test .taken)
-    (c .index2 .ensures .0 ∙ st .pre .1 .1 .1 .nexts (l .loop .k - 1) (omega (arith, l .loop .inv .most)) (l .loop .inv .at (c .before .before .before .loop-test .taken) .0))
+    walk-less (st .args .store .now) (st .pre .0) (st .args .n) (st .args .h) (st .pre .1 .1 .0) (l .loop .k) (c .index2 .result)
+    (c .before .before .before .loop-test .taken)
+    (c .index2 .ensures .0 ∙ st .pre .1 .1 .1 .nexts (l .loop .k - 1) (omega (arith, l .loop .inv .most))
+    (l .loop .inv .at (c .before .before .before .loop-test .taken) .0))
 
 loop-again : tie.Need-loop-again Inv-loop μ-loop
 loop-again c =
     let l = c .before .before .before .before in
     let st = c .before .before .before .before .before .before .before .before in
     rw (c .before .before .same-name .ensures)
-    (walk-step (st .args .store .now) (st .pre .0) (st .args .n) (st .args .h) (st .pre .1 .1 .0) (l .loop .k) (c .index2 .result) (l .loop .found) (c .before .before .before .loop-test .taken) (l .loop .inv)
-    (c .index2 .ensures .0 ∙ st .pre .1 .1 .1 .nexts (l .loop .k - 1) (omega (arith, l .loop .inv .most)) (l .loop .inv .at (c .before .before .before .loop-test .taken) .0)))
+    (walk-step (st .args .store .now) (st .pre .0) (st .args .n) (st .args .h) (st .pre .1 .1 .0) (l .loop .k) (c .index2 .result) (l .loop .found)
+    (c .before .before .before .loop-test .taken) (l .loop .inv)
+    (c .index2 .ensures .0 ∙ st .pre .1 .1 .1 .nexts (l .loop .k - 1) (omega (arith, l .loop .inv .most))
+    (l .loop .inv .at (c .before .before .before .loop-test .taken) .0)))
 
 returns : tie.Need-returns Inv-loop μ-loop
 returns c =

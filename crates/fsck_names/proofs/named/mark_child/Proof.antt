@@ -15,7 +15,8 @@ returns c =
     let st = c .before .before .before in
     let a = st .args in
     let w = used-well (a .store .now) (a .n) (st .pre .0) (st .pre .1 .1 .0) (st .pre .1 .1 .1 .1 .0) in
-    told-false (child-root (a .store .now) (st .pre .0) (a .n) (st .pre .1 .1 .0) (st .pre .1 .1 .1 .0) w (a .parents .now) (st .pre .1 .1 .1 .1 .1) (sym (c .before .child-of .ensures) ∙ c .if1 .taken))
+    told-false (child-root (a .store .now) (st .pre .0) (a .n) (st .pre .1 .1 .0) (st .pre .1 .1 .1 .0) w (a .parents .now) (st .pre .1 .1 .1 .1 .1)
+    (sym (c .before .child-of .ensures) ∙ c .if1 .taken))
 
 element-copy-out-if2 : tie.Need-element-copy-out-if2
 element-copy-out-if2 c =
@@ -29,7 +30,8 @@ returns-2 c =
     let st = c .before .before .before .before .before in
     let a = st .args in
     let w = used-well (a .store .now) (a .n) (st .pre .0) (st .pre .1 .1 .0) (st .pre .1 .1 .1 .1 .0) in
-    told-false (child-twice (a .store .now) (st .pre .0) (a .n) (st .pre .1 .1 .0) (st .pre .1 .1 .1 .0) w (a .parents .now) (st .pre .1 .1 .1 .1 .1) (c .before .before .before .child-of .result) (c .before .before .before .child-of .ensures) (c .before .before .if1 .left) (c .if2 .taken))
+    told-false (child-twice (a .store .now) (st .pre .0) (a .n) (st .pre .1 .1 .0) (st .pre .1 .1 .1 .0) w (a .parents .now) (st .pre .1 .1 .1 .1 .1)
+    (c .before .before .before .child-of .result) (c .before .before .before .child-of .ensures) (c .before .before .if1 .left) (c .if2 .taken))
 
 directory-of-requires : tie.Need-directory-of-requires
 directory-of-requires c κs = search needs
@@ -60,7 +62,9 @@ returns-3 c =
     let st = c .before .before .before .before .before .before in
     let a = st .args in
     let w = used-well (a .store .now) (a .n) (st .pre .0) (st .pre .1 .1 .0) (st .pre .1 .1 .1 .1 .0) in
-    told-true (child-marked (a .store .now) (st .pre .0) (a .n) (st .pre .1 .1 .0) (st .pre .1 .1 .1 .0) w (a .parents .now) (st .pre .1 .1 .1 .1 .1) (c .before .before .before .before .child-of .result) (c .directory-of .result) (c .before .before .before .before .child-of .ensures) (c .directory-of .ensures) (c .before .before .before .if1 .left) (c .before .if2 .left))
+    told-true (child-marked (a .store .now) (st .pre .0) (a .n) (st .pre .1 .1 .0) (st .pre .1 .1 .1 .0) w (a .parents .now) (st .pre .1 .1 .1 .1 .1)
+    (c .before .before .before .before .child-of .result) (c .directory-of .result) (c .before .before .before .before .child-of .ensures)
+    (c .directory-of .ensures) (c .before .before .before .if1 .left) (c .before .if2 .left))
 
 pub mark-child-spec : {M : Type 1} → statement M
 mark-child-spec =

@@ -18,8 +18,11 @@ abbrev μ-loop : tie.MeasureT-loop
 loop-holds : tie.Need-loop-holds Inv-loop μ-loop
 loop-holds c =
     let st = c .before in
-    let a = st .args in
-    (zero-le, names-none (a .store .now) (a .parents .now) (a .head .now) (a .next .now) (st .pre .1 .1 .1 .0) (st .pre .1 .1 .1 .1 .0) (st .pre .1 .1 .1 .1 .1 .0))
+    let a = st .args in (
+      zero-le,
+      names-none (a .store .now) (a .parents .now) (a .head .now) (a .next .now) (st .pre .1 .1 .1 .0) (st .pre .1 .1 .1 .1 .0)
+          (st .pre .1 .1 .1 .1 .1 .0),
+    )
 
 name-passes-requires : tie.Need-name-passes-requires Inv-loop μ-loop
 name-passes-requires c κs =

@@ -15,7 +15,8 @@ returns : tie.Need-returns
 returns c =
     let st = c .before .before .before in
     let a = st .args in
-    let e = used-is (a .store .now) (a .p) (a .n) (a .len) (c .before .name-start .result) (st .pre .1 .0) (st .pre .1 .1 .1 .0) (c .before .name-start .ensures) in
+    let e = used-is (a .store .now) (a .p) (a .n) (a .len) (c .before .name-start .result) (st .pre .1 .0) (st .pre .1 .1 .1 .0)
+    (c .before .name-start .ensures) in
     sym (e ∙ rw (name-long _ (part-long (a .store .now) (c .before .name-start .result + 12) (a .len) (omega arith) (omega arith))))
 
 add-good-text : tie.Need-add-good-text
@@ -30,7 +31,8 @@ returns-2 : tie.Need-returns-2
 returns-2 c =
     let st = c .before .before .before .before .before in
     let a = st .args in
-    let e = used-is (a .store .now) (a .p) (a .n) (a .len) (c .before .before .before .name-start .result) (st .pre .1 .0) (st .pre .1 .1 .1 .0) (c .before .before .before .name-start .ensures) in
+    let e = used-is (a .store .now) (a .p) (a .n) (a .len) (c .before .before .before .name-start .result) (st .pre .1 .0) (st .pre .1 .1 .1 .0)
+    (c .before .before .before .name-start .ensures) in
     sym (e ∙ rw (sym (c .before .good-text .ensures) ∙ not-true _ (c .if2 .taken)))
 
 get-u32-requires : tie.Need-get-u32-requires
@@ -46,7 +48,8 @@ returns-3 : tie.Need-returns-3
 returns-3 c =
     let st = c .before .before .before .before .before .before .before .before in
     let a = st .args in
-    let e = used-is (a .store .now) (a .p) (a .n) (a .len) (c .before .before .before .before .before .before .name-start .result) (st .pre .1 .0) (st .pre .1 .1 .1 .0) (c .before .before .before .before .before .before .name-start .ensures) in
+    let e = used-is (a .store .now) (a .p) (a .n) (a .len) (c .before .before .before .before .before .before .name-start .result) (st .pre .1 .0)
+    (st .pre .1 .1 .1 .0) (c .before .before .before .before .before .before .name-start .ensures) in
     sym (e ∙ rw (
       sym (c .before .before .before .before .good-text .ensures) ∙ not-false _ (c .before .before .before .if2 .left),
       ← c .before .before .get-u32 .ensures,
@@ -69,7 +72,8 @@ returns-4 : tie.Need-returns-4
 returns-4 c =
     let st = c .before .before .before .before .before .before .before .before .before .before in
     let a = st .args in
-    let e = used-is (a .store .now) (a .p) (a .n) (a .len) (c .before .before .before .before .before .before .before .before .name-start .result) (st .pre .1 .0) (st .pre .1 .1 .1 .0) (c .before .before .before .before .before .before .before .before .name-start .ensures) in
+    let e = used-is (a .store .now) (a .p) (a .n) (a .len) (c .before .before .before .before .before .before .before .before .name-start .result)
+    (st .pre .1 .0) (st .pre .1 .1 .1 .0) (c .before .before .before .before .before .before .before .before .name-start .ensures) in
     sym (e ∙ rw (
       sym (c .before .before .before .before .before .before .good-text .ensures) ∙ not-false _ (c .before .before .before .before .before .if2 .left),
       ← c .before .before .before .before .get-u32 .ensures,

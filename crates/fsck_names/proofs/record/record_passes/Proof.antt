@@ -23,7 +23,8 @@ unfolding goodNameRecord
 returns c =
     let st = c .before .before .before .before in
     let a = st .args in
-    c .is-free .ensures ∙ ap (λ (k : ℕ). isZero (part (a .store .now) k nameRecordLength)) (c .before .name-start .ensures ∙ ap (λ (k : ℕ). namesHead + objectLength * k + nameRecordLength * a .n) (st .pre .1 .0))
+    c .is-free .ensures ∙ ap (λ (k : ℕ). isZero (part (a .store .now) k nameRecordLength))
+    (c .before .name-start .ensures ∙ ap (λ (k : ℕ). namesHead + objectLength * k + nameRecordLength * a .n) (st .pre .1 .0))
     ∙ sym (rw (used-no (a .store .now) (a .n) (sym (st .pre .1 .1 .1 .0) ∙ c .before .before .if1 .taken)))
 
 good-used-requires : tie.Need-good-used-requires

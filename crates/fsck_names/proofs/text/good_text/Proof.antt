@@ -14,7 +14,8 @@ returns : tie.Need-returns
 returns c =
     let st = c .before .before .before in
     let a = st .args in
-    sym (text-no (a .s .now) (a .at) (a .n) (st .pre .0) (st .pre .1 .0) (st .pre .1 .1 .0) (sym (c .before .text-passes .ensures) ∙ not-true _ (c .if1 .taken)))
+    sym (text-no (a .s .now) (a .at) (a .n) (st .pre .0) (st .pre .1 .0) (st .pre .1 .1 .0)
+    (sym (c .before .text-passes .ensures) ∙ not-true _ (c .if1 .taken)))
 
 is-dots-requires : tie.Need-is-dots-requires
 is-dots-requires c κs = search needs
@@ -23,7 +24,8 @@ returns-2 : tie.Need-returns-2
 returns-2 c =
     let st = c .before .before .before .before in
     let a = st .args in
-    sym (text-yes (a .s .now) (a .at) (a .n) (st .pre .0) (st .pre .1 .0) (st .pre .1 .1 .0) (c .is-dots .result) (c .is-dots .ensures) (sym (c .before .before .text-passes .ensures) ∙ not-false _ (c .before .if1 .left)))
+    sym (text-yes (a .s .now) (a .at) (a .n) (st .pre .0) (st .pre .1 .0) (st .pre .1 .1 .0) (c .is-dots .result) (c .is-dots .ensures)
+    (sym (c .before .before .text-passes .ensures) ∙ not-false _ (c .before .if1 .left)))
 
 pub good-text-spec : {M : Type 1} → statement M
 good-text-spec =

@@ -36,7 +36,8 @@ same-word-requires-4 c κs = search needs
 returns : tie.Need-returns
 returns c =
     let st = c .before .before .before .before .before in
-    same-quarters (st .args .s .now) (st .args .a) (st .args .b) (st .pre .0) (st .pre .1) _ _ _ _ (c .before .before .before .same-word .ensures) (c .before .before .same-word2 .ensures) (c .before .same-word3 .ensures) (c .same-word4 .ensures)
+    same-quarters (st .args .s .now) (st .args .a) (st .args .b) (st .pre .0) (st .pre .1) _ _ _ _ (c .before .before .before .same-word .ensures)
+    (c .before .before .same-word2 .ensures) (c .before .same-word3 .ensures) (c .same-word4 .ensures)
 
 pub same-text-spec : {M : Type 1} → statement M
 same-text-spec =

@@ -51,7 +51,8 @@ loop-again c =
       omega arith,
       refl,
       text-step (a .inside .now) (st .pre .1 .1) (a .n) (l .loop .i) x (l .loop .other) (st .pre .1 .0) (omega arith)
-          ∙ ap (λ (t : Bool). t && isText (a .s .now) (a .at) (a .n) (l .loop .i)) (l .loop .inv .2) ∙ sym (every-next (isText (a .s .now) (a .at) (a .n)) (l .loop .i)),
+          ∙ ap (λ (t : Bool). t && isText (a .s .now) (a .at) (a .n) (l .loop .i)) (l .loop .inv .2) ∙ sym
+          (every-next (isText (a .s .now) (a .at) (a .n)) (l .loop .i)),
     )
 
 returns : tie.Need-returns Inv-loop μ-loop

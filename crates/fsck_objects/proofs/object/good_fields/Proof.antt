@@ -31,21 +31,41 @@ get-u32-requires-2 c κs = search needs
 
 returns-2 : tie.Need-returns-2
 unfolding goodFields goodTime goodSize goodSizeOf objectAt objectFrom timeAt
-returns-2 c = rw (← c .before .before .before .get-u32 .ensures, lt-ltb _ _ (c .before .before .if1 .left), ← c .before .get-u322 .ensures, lt-leb _ _ (c .if2 .taken))
+returns-2 c = rw (
+  ← c .before .before .before .get-u32 .ensures,
+  lt-ltb _ _ (c .before .before .if1 .left),
+  ← c .before .get-u322 .ensures,
+  lt-leb _ _ (c .if2 .taken),
+)
 
 good-times-requires : tie.Need-good-times-requires
 good-times-requires c κs = search needs
 
 returns-3 : tie.Need-returns-3
 unfolding goodFields goodTime goodSize goodSizeOf objectAt objectFrom timeAt
-returns-3 c = rw (← c .before .before .before .before .before .get-u32 .ensures, lt-ltb _ _ (c .before .before .before .before .if1 .left), ← c .before .before .before .get-u322 .ensures, le-leb _ _ (c .before .before .if2 .left), sym (c .before .good-times .ensures) ∙ not-true _ (c .if3 .taken))
+returns-3 c = rw (
+  ← c .before .before .before .before .before .get-u32 .ensures,
+  lt-ltb _ _ (c .before .before .before .before .if1 .left),
+  ← c .before .before .before .get-u322 .ensures,
+  le-leb _ _ (c .before .before .if2 .left),
+  sym (c .before .good-times .ensures) ∙ not-true _
+      (c .if3 .taken),
+)
 
 good-size-requires : tie.Need-good-size-requires
 good-size-requires c κs = search needs
 
 returns-4 : tie.Need-returns-4
 unfolding goodFields goodTime goodSize goodSizeOf objectAt objectFrom timeAt
-returns-4 c = rw (← c .before .before .before .before .before .before .get-u32 .ensures, lt-ltb _ _ (c .before .before .before .before .before .if1 .left), ← c .before .before .before .before .get-u322 .ensures, le-leb _ _ (c .before .before .before .if2 .left), sym (c .before .before .good-times .ensures) ∙ not-false _ (c .before .if3 .left), ← c .before .before .before .before .before .before .before .before .pre .1 .0, ← c .before .before .before .before .before .before .before .before .pre .1 .1) (c .good-size .ensures)
+returns-4 c = rw (
+  ← c .before .before .before .before .before .before .get-u32 .ensures,
+  lt-ltb _ _ (c .before .before .before .before .before .if1 .left),
+  ← c .before .before .before .before .get-u322 .ensures,
+  le-leb _ _ (c .before .before .before .if2 .left),
+  sym (c .before .before .good-times .ensures) ∙ not-false _ (c .before .if3 .left),
+  ← c .before .before .before .before .before .before .before .before .pre .1 .0,
+  ← c .before .before .before .before .before .before .before .before .pre .1 .1,
+) (c .good-size .ensures)
 
 pub good-fields-spec : {M : Type 1} → statement M
 good-fields-spec =

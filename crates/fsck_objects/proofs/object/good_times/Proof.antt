@@ -35,7 +35,12 @@ get-u32-requires-2 c κs = search needs
 
 returns-2 : tie.Need-returns-2
 unfolding goodTime objectAt objectFrom timeAt
-returns-2 c = rw (← c .before .before .before .get-u32 .ensures, lt-ltb _ _ (c .before .before .if1 .left), ← c .before .get-u322 .ensures, le-ltb _ _ (c .if2 .taken))
+returns-2 c = rw (
+  ← c .before .before .before .get-u32 .ensures,
+  lt-ltb _ _ (c .before .before .if1 .left),
+  ← c .before .get-u322 .ensures,
+  le-ltb _ _ (c .if2 .taken),
+)
 
 add-get-u32-5 : tie.Need-add-get-u32-5
 add-get-u32-5 c = search needs
@@ -48,7 +53,13 @@ get-u32-requires-3 c κs = search needs
 
 returns-3 : tie.Need-returns-3
 unfolding goodTime objectAt objectFrom timeAt
-returns-3 c = rw (← c .before .before .before .before .get-u32 .ensures, lt-ltb _ _ (c .before .before .before .if1 .left), ← c .before .before .get-u322 .ensures, lt-ltb _ _ (c .before .if2 .left), ← c .get-u323 .ensures)
+returns-3 c = rw (
+  ← c .before .before .before .before .get-u32 .ensures,
+  lt-ltb _ _ (c .before .before .before .if1 .left),
+  ← c .before .before .get-u322 .ensures,
+  lt-ltb _ _ (c .before .if2 .left),
+  ← c .get-u323 .ensures,
+)
 
 pub good-times-spec : {M : Type 1} → statement M
 good-times-spec =

@@ -8,8 +8,11 @@ use Rattle.fsck_objects.proofs.object.mark_four.Statement.{statement}
 use Rattle.fsck_objects.proofs.object.mark_four.Tie as tie
 
 -- the four block numbers are in range
-in-range : (c : tie.Else1) → InRange (c .before .before .before .before .before .before .before .args .limit) (c .before .before .before .before .before .block-of .result) (c .before .before .before .before .block-of2 .result) (c .before .before .before .block-of3 .result) (c .before .before .block-of4 .result)
-in-range c = in-all (c .before .before .before .before .before .before .before .args .limit) _ _ _ _ (sym (c .before .all-below .ensures) ∙ not-false _ (c .if1 .left))
+in-range : (c : tie.Else1) → InRange (c .before .before .before .before .before .before .before .args .limit)
+    (c .before .before .before .before .before .block-of .result) (c .before .before .before .before .block-of2 .result)
+    (c .before .before .before .block-of3 .result) (c .before .before .block-of4 .result)
+in-range c = in-all (c .before .before .before .before .before .before .before .args .limit) _ _ _ _
+    (sym (c .before .all-below .ensures) ∙ not-false _ (c .if1 .left))
 
 block-of-requires : tie.Need-block-of-requires
 block-of-requires c κs = search needs
@@ -40,7 +43,10 @@ returns c =
     let st = c .before .before .before .before .before .before .before in
     let a = st .args in
     told-false (mark-four-out (a .store .now) (a .o) (a .count) (a .k) (st .pre .0) (st .pre .1 .0) (st .pre .1 .1 .1 .0) (a .limit) (st .pre .1 .1 .0)
-    (c .before .before .before .before .before .block-of .result) (c .before .before .before .before .block-of2 .result) (c .before .before .before .block-of3 .result) (c .before .before .block-of4 .result) (c .before .before .before .before .before .block-of .ensures) (c .before .before .before .before .block-of2 .ensures) (c .before .before .before .block-of3 .ensures) (c .before .before .block-of4 .ensures)
+    (c .before .before .before .before .before .block-of .result) (c .before .before .before .before .block-of2 .result)
+    (c .before .before .before .block-of3 .result) (c .before .before .block-of4 .result)
+    (c .before .before .before .before .before .block-of .ensures) (c .before .before .before .before .block-of2 .ensures)
+    (c .before .before .before .block-of3 .ensures) (c .before .before .block-of4 .ensures)
     (sym (c .before .all-below .ensures) ∙ not-true _ (c .if1 .taken)))
 
 element-write-used : tie.Need-element-write-used
@@ -60,7 +66,10 @@ returns-2 c =
     let st = c .before .before .before .before .before .before .before in
     let a = st .args in
     told-true (mark-four (a .store .now) (a .o) (a .count) (a .k) (st .pre .0) (st .pre .1 .0) (st .pre .1 .1 .1 .0) (a .limit) (st .pre .1 .1 .0)
-    (c .before .before .before .before .before .block-of .result) (c .before .before .before .before .block-of2 .result) (c .before .before .before .block-of3 .result) (c .before .before .block-of4 .result) (c .before .before .before .before .before .block-of .ensures) (c .before .before .before .before .block-of2 .ensures) (c .before .before .before .block-of3 .ensures) (c .before .before .block-of4 .ensures)
+    (c .before .before .before .before .before .block-of .result) (c .before .before .before .before .block-of2 .result)
+    (c .before .before .before .block-of3 .result) (c .before .before .block-of4 .result)
+    (c .before .before .before .before .before .block-of .ensures) (c .before .before .before .before .block-of2 .ensures)
+    (c .before .before .before .block-of3 .ensures) (c .before .before .block-of4 .ensures)
     (a .used .now) (st .pre .1 .1 .1 .1) (in-range c))
 
 pub mark-four-spec : {M : Type 1} → statement M

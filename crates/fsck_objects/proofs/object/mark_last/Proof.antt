@@ -28,7 +28,8 @@ returns c =
     let l = c .before .before .before in
     let st = c .before .before .before .before .before in
     let a = st .args in
-    told-false (mark-out (a .store .now) (a .o) (a .count) (l .loop .k) (st .pre .0) (st .pre .1 .0) (omega arith) (omega (arith, c .before .block-of .ensures)))
+    told-false (mark-out (a .store .now) (a .o) (a .count) (l .loop .k) (st .pre .0) (st .pre .1 .0) (omega arith)
+    (omega (arith, c .before .block-of .ensures)))
 
 element-write-used : tie.Need-element-write-used Inv-loop μ-loop
 element-write-used c = search needs
@@ -43,8 +44,11 @@ loop-again : tie.Need-loop-again Inv-loop μ-loop
 loop-again c =
     let l = c .before .before .before in
     let st = c .before .before .before .before .before in
-    let a = st .args in
-    (omega arith, mark-more (a .store .now) (a .o) (a .count) (l .loop .k) (st .pre .0) (st .pre .1 .0) (omega arith) (l .loop .used) (l .loop .inv .1) (c .before .block-of .result) (c .before .block-of .ensures) (omega arith))
+    let a = st .args in (
+      omega arith,
+      mark-more (a .store .now) (a .o) (a .count) (l .loop .k) (st .pre .0) (st .pre .1 .0) (omega arith) (l .loop .used)
+          (l .loop .inv .1) (c .before .block-of .result) (c .before .block-of .ensures) (omega arith),
+    )
 
 returns-2 : tie.Need-returns-2 Inv-loop μ-loop
 returns-2 c =

@@ -11,7 +11,8 @@ use Rattle.fsck_objects.proofs.object.object_uses.Statement.{statement}
 use Rattle.fsck_objects.proofs.object.object_uses.Tie as tie
 
 -- what is known of a live object with good fields
-live-at : (n : tie.Else3) → LiveAt (n .before .before .before .before .before .before .args .store .now) (n .before .before .before .before .before .before .args .o) ((n .before .before .size-of .result + 511) / 512)
+live-at : (n : tie.Else3) → LiveAt (n .before .before .before .before .before .before .args .store .now)
+    (n .before .before .before .before .before .before .args .o) ((n .before .before .size-of .result + 511) / 512)
 live-at n =
     let st = n .before .before .before .before .before .before in
     let f = sym (n .before .good-fields .ensures) ∙ not-false _ (n .if3 .left) in
@@ -47,14 +48,18 @@ unfolding goodFree
 returns c =
     let st = c .before .before .before .before .before in
     let a = st .args in
-    counted-bad (free-fails (a .store .now) (a .o) (st .pre .1 .1 .0) (live-no _ _ (sym (c .before .before .before .kind-of .ensures) ∙ c .before .before .if1 .taken)) (sym (c .before .is-zero .ensures) ∙ not-true _ (c .if2 .taken)))
+    counted-bad (free-fails (a .store .now) (a .o) (st .pre .1 .1 .0)
+    (live-no _ _ (sym (c .before .before .before .kind-of .ensures) ∙ c .before .before .if1 .taken))
+    (sym (c .before .is-zero .ensures) ∙ not-true _ (c .if2 .taken)))
 
 returns-2 : tie.Need-returns-2
 unfolding goodFree
 returns-2 c =
     let st = c .before .before .before .before .before in
     let a = st .args in
-    counted-blocks 0 (free-passes (a .store .now) (a .o) (a .used .now) (live-no _ _ (sym (c .before .before .before .kind-of .ensures) ∙ c .before .before .if1 .taken)) (sym (c .before .is-zero .ensures) ∙ not-false _ (c .if2 .left)) (st .pre .1 .1 .1 .1))
+    counted-blocks 0 (free-passes (a .store .now) (a .o) (a .used .now)
+    (live-no _ _ (sym (c .before .before .before .kind-of .ensures) ∙ c .before .before .if1 .taken))
+    (sym (c .before .is-zero .ensures) ∙ not-false _ (c .if2 .left)) (st .pre .1 .1 .1 .1))
 
 size-of-requires : tie.Need-size-of-requires
 size-of-requires c κs = search needs
@@ -66,7 +71,8 @@ returns-3 : tie.Need-returns-3
 returns-3 c =
     let st = c .before .before .before .before .before .before in
     let a = st .args in
-    counted-bad (bad-fields (a .store .now) (a .o) (st .pre .1 .1 .0) (live-yes _ _ (λ e. c .before .before .before .if1 .left (c .before .before .before .before .kind-of .ensures ∙ e)))
+    counted-bad (bad-fields (a .store .now) (a .o) (st .pre .1 .1 .0)
+    (live-yes _ _ (λ e. c .before .before .before .if1 .left (c .before .before .before .before .kind-of .ensures ∙ e)))
     (sym (c .before .good-fields .ensures) ∙ not-true _ (c .if3 .taken)))
 
 add-count : tie.Need-add-count

@@ -52,7 +52,8 @@ loop-again c =
     let y = getD (a .inside .now) (32 - a .n + l .loop .i) 0 in (
       omega arith,
       refl,
-      remember (l .loop .other) (not (eqb x 255) && eqb y 0) _ _ (l .loop .inv .2) (unused-step (a .inside .now) (st .pre .1 .1) (a .n) (l .loop .i) x (st .pre .1 .0) (omega arith))
+      remember (l .loop .other) (not (eqb x 255) && eqb y 0) _ _ (l .loop .inv .2)
+          (unused-step (a .inside .now) (st .pre .1 .1) (a .n) (l .loop .i) x (st .pre .1 .0) (omega arith))
           ∙ sym (every-next (isUnused (a .s .now) (a .at) (a .n)) (l .loop .i)),
     )
 

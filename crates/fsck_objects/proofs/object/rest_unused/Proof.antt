@@ -23,7 +23,8 @@ returns : tie.Need-returns
 returns c =
     let st = c .before .before in
     let a = st .args in
-    c .past-unused .ensures ∙ rest-is (a .store .now) (a .o) (a .count) (st .pre .0) (λ i. c .before .shared-slice-known .given i .fits) (st .pre .1 .1 .0) (st .pre .1 .1 .1 .0) (st .pre .1 .1 .1 .1)
+    c .past-unused .ensures ∙ rest-is (a .store .now) (a .o) (a .count) (st .pre .0) (λ i. c .before .shared-slice-known .given i .fits)
+    (st .pre .1 .1 .0) (st .pre .1 .1 .1 .0) (st .pre .1 .1 .1 .1)
 
 pub rest-unused-spec : {M : Type 1} → statement M
 rest-unused-spec =

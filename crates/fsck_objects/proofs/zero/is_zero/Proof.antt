@@ -40,7 +40,8 @@ loop-again c =
     let a = l .before .args in
     let x = getD (a .s .now) (a .at + l .loop .i) 0 in (
       omega arith,
-      remember (l .loop .other) (not (eqb x 0)) _ _ (l .loop .inv .1) (not-not _) ∙ sym (all-next (λ x. eqb x 0) (a .s .now) (a .at) (l .loop .i) (omega arith)),
+      remember (l .loop .other) (not (eqb x 0)) _ _ (l .loop .inv .1) (not-not _) ∙ sym
+          (all-next (λ x. eqb x 0) (a .s .now) (a .at) (l .loop .i) (omega arith)),
     )
 
 returns : tie.Need-returns Inv-loop μ-loop

@@ -32,7 +32,11 @@ three-words a b c = refl
 
 returns : tie.Need-returns
 unfolding handleOf
-returns c = rw (c .before .before .before .before .before .before .stamp-of .ensures, c .before .before .before .before .before .generation-of .ensures, three-words) at (c .before .before .put-words .ensures)
+returns c = rw (
+  c .before .before .before .before .before .before .stamp-of .ensures,
+  c .before .before .before .before .before .generation-of .ensures,
+  three-words,
+) at (c .before .before .put-words .ensures)
 
 pub put-handle-spec : {M : Type 1} → statement M
 put-handle-spec =

@@ -33,7 +33,13 @@ place-requires-2 c κs = search needs
 
 returns-2 : tie.Need-returns-2
 unfolding callHeader
-returns-2 c = rw (c .place2 .ensures, ← c .before .before .before .before .before .before .before .word .ensures, c .before .before .before .before .before .answer .given .1, ← c .before .before .before .word2 .ensures, c .before .enum-told2 .given .1)
+returns-2 c = rw (
+  c .place2 .ensures,
+  ← c .before .before .before .before .before .before .before .word .ensures,
+  c .before .before .before .before .before .answer .given .1,
+  ← c .before .before .before .word2 .ensures,
+  c .before .enum-told2 .given .1,
+)
 
 word-requires-3 : tie.Need-word-requires-3
 word-requires-3 c κs = search needs
@@ -49,7 +55,15 @@ place-requires-3 c κs = search needs
 
 returns-3 : tie.Need-returns-3
 unfolding callHeader
-returns-3 c = rw (c .place3 .ensures, ← c .before .before .before .before .before .before .before .before .before .before .before .word .ensures, c .before .before .before .before .before .before .before .before .before .answer .given .1, ← c .before .before .before .before .before .before .before .word2 .ensures, c .before .before .before .before .before .answer2 .given .1, ← c .before .before .before .word3 .ensures, c .before .enum-told3 .given .1)
+returns-3 c = rw (
+  c .place3 .ensures,
+  ← c .before .before .before .before .before .before .before .before .before .before .before .word .ensures,
+  c .before .before .before .before .before .before .before .before .before .answer .given .1,
+  ← c .before .before .before .before .before .before .before .word2 .ensures,
+  c .before .before .before .before .before .answer2 .given .1,
+  ← c .before .before .before .word3 .ensures,
+  c .before .enum-told3 .given .1,
+)
 
 credential-requires : tie.Need-credential-requires
 credential-requires c κs = search needs
@@ -65,7 +79,19 @@ place-requires-4 c κs = search needs
 
 returns-4 : tie.Need-returns-4
 unfolding callHeader
-returns-4 c = rw (c .place4 .ensures, ← c .before .before .before .before .before .before .before .before .before .before .before .before .before .before .before .word .ensures, c .before .before .before .before .before .before .before .before .before .before .before .before .before .answer .given .1, ← c .before .before .before .before .before .before .before .before .before .before .before .word2 .ensures, c .before .before .before .before .before .before .before .before .before .answer2 .given .1, ← c .before .before .before .before .before .before .before .word3 .ensures, c .before .before .before .before .before .answer3 .given .1, ← c .before .before .before .credential .ensures, c .before .enum-told4 .given .1)
+returns-4 c = rw (
+  c .place4 .ensures,
+  ← c .before .before .before .before .before .before .before .before .before .before .before .before .before
+      .before .before .word .ensures,
+  c .before .before .before .before .before .before .before .before .before .before .before .before .before .answer
+      .given .1,
+  ← c .before .before .before .before .before .before .before .before .before .before .before .word2 .ensures,
+  c .before .before .before .before .before .before .before .before .before .answer2 .given .1,
+  ← c .before .before .before .before .before .before .before .word3 .ensures,
+  c .before .before .before .before .before .answer3 .given .1,
+  ← c .before .before .before .credential .ensures,
+  c .before .enum-told4 .given .1,
+)
 
 credential-requires-2 : tie.Need-credential-requires-2
 credential-requires-2 c κs = search needs
@@ -81,11 +107,39 @@ place-requires-5 c κs = search needs
 
 returns-5 : tie.Need-returns-5
 unfolding callHeader
-returns-5 c = rw (c .place5 .ensures, ← c .before .before .before .before .before .before .before .before .before .before .before .before .before .before .before .before .before .before .before .word .ensures, c .before .before .before .before .before .before .before .before .before .before .before .before .before .before .before .before .before .answer .given .1, ← c .before .before .before .before .before .before .before .before .before .before .before .before .before .before .before .word2 .ensures, c .before .before .before .before .before .before .before .before .before .before .before .before .before .answer2 .given .1, ← c .before .before .before .before .before .before .before .before .before .before .before .word3 .ensures, c .before .before .before .before .before .before .before .before .before .answer3 .given .1, ← c .before .before .before .before .before .before .before .credential .ensures, c .before .before .before .before .before .answer4 .given .1, ← c .before .before .before .credential2 .ensures, c .before .enum-told5 .given .1)
+returns-5 c = rw (
+  c .place5 .ensures,
+  ← c .before .before .before .before .before .before .before .before .before .before .before .before .before
+      .before .before .before .before .before .before .word .ensures,
+  c .before .before .before .before .before .before .before .before .before .before .before .before .before .before .before .before .before .answer
+      .given .1,
+  ← c .before .before .before .before .before .before .before .before .before .before .before .before .before .before .before .word2
+      .ensures,
+  c .before .before .before .before .before .before .before .before .before .before .before .before .before .answer2 .given .1,
+  ← c .before .before .before .before .before .before .before .before .before .before .before .word3 .ensures,
+  c .before .before .before .before .before .before .before .before .before .answer3 .given .1,
+  ← c .before .before .before .before .before .before .before .credential .ensures,
+  c .before .before .before .before .before .answer4 .given .1,
+  ← c .before .before .before .credential2 .ensures,
+  c .before .enum-told5 .given .1,
+)
 
 returns-6 : tie.Need-returns-6
 unfolding callHeader
-returns-6 c = rw (← c .before .before .before .before .before .before .before .before .before .before .before .before .before .before .before .before .before .before .before .word .ensures, c .before .before .before .before .before .before .before .before .before .before .before .before .before .before .before .before .before .answer .given .1, ← c .before .before .before .before .before .before .before .before .before .before .before .before .before .before .before .word2 .ensures, c .before .before .before .before .before .before .before .before .before .before .before .before .before .answer2 .given .1, ← c .before .before .before .before .before .before .before .before .before .before .before .word3 .ensures, c .before .before .before .before .before .before .before .before .before .answer3 .given .1, ← c .before .before .before .before .before .before .before .credential .ensures, c .before .before .before .before .before .answer4 .given .1, ← c .before .before .before .credential2 .ensures, c .before .answer5 .given .1)
+returns-6 c = rw (
+  ← c .before .before .before .before .before .before .before .before .before .before .before .before .before .before .before .before
+      .before .before .before .word .ensures,
+  c .before .before .before .before .before .before .before .before .before .before .before .before .before
+      .before .before .before .before .answer .given .1,
+  ← c .before .before .before .before .before .before .before .before .before .before .before .before .before .before .before .word2 .ensures,
+  c .before .before .before .before .before .before .before .before .before .before .before .before .before .answer2 .given .1,
+  ← c .before .before .before .before .before .before .before .before .before .before .before .word3 .ensures,
+  c .before .before .before .before .before .before .before .before .before .answer3 .given .1,
+  ← c .before .before .before .before .before .before .before .credential .ensures,
+  c .before .before .before .before .before .answer4 .given .1,
+  ← c .before .before .before .credential2 .ensures,
+  c .before .answer5 .given .1,
+)
 
 pub call-header-spec : {M : Type 1} → statement M
 call-header-spec =

@@ -34,7 +34,13 @@ place-requires-2 c κs = search needs
 
 returns-2 : tie.Need-returns-2
 unfolding header
-returns-2 c = rw (c .place2 .ensures, ← c .before .before .before .before .before .before .before .word .ensures, c .before .before .before .before .before .answer .given .1, ← c .before .before .before .choice .ensures, c .before .enum-told2 .given .1)
+returns-2 c = rw (
+  c .place2 .ensures,
+  ← c .before .before .before .before .before .before .before .word .ensures,
+  c .before .before .before .before .before .answer .given .1,
+  ← c .before .before .before .choice .ensures,
+  c .before .enum-told2 .given .1,
+)
 
 word-requires-2 : tie.Need-word-requires-2
 word-requires-2 c κs = search needs
@@ -50,18 +56,43 @@ place-requires-3 c κs = search needs
 
 returns-3 : tie.Need-returns-3
 unfolding header
-returns-3 c = rw (c .place3 .ensures, ← c .before .before .before .before .before .before .before .before .before .before .before .word .ensures, c .before .before .before .before .before .before .before .before .before .answer .given .1, ← c .before .before .before .before .before .before .before .choice .ensures, c .before .before .before .before .before .answer2 .given .1, ← c .before .before .before .word2 .ensures, c .before .enum-told3 .given .1)
+returns-3 c = rw (
+  c .place3 .ensures,
+  ← c .before .before .before .before .before .before .before .before .before .before .before .word .ensures,
+  c .before .before .before .before .before .before .before .before .before .answer .given .1,
+  ← c .before .before .before .before .before .before .before .choice .ensures,
+  c .before .before .before .before .before .answer2 .given .1,
+  ← c .before .before .before .word2 .ensures,
+  c .before .enum-told3 .given .1,
+)
 
 call-header-requires : tie.Need-call-header-requires
 call-header-requires c κs = search needs
 
 returns-4 : tie.Need-returns-4
 unfolding header
-returns-4 c = rw (← c .before .before .before .before .before .before .before .before .before .before .before .before .before .word .ensures, c .before .before .before .before .before .before .before .before .before .before .before .answer .given .1, ← c .before .before .before .before .before .before .before .before .before .choice .ensures, c .before .before .before .before .before .before .before .answer2 .given .1, ← c .before .before .before .before .before .word2 .ensures, c .before .before .before .answer3 .given .1, eq-eqb _ _ (c .before .if1 .taken), ← c .call-header .ensures)
+returns-4 c = rw (
+  ← c .before .before .before .before .before .before .before .before .before .before .before .before .before .word .ensures,
+  c .before .before .before .before .before .before .before .before .before .before .before .answer .given .1,
+  ← c .before .before .before .before .before .before .before .before .before .choice .ensures,
+  c .before .before .before .before .before .before .before .answer2 .given .1,
+  ← c .before .before .before .before .before .word2 .ensures,
+  c .before .before .before .answer3 .given .1,
+  eq-eqb _ _ (c .before .if1 .taken),
+  ← c .call-header .ensures,
+)
 
 returns-5 : tie.Need-returns-5
 unfolding header
-returns-5 c = rw (← c .before .before .before .before .before .before .before .before .before .before .before .before .word .ensures, c .before .before .before .before .before .before .before .before .before .before .answer .given .1, ← c .before .before .before .before .before .before .before .before .choice .ensures, c .before .before .before .before .before .before .answer2 .given .1, ← c .before .before .before .before .word2 .ensures, c .before .before .answer3 .given .1, ne-eqb _ _ (c .if1 .left))
+returns-5 c = rw (
+  ← c .before .before .before .before .before .before .before .before .before .before .before .before .word .ensures,
+  c .before .before .before .before .before .before .before .before .before .before .answer .given .1,
+  ← c .before .before .before .before .before .before .before .before .choice .ensures,
+  c .before .before .before .before .before .before .answer2 .given .1,
+  ← c .before .before .before .before .word2 .ensures,
+  c .before .before .answer3 .given .1,
+  ne-eqb _ _ (c .if1 .left),
+)
 
 pub header-at-spec : {M : Type 1} → statement M
 header-at-spec =

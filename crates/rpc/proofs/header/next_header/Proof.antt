@@ -30,6 +30,8 @@ unfolding code.routine tablesOf
 next-header-spec 𝓤 H 𝓜 𝓖 𝓡 =
     entered 𝓤 H (tripleOf 𝓤 H (𝓖 .A) next-header.signature (next-header.spec 𝓤 H (𝓖 .A) (𝓜 .mem) (𝓡 .run)))
     (tables 𝓤 H 𝓜 𝓡 code.env .C) (tables 𝓤 H 𝓜 𝓡 code.env .Λ) #next-header code.function (code.unfolded 𝓤 H 𝓜 𝓡)
-    (takenAlone 𝓤 H (𝓖 .A) (givenOf 𝓤 H 𝓜 𝓖) R.the-row R′.mir (λ r u is. EL.lawful R.the-type R′.the-laws 𝓤 H (𝓖 .A) (givenOf 𝓤 H 𝓜 𝓖) tt .typed r _ is .0) Says #header-at
+    (takenAlone 𝓤 H (𝓖 .A) (givenOf 𝓤 H 𝓜 𝓖) R.the-row R′.mir
+    (λ r u is. EL.lawful R.the-type R′.the-laws 𝓤 H (𝓖 .A) (givenOf 𝓤 H 𝓜 𝓖) tt .typed r _ is .0) Says #header-at
     (tablesOf 𝓤 H 𝓜 (tables 𝓤 H 𝓜 𝓡 code.env))
-    (cited 𝓤 H (tripleOf 𝓤 H (𝓖 .A) callee.signature (callee.spec 𝓤 H (𝓖 .A) (𝓜 .mem) (𝓡 .run))) 𝓜 𝓡 code.env #header-at callee-def.routine code.calls-rpc·header·header-at (callee-thm.met 𝓤 H 𝓜 𝓖 𝓡)))
+    (cited 𝓤 H (tripleOf 𝓤 H (𝓖 .A) callee.signature (callee.spec 𝓤 H (𝓖 .A) (𝓜 .mem) (𝓡 .run))) 𝓜 𝓡 code.env #header-at callee-def.routine
+    code.calls-rpc·header·header-at (callee-thm.met 𝓤 H 𝓜 𝓖 𝓡)))

@@ -20,7 +20,8 @@ same-length c = search needs
 
 returns : tie.Need-returns
 unfolding accepted mismatch
-returns c = rw (eq-eqb _ _ (c .before .before .before .before .before .if1 .taken)) (sized _ (andThen (c .before .before .before .before .before .before .before .before .put-head .ensures) (c .before .before .put-words .ensures)))
+returns c = rw (eq-eqb _ _ (c .before .before .before .before .before .if1 .taken))
+    (sized _ (andThen (c .before .before .before .before .before .before .before .before .put-head .ensures) (c .before .before .put-words .ensures)))
 
 same-length-2 : tie.Need-same-length-2
 same-length-2 c = search needs

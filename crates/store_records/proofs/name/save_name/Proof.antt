@@ -71,7 +71,8 @@ returns c =
     let a = st .args in
     let text = textOf (a .call .now) (a .name) in
     name-run (a .store .now) (ns .name-start .result) (a .directory .0) (a .child .0) (a .name .length) text
-    (part-length (a .call .now) (a .name .start) (a .name .length) (st .pre .1 .1 .1 .0)) (omega (arith, ns .name-start .ensures, st .pre .0)) (st .pre .1 .1 .1 .1)
+    (part-length (a .call .now) (a .name .start) (a .name .length) (st .pre .1 .1 .1 .0)) (omega (arith, ns .name-start .ensures, st .pre .0))
+    (st .pre .1 .1 .1 .1)
     (s₁ .put-u32 .last .0) (s₂ .put-u322 .last .0) (s₃ .put-u323 .last .0) (s₄ .copy-bytes .last .0) (s₅ .clear-bytes .last .0)
     (s₁ .put-u32 .ensures) (s₂ .put-u322 .ensures) (s₃ .put-u323 .ensures) (s₄ .copy-bytes .ensures) (s₅ .clear-bytes .ensures)
     ∙ ap (λ (at : ℕ). overlay (a .store .now) at (nameBytes (nameOf (a .directory .0) (a .child .0) text))) (ns .name-start .ensures)

@@ -27,7 +27,12 @@ returns : tie.Need-returns
 unfolding objectAt objectFrom
 returns c =
     let st = c .before .before .before in
-    rw (c .get-u16 .ensures, c .before .object-start .ensures, half-read (st .args .store .now) (objectStart (st .args .o .0) + 48) 16 (st .args .k) (st .pre .1))
+    rw (
+      c .get-u16 .ensures,
+      c .before .object-start .ensures,
+      half-read (st .args .store .now) (objectStart (st .args .o .0) + 48) 16 (st .args .k)
+          (st .pre .1),
+    )
 
 pub block-of-spec : {M : Type 1} → statement M
 block-of-spec =

@@ -42,14 +42,17 @@ same-length c = search needs
 
 returns : tie.Need-returns
 returns c =
-    let st = c .before .before .before .before .before .before .before .before .before .before .before .before .before .before .before .before .before .before .before .before .before .before .before .before .before in
+    let st = c .before .before .before .before .before .before .before .before .before .before .before .before .before .before .before .before
+    .before .before .before .before .before .before .before .before .before in
     rw (
       c .before .before .put-u326 .ensures,
       c .before .before .before .before .before .before .put-u325 .ensures,
       c .before .before .before .before .before .before .before .before .before .before .put-u324 .ensures,
       c .before .before .before .before .before .before .before .before .before .before .before .before .before .before .put-u323 .ensures,
-      c .before .before .before .before .before .before .before .before .before .before .before .before .before .before .before .before .before .before .put-u322 .ensures,
-      c .before .before .before .before .before .before .before .before .before .before .before .before .before .before .before .before .before .before .before .before .before .before .put-u32 .ensures,
+      c .before .before .before .before .before .before .before .before .before .before .before .before .before .before .before .before .before
+          .before .put-u322 .ensures,
+      c .before .before .before .before .before .before .before .before .before .before .before .before .before .before .before .before .before
+          .before .before .before .before .before .put-u32 .ensures,
     )
     (head-run (st .args .store .now) (st .args .at) (st .args .v) (st .pre))
 

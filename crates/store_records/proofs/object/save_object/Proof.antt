@@ -28,7 +28,8 @@ same-length c = search needs
 returns : tie.Need-returns
 unfolding timesBytes
 returns c =
-    let st = c .before .before .before .before .before .before .before .before .before .before .before .before .before .before .before .before .before .before .before in
+    let st = c .before .before .before .before .before .before .before .before .before .before .before .before .before .before .before .before
+    .before .before .before in
     rw (
       c .before .before .save-blocks .ensures,
       c .before .before .before .before .before .before .before .save-times .ensures,

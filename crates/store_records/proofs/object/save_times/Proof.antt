@@ -24,7 +24,11 @@ same-length c = search needs
 returns : tie.Need-returns
 returns c =
     let st = c .before .before .before .before .before .before .before .before .before .before .before .before .before in
-    rw (c .before .before .save-time3 .ensures, c .before .before .before .before .before .before .save-time2 .ensures, c .before .before .before .before .before .before .before .before .before .before .save-time .ensures)
+    rw (
+      c .before .before .save-time3 .ensures,
+      c .before .before .before .before .before .before .save-time2 .ensures,
+      c .before .before .before .before .before .before .before .before .before .before .save-time .ensures,
+    )
     (times-run (st .args .store .now) (st .args .at) (st .args .atime) (st .args .mtime) (st .args .ctime) (st .pre))
 
 pub save-times-spec : {M : Type 1} → statement M

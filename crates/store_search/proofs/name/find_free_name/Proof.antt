@@ -32,7 +32,8 @@ unfolding availableName
 returns c =
     let l = c .before .before .before .loop in
     let a = c .before .before .before .before .before .before .args in
-    sym (lowest-hit (λ n. not (isUsedName (a .store .now) n)) (l .n) (names (a .store .now)) (l .inv .1) (sym (c .before .is-free-name .ensures) ∙ c .if1 .taken) (omega arith))
+    sym (lowest-hit (λ n. not (isUsedName (a .store .now) n)) (l .n) (names (a .store .now)) (l .inv .1)
+    (sym (c .before .is-free-name .ensures) ∙ c .if1 .taken) (omega arith))
 
 add-n : tie.Need-add-n Inv-loop μ-loop
 add-n c = search needs

@@ -30,7 +30,8 @@ returns : tie.Need-returns Inv-loop μ-loop
 returns c =
     let l = c .before .before .before .loop in
     let a = c .before .before .before .before .before .before .args in
-    sym (lowest-hit (isNaming (a .store .now) (a .o .0)) (l .i) (names (a .store .now)) (l .inv .1) (sym (c .before .is-naming .ensures) ∙ c .if1 .taken) (omega arith))
+    sym (lowest-hit (isNaming (a .store .now) (a .o .0)) (l .i) (names (a .store .now)) (l .inv .1)
+    (sym (c .before .is-naming .ensures) ∙ c .if1 .taken) (omega arith))
 
 add-i : tie.Need-add-i Inv-loop μ-loop
 add-i c = search needs

@@ -41,8 +41,12 @@ loop-less c = search needs
 loop-again : tie.Need-loop-again Inv-loop μ-loop
 loop-again c =
     let l = c .before .before .before .loop in
-    let a = c .before .before .before .before .before .before .args in
-    (omega arith, omega arith, count-more (λ n. not (isUsedName (a .store .now) n)) (l .i) (l .found) _ _ (l .inv .2) (c .one-if .ensures .0) (c .before .is-free-name .ensures))
+    let a = c .before .before .before .before .before .before .args in (
+      omega arith,
+      omega arith,
+      count-more (λ n. not (isUsedName (a .store .now) n)) (l .i) (l .found) _ _ (l .inv .2) (c .one-if .ensures .0)
+          (c .before .is-free-name .ensures),
+    )
 
 returns : tie.Need-returns Inv-loop μ-loop
 unfolding freeNameCount

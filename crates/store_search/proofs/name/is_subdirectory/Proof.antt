@@ -21,7 +21,8 @@ returns c =
     let st = c .before .before .before in
     let a = st .args in
     let s = a .store .now in
-    rw (free-in s (a .directory .0) (a .n .0) (sym (length-at s (a .directory .0) (a .n .0) (a .at) (st .pre .1 .1 .1)) ∙ sym (c .before .get-u32 .ensures) ∙ c .if1 .taken))
+    rw (free-in s (a .directory .0) (a .n .0)
+    (sym (length-at s (a .directory .0) (a .n .0) (a .at) (st .pre .1 .1 .1)) ∙ sym (c .before .get-u32 .ensures) ∙ c .if1 .taken))
 
 add-get-u32-2 : tie.Need-add-get-u32-2
 add-get-u32-2 c = search needs
@@ -50,7 +51,8 @@ returns-2 c =
     let d = a .directory .0 in
     let n = a .n .0 in
     let other : isDirectory s (nameAt s n .child) ≡ false =
-    ap (isDirectory s) (sym (c .before .before .get-u322 .ensures ∙ child-at s d n (a .at) (st .pre .1 .1 .1))) ∙ sym (c .before .is-directory .ensures) ∙ not-true _ (c .if2 .taken) in
+    ap (isDirectory s) (sym (c .before .before .get-u322 .ensures ∙ child-at s d n (a .at) (st .pre .1 .1 .1))) ∙ sym
+    (c .before .is-directory .ensures) ∙ not-true _ (c .if2 .taken) in
     rw (other, and-false (isIn s d n))
 
 get-u32-requires-3 : tie.Need-get-u32-requires-3
@@ -69,11 +71,13 @@ returns-3 c =
     let n = a .n .0 in
     let at = st .pre .1 .1 .1 in
     let one : isDirectory s (nameAt s n .child) ≡ true =
-    ap (isDirectory s) (sym (c .before .before .before .before .get-u322 .ensures ∙ child-at s d n (a .at) at)) ∙ sym (c .before .before .before .is-directory .ensures)
+    ap (isDirectory s) (sym (c .before .before .before .before .get-u322 .ensures ∙ child-at s d n (a .at) at)) ∙ sym
+    (c .before .before .before .is-directory .ensures)
     ∙ not-false _ (c .before .before .if2 .left) in
     rw (
       one,
-      used-yes s d n (λ e. c .before .before .before .before .before .if1 .left (c .before .before .before .before .before .before .get-u32 .ensures ∙ length-at s d n (a .at) at ∙ e)),
+      used-yes s d n (λ e. c .before .before .before .before .before .if1 .left
+          (c .before .before .before .before .before .before .get-u32 .ensures ∙ length-at s d n (a .at) at ∙ e)),
       and-true (eqb (nameAt s n .directory) d),
       ← directory-at s d n (a .at) at,
       ← c .before .get-u323 .ensures,

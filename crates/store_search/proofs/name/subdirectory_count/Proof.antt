@@ -55,7 +55,8 @@ loop-again c =
       omega arith,
       omega arith,
       omega arith,
-      count-more (λ n. isIn s d n && isDirectory s (nameAt s n .child)) (l .i) (l .found) _ _ (l .inv .3) (c .one-if .ensures .0) (c .before .is-subdirectory .ensures),
+      count-more (λ n. isIn s d n && isDirectory s (nameAt s n .child)) (l .i) (l .found) _ _ (l .inv .3) (c .one-if .ensures .0)
+          (c .before .is-subdirectory .ensures),
     )
 
 returns : tie.Need-returns Inv-loop μ-loop

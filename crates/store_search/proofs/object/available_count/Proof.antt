@@ -40,8 +40,12 @@ loop-less c = search needs
 loop-again : tie.Need-loop-again Inv-loop μ-loop
 loop-again c =
     let l = c .before .before .before .loop in
-    let a = c .before .before .before .before .before .before .args in
-    (omega arith, omega arith, count-more (isAvailable (a .store .now)) (l .i) (l .found) _ _ (l .inv .2) (c .one-if .ensures .0) (c .before .is-available .ensures))
+    let a = c .before .before .before .before .before .before .args in (
+      omega arith,
+      omega arith,
+      count-more (isAvailable (a .store .now)) (l .i) (l .found) _ _ (l .inv .2) (c .one-if .ensures .0)
+          (c .before .is-available .ensures),
+    )
 
 returns : tie.Need-returns Inv-loop μ-loop
 unfolding availableCount

@@ -31,7 +31,8 @@ unfolding availableObject
 returns c =
     let l = c .before .before .before .loop in
     let a = c .before .before .before .before .before .before .args in
-    sym (lowest-hit (isAvailable (a .store .now)) (l .i) (objects (a .store .now)) (l .inv .1) (sym (c .before .is-available .ensures) ∙ c .if1 .taken) (omega arith))
+    sym (lowest-hit (isAvailable (a .store .now)) (l .i) (objects (a .store .now)) (l .inv .1)
+    (sym (c .before .is-available .ensures) ∙ c .if1 .taken) (omega arith))
 
 add-i : tie.Need-add-i Inv-loop μ-loop
 add-i c = search needs

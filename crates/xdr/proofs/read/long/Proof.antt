@@ -21,14 +21,21 @@ place-requires c κs = search needs
 
 returns : tie.Need-returns
 unfolding long
-returns c = let a = c .before .before .before .before .before .args in rw (c .place .ensures, number-by-bytes 8 (a .s .now) (a .c .at), ← c .before .before .before .bytes .ensures, c .before .enum-told .given .1)
+returns c = let a = c .before .before .before .before .before .args in rw
+    (c .place .ensures, number-by-bytes 8 (a .s .now) (a .c .at), ← c .before .before .before .bytes .ensures, c .before .enum-told .given .1)
 
 get-u64-requires : tie.Need-get-u64-requires
-get-u64-requires c κs = let a = c .before .before .before .before .before .args in omega (arith, bytes-fit 8 (a .s .now) (a .c .at) _ _ (sym (c .before .before .before .bytes .ensures) ∙ ap partOf (c .before .answer .given .1)))
+get-u64-requires c κs = let a = c .before .before .before .before .before .args in omega
+    (arith, bytes-fit 8 (a .s .now) (a .c .at) _ _ (sym (c .before .before .before .bytes .ensures) ∙ ap partOf (c .before .answer .given .1)))
 
 returns-2 : tie.Need-returns-2
 unfolding long
-returns-2 c = let a = c .before .before .before .before .before .before .args in rw (number-by-bytes 8 (a .s .now) (a .c .at), ← c .before .before .before .before .bytes .ensures, c .before .before .answer .given .1, c .get-u64 .ensures)
+returns-2 c = let a = c .before .before .before .before .before .before .args in rw (
+  number-by-bytes 8 (a .s .now) (a .c .at),
+  ← c .before .before .before .before .bytes .ensures,
+  c .before .before .answer .given .1,
+  c .get-u64 .ensures,
+)
 
 pub long-spec : {M : Type 1} → statement M
 long-spec =

@@ -55,8 +55,17 @@ returns-3 c =
     let s = a .s .now in
     let n = c .before .before .before .before .before .before .n .given .0 .0 in
     let at = c .before .before .before .before .before .before .n .given .0 .1 .0 .at in
-    let cut : length s < at + (n + padding n) = omega (arith, bytes-cut _ s at _ (sym (c .before .before .bytes .ensures) ∙ ap partOf (c .enum-told2 .given .1)), c .before .before .before .padding .ensures) in
-    rw (← c .before .before .before .before .before .before .before .before .word .ensures, c .before .before .before .before .before .before .n .given .1, le-leb _ _ (c .before .before .before .before .if1 .left)) (sym (padded-cut n (padding n) s at (a .c .at) cut))
+    let cut : length s < at + (n + padding n) = omega (
+      arith,
+      bytes-cut _ s at _ (sym (c .before .before .bytes .ensures) ∙ ap partOf (c .enum-told2 .given .1)),
+      c .before .before .before .padding .ensures,
+    ) in
+    rw (
+      ← c .before .before .before .before .before .before .before .before .word .ensures,
+      c .before .before .before .before .before .before .n .given .1,
+      le-leb _ _ (c .before .before .before .before .if1 .left),
+    )
+    (sym (padded-cut n (padding n) s at (a .c .at) cut))
 
 add-all-zero : tie.Need-add-all-zero
 add-all-zero c =
@@ -81,10 +90,22 @@ returns-4 c =
     let s = a .s .now in
     let n = c .before .before .before .before .before .before .before .before .before .n .given .0 .0 in
     let at = c .before .before .before .before .before .before .before .before .before .n .given .0 .1 .0 .at in
-    let fits : at + (n + padding n) ≤ length s = omega (arith, bytes-fit _ s at _ _ (sym (c .before .before .before .before .before .bytes .ensures) ∙ ap partOf (c .before .before .before .next .given .1)), c .before .before .before .before .before .before .padding .ensures) in
+    let fits : at + (n + padding n) ≤ length s = omega (
+      arith,
+      bytes-fit _ s at _ _ (sym (c .before .before .before .before .before .bytes .ensures) ∙ ap partOf
+          (c .before .before .before .next .given .1)),
+      c .before .before .before .before .before .before .padding .ensures,
+    ) in
     let zero : eqb (beAt s (at + n) (padding n)) 0 ≡ false =
-    ap (λ (p : ℕ). eqb (beAt s (at + n) p) 0) (sym (c .before .before .before .before .before .before .padding .ensures)) ∙ sym (c .before .all-zero .ensures) ∙ not-true _ (c .if2 .taken) in
-    rw (← c .before .before .before .before .before .before .before .before .before .before .before .word .ensures, c .before .before .before .before .before .before .before .before .before .n .given .1, le-leb _ _ (c .before .before .before .before .before .before .before .if1 .left), padded-fits n (padding n) s at fits, zero)
+    ap (λ (p : ℕ). eqb (beAt s (at + n) p) 0) (sym (c .before .before .before .before .before .before .padding .ensures)) ∙ sym
+    (c .before .all-zero .ensures) ∙ not-true _ (c .if2 .taken) in
+    rw (
+      ← c .before .before .before .before .before .before .before .before .before .before .before .word .ensures,
+      c .before .before .before .before .before .before .before .before .before .n .given .1,
+      le-leb _ _ (c .before .before .before .before .before .before .before .if1 .left),
+      padded-fits n (padding n) s at fits,
+      zero,
+    )
 
 returns-5 : tie.Need-returns-5
 unfolding opaque
@@ -93,12 +114,30 @@ returns-5 c =
     let s = a .s .now in
     let n = c .before .before .before .before .before .before .before .before .before .n .given .0 .0 in
     let at = c .before .before .before .before .before .before .before .before .before .n .given .0 .1 .0 .at in
-    let fits : at + (n + padding n) ≤ length s = omega (arith, bytes-fit _ s at _ _ (sym (c .before .before .before .before .before .bytes .ensures) ∙ ap partOf (c .before .before .before .next .given .1)), c .before .before .before .before .before .before .padding .ensures) in
+    let fits : at + (n + padding n) ≤ length s = omega (
+      arith,
+      bytes-fit _ s at _ _ (sym (c .before .before .before .before .before .bytes .ensures) ∙ ap partOf
+          (c .before .before .before .next .given .1)),
+      c .before .before .before .before .before .before .padding .ensures,
+    ) in
     let zero : eqb (beAt s (at + n) (padding n)) 0 ≡ true =
-    ap (λ (p : ℕ). eqb (beAt s (at + n) p) 0) (sym (c .before .before .before .before .before .before .padding .ensures)) ∙ sym (c .before .all-zero .ensures) ∙ not-false _ (c .if2 .left) in
+    ap (λ (p : ℕ). eqb (beAt s (at + n) p) 0) (sym (c .before .before .before .before .before .before .padding .ensures)) ∙ sym
+    (c .before .all-zero .ensures) ∙ not-false _ (c .if2 .left) in
     let behind : c .before .before .before .next .given .0 .1 .0 .at ≡ at + (n + padding n) =
-    omega (arith, bytes-next _ s at _ _ (sym (c .before .before .before .before .before .bytes .ensures) ∙ ap partOf (c .before .before .before .next .given .1)), c .before .before .before .before .before .before .padding .ensures) in
-    rw (← c .before .before .before .before .before .before .before .before .before .before .before .word .ensures, c .before .before .before .before .before .before .before .before .before .n .given .1, le-leb _ _ (c .before .before .before .before .before .before .before .if1 .left), padded-fits n (padding n) s at fits, zero, behind)
+    omega (
+      arith,
+      bytes-next _ s at _ _ (sym (c .before .before .before .before .before .bytes .ensures) ∙ ap partOf
+          (c .before .before .before .next .given .1)),
+      c .before .before .before .before .before .before .padding .ensures,
+    ) in
+    rw (
+      ← c .before .before .before .before .before .before .before .before .before .before .before .word .ensures,
+      c .before .before .before .before .before .before .before .before .before .n .given .1,
+      le-leb _ _ (c .before .before .before .before .before .before .before .if1 .left),
+      padded-fits n (padding n) s at fits,
+      zero,
+      behind,
+    )
 
 pub opaque-spec : {M : Type 1} → statement M
 opaque-spec =

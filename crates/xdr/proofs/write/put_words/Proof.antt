@@ -37,8 +37,12 @@ loop-less c = omega arith
 
 loop-again : tie.Need-loop-again Inv-loop μ-loop
 loop-again c =
-    let l = c .before .before .before .before .before .before in
-    (omega arith, wrote-word (l .before .before .before .args .ws .now) (l .loop .i) (omega arith) (l .loop .inv .1) (c .before .before .put-word .ensures), omega arith)
+    let l = c .before .before .before .before .before .before in (
+      omega arith,
+      wrote-word (l .before .before .before .args .ws .now) (l .loop .i) (omega arith) (l .loop .inv .1)
+          (c .before .before .put-word .ensures),
+      omega arith,
+    )
 
 same-length : tie.Need-same-length Inv-loop μ-loop
 same-length c = c .before .loop .inv .2
