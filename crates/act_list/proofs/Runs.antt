@@ -8,10 +8,11 @@ use native.Mathlib.Omega.{arith}
 use lib.Dec.{eqb, leb, ltb, eqb·zero-suc, eqb·suc-suc}
 use lib.ListN.{length, drop}
 use borrow.Author.Tests.{lt-ltb, le-ltb, le-leb, lt-leb}
+use Rattle.kinds.specs.Numbers.{mostNameBytes, entryFixedCost}
 use Rattle.spec.specs.Bytes.{beAt}
 use Rattle.spec.specs.Count.{passing}
 use Rattle.spec.specs.Image.{Store, names, nameStart, nameAt, nameFrom, nameLength}
-use Rattle.spec.specs.Procedures.Listing.{entryOf, dotEntries, entries, entriesAbove, fitting}
+use Rattle.spec.specs.Procedures.Listing.{entryOf, dotEntries, namedEntries, entries, entriesAbove, fitting}
 use Rattle.spec.specs.Results.{Entry}
 use Rattle.spec.specs.Room.{isUsedName, isIn}
 use Rattle.laws.proofs.Count.{by-bool, passing-hit, passing-miss}
@@ -19,7 +20,7 @@ use Rattle.laws.proofs.GoodRecords.{GoodRecords}
 use Rattle.laws.proofs.Listing.{passing-split}
 use Rattle.laws.proofs.RecordRange.{text-length}
 use Rattle.laws.proofs.Valid.{true-used, false-used}
-use Rattle.act_list.specs.Run.{cost, openRun, namedEntries, lengthIn, fitted, extended, runOf}
+use Rattle.act_list.specs.Run.{cost, openRun, lengthIn, fitted, extended, runOf}
 use Rattle.act_list.specs.declared.Run.{Run}
 
 -- ---- an entry adds at most one
@@ -76,7 +77,7 @@ module _ (s : Store) (d n at : ℕ) (p : at ≡ nameStart s n) where
       (λ t. absurd (omega (arith, length-none t)))
 
 pub named-here : (s : Store) (d n at long : ℕ) → GoodRecords s → n < names s → at ≡ nameStart s n → long ≡ lengthIn s at d → 0 < long
-    → (isIn s d n ≡ true) × (long ≡ length (nameAt s n .text)) × (long ≤ 32)
+    → (isIn s d n ≡ true) × (long ≡ length (nameAt s n .text)) × (long ≤ mostNameBytes)
 named-here s d n at long g l p q z =
     let h = g .sound .shaped in
     let k = g .sound .short n l in
@@ -129,8 +130,8 @@ run-open run t = ap (λ (x : Bool). record { room = run .room; count = run .coun
 -- ---- the longest run that fits
 abbrev pub Fits : ℕ → ℕ → ℕ → List Entry → Run → Type 0
 Fits given room k es run =
-    (run .count ≡ k + length (fitting 24 room (entriesAbove given es)))
-    × (run .full ≡ not (eqb (length (fitting 24 room (entriesAbove given es))) (length (entriesAbove given es))))
+    (run .count ≡ k + length (fitting entryFixedCost room (entriesAbove given es)))
+    × (run .full ≡ not (eqb (length (fitting entryFixedCost room (entriesAbove given es))) (length (entriesAbove given es))))
 
 -- one entry more: of the run, of those above the cookie, and of those that fit
 run-over : (given : ℕ) (run : Run) (e : Entry) (es : List Entry) → ltb given (e .cookie) ≡ false → runOf given run (e ∷ es) ≡ runOf given run es
@@ -156,15 +157,15 @@ unfolding entriesAbove
 above-takes given e es t = rw t
 
 fit-takes : (room : ℕ) (e : Entry) (es : List Entry) → leb (cost (length (e .name))) room ≡ true
-    → fitting 24 room (e ∷ es) ≡ e ∷ fitting 24 (room - cost (length (e .name))) es
+    → fitting entryFixedCost room (e ∷ es) ≡ e ∷ fitting entryFixedCost (room - cost (length (e .name))) es
 unfolding fitting
 fit-takes room e es u = rw u
 
-fit-ends : (room : ℕ) (e : Entry) (es : List Entry) → leb (cost (length (e .name))) room ≡ false → fitting 24 room (e ∷ es) ≡ []
+fit-ends : (room : ℕ) (e : Entry) (es : List Entry) → leb (cost (length (e .name))) room ≡ false → fitting entryFixedCost room (e ∷ es) ≡ []
 unfolding fitting
 fit-ends room e es u = rw u
 
-nothing-above : (given room : ℕ) → (fitting 24 room (entriesAbove given []) ≡ []) × (entriesAbove given [] ≡ [])
+nothing-above : (given room : ℕ) → (fitting entryFixedCost room (entriesAbove given []) ≡ []) × (entriesAbove given [] ≡ [])
 unfolding entriesAbove fitting
 nothing-above given room = (refl, refl)
 
@@ -182,7 +183,7 @@ run-fits given room k (e ∷ es) =
     (λ t. by-bool (leb price room)
     (λ u. let p = run-fits given (room - price) (k + 1) es in
     rw (run-takes given room k e es t u, above-takes given e es t, fit-takes room e after u)
-    (omega (arith, p .0), p .1 ∙ ap not (sym (eqb·suc-suc (length (fitting 24 (room - price) after)) (length after)))))
+    (omega (arith, p .0), p .1 ∙ ap not (sym (eqb·suc-suc (length (fitting entryFixedCost (room - price) after)) (length after)))))
     (λ u. rw (run-ends given room k e es t u, above-takes given e es t, fit-ends room e after u)
     (sym (add-zero k), sym (ap not (eqb·zero-suc (length after))))))
     (λ t. rw (run-over given (openRun room k) e es t, above-over given e es t) (run-fits given room k es))

@@ -1,16 +1,18 @@
 // READDIR.
 ghost use mathlib.Core.Path.{_≡_};
 ghost use mathlib.Core.Bool.{_&&_};
-ghost use Prim.Native.Nat.{_+_, _≤_, _<_};
+ghost use Prim.Native.Nat.{_+_, _≤_};
 ghost use lib.Dec.{eqb};
 ghost use lib.ListN.{length};
-ghost use Rattle.spec.specs.Image.{objects, names};
+ghost use Rattle.kinds.specs.Numbers.{mostNameBytes, listingCost, entryFixedCost};
+ghost use Rattle.kinds.specs.Layout.{textOffset};
+ghost use Rattle.spec.specs.Image.{names};
 ghost use Rattle.spec.specs.Procedures.{cut};
-ghost use Rattle.spec.specs.Procedures.Listing.{entries, entriesAbove, readdir};
+ghost use Rattle.spec.specs.Procedures.Listing.{namedEntries, entries, entriesAbove, checkListing, checkReaddirIn, readdir};
 ghost use Rattle.laws.proofs.GoodRecords.{GoodRecords};
 ghost use Rattle.results.specs.Meaning.{resultOf};
 ghost use Rattle.results.specs.Writable.{Writable};
-ghost use Rattle.act_list.specs.Run.{cost, openRun, namedEntries, lengthIn, extended, runOf, listingOf, sentRun, readdirIn};
+ghost use Rattle.act_list.specs.Run.{cost, openRun, lengthIn, extended, runOf, listingOf};
 use check_handles::failure::fail_showing;
 use check_handles::handle::Reached;
 use check_handles::handle::reach_directory;
@@ -38,7 +40,7 @@ pub enum Listing {
 
 // What an entry costs, by the length of its name.
 fn entry_cost(long: usize) -> usize
-    requires { ⌜ long ≤ 32 ⌝ }
+    requires { ⌜ long ≤ mostNameBytes ⌝ }
     ensures { λ r. ⌜ r ≡ cost long ⌝ }
 {
     Limit::ENTRY_FIXED_COST + (long + (4 - long % 4) % 4)
@@ -46,7 +48,7 @@ fn entry_cost(long: usize) -> usize
 
 // Adds an entry above the given cookie to a run, by the length of its name; the first that does not fit ends the run.
 fn extend(run: Run, given: u64, cookie: u64, long: usize) -> Run
-    requires { ⌜ long ≤ 32 ⌝ }
+    requires { ⌜ long ≤ mostNameBytes ⌝ }
     requires { ⌜ run .count ≤ 200 ⌝ }
     ensures { λ r. ⌜ r ≡ extended given run cookie long ⌝ }
 {
@@ -75,7 +77,7 @@ fn extend(run: Run, given: u64, cookie: u64, long: usize) -> Run
 
 // The length of the name of the record that starts at `at`; 0 where the record is not in the directory.
 fn length_in(store: &[u8], at: usize, d: ObjectNumber) -> usize
-    requires { ⌜ at + 12 ≤ length (now store) ⌝ }
+    requires { ⌜ at + textOffset ≤ length (now store) ⌝ }
     ensures { λ r. ⌜ r ≡ lengthIn (now (store .entry)) at (d .0) ⌝ }
 {
     if wire::get_u32(store, at) as usize != d.0 {
@@ -157,7 +159,7 @@ fn nothing_fits(run: Run) -> bool
 // The run that is sent, or TOOSMALL.
 fn check_listing(store: &[u8], d: ObjectNumber, given: u64, limit: usize) -> Listing
     requires { ⌜ GoodRecords (now store) ⌝ }
-    ensures { λ r. ⌜ listingOf (entriesAbove given (entries (now (store .entry)) (d .0))) r ≡ sentRun limit (entriesAbove given (entries (now (store .entry)) (d .0))) ⌝ }
+    ensures { λ r. ⌜ listingOf (entriesAbove given (entries (now (store .entry)) (d .0))) r ≡ checkListing listingCost entryFixedCost limit (entriesAbove given (entries (now (store .entry)) (d .0))) ⌝ }
 {
     if limit < Limit::LISTING_COST {
         return Listing::Refused(Status::TOOSMALL);
@@ -169,31 +171,22 @@ fn check_listing(store: &[u8], d: ObjectNumber, given: u64, limit: usize) -> Lis
     Listing::Sent(run.count, !run.full)
 }
 
-// The listing of a directory that was reached.
-fn readdir_in(
+// What READDIR sends of a directory, or BAD_COOKIE or TOOSMALL.
+fn check_readdir_in(
     store: &[u8],
-    call: &[u8],
-    h: Part,
     d: ObjectNumber,
     cookie: u64,
     verifier: u64,
     count: u32,
-) -> Reply
+) -> Listing
     requires { ⌜ GoodRecords (now store) ⌝ }
-    requires { ⌜ h .start + h .length ≤ length (now call) ⌝ }
-    requires { ⌜ d .0 < objects (now store) ⌝ }
-    ensures { λ r. ⌜ resultOf (now (store .entry)) r ≡ readdirIn (now (store .entry)) (cut (now (call .entry)) h) (d .0) cookie verifier count .result ⌝ }
-    ensures { λ r. ⌜ Writable (now (store .entry)) r ⌝ }
+    ensures { λ r. ⌜ listingOf (entriesAbove cookie (entries (now (store .entry)) (d .0))) r ≡ checkReaddirIn (now (store .entry)) (d .0) cookie verifier count ⌝ }
 {
     if verifier != 0 {
-        return fail_showing(store, call, h, Status::BAD_COOKIE);
+        return Listing::Refused(Status::BAD_COOKIE);
     }
     let limit = wire::smaller(count as usize, Limit::MOST_TRANSFER_BYTES);
-    let listing = check_listing(store, d, cookie, limit);
-    match listing {
-        Listing::Sent(n, all) => Reply::Listed(d, all, cookie, n),
-        Listing::Refused(status) => fail_showing(store, call, h, status),
-    }
+    check_listing(store, d, cookie, limit)
 }
 
 pub fn readdir(store: &[u8], call: &[u8], h: Part, cookie: u64, verifier: u64, count: u32) -> Reply
@@ -203,8 +196,13 @@ pub fn readdir(store: &[u8], call: &[u8], h: Part, cookie: u64, verifier: u64, c
     ensures { λ r. ⌜ Writable (now (store .entry)) r ⌝ }
 {
     let answer = reach_directory(store, call, h);
-    match answer {
-        Reached::At(d) => readdir_in(store, call, h, d, cookie, verifier, count),
-        Reached::Refused(status) => fail_showing(store, call, h, status),
+    let d = match answer {
+        Reached::At(d) => d,
+        Reached::Refused(status) => return fail_showing(store, call, h, status),
+    };
+    let listing = check_readdir_in(store, d, cookie, verifier, count);
+    match listing {
+        Listing::Sent(n, all) => Reply::Listed(d, all, cookie, n),
+        Listing::Refused(status) => fail_showing(store, call, h, status),
     }
 }

@@ -3,12 +3,12 @@ ghost use mathlib.Core.Path.{_≡_};
 ghost use Prim.Native.Nat.{_+_, _≤_};
 ghost use lib.ListN.{length};
 ghost use Rattle.spec.specs.Procedures.{cut};
-ghost use Rattle.spec.specs.Procedures.Names.{lookIn, checkLookup, lookup};
+ghost use Rattle.spec.specs.Procedures.Names.{lookIn, checkIn, checkLookup, lookup};
 ghost use Rattle.laws.proofs.GoodRecords.{GoodRecords};
 ghost use Rattle.check_handles.specs.Meaning.{reachedOf};
 ghost use Rattle.results.specs.Meaning.{resultOf};
 ghost use Rattle.results.specs.Writable.{Writable};
-ghost use Rattle.act_read.specs.Parts.{lookedOf, checkIn};
+ghost use Rattle.act_read.specs.Parts.{lookedOf};
 use check_handles::failure::fail_showing;
 use check_handles::handle::Reached;
 use check_handles::handle::reach_directory;
@@ -54,20 +54,16 @@ fn look_in(store: &[u8], d: ObjectNumber, call: &[u8], name: Part) -> Reached
 }
 
 // The name is checked, and then looked for.
-fn check_in(store: &[u8], d: ObjectNumber, call: &[u8], name: Part) -> Looked
+fn check_in(store: &[u8], d: ObjectNumber, call: &[u8], name: Part) -> Reached
     requires { ⌜ GoodRecords (now store) ⌝ }
     requires { ⌜ name .start + name .length ≤ length (now call) ⌝ }
-    ensures { λ r. ⌜ lookedOf r ≡ checkIn (now (store .entry)) (d .0) (cut (now (call .entry)) name) ⌝ }
+    ensures { λ r. ⌜ reachedOf r ≡ checkIn (now (store .entry)) (d .0) (cut (now (call .entry)) name) ⌝ }
 {
     let checked = check_name(call, name);
     if let TextChecked::Refused(status) = checked {
-        return Looked::Refused(status);
+        return Reached::Refused(status);
     }
-    let found = look_in(store, d, call, name);
-    match found {
-        Reached::At(o) => Looked::At(d, o),
-        Reached::Refused(status) => Looked::Refused(status),
-    }
+    look_in(store, d, call, name)
 }
 
 fn check_lookup(store: &[u8], call: &[u8], p: NameIn) -> Looked
@@ -79,8 +75,13 @@ fn check_lookup(store: &[u8], call: &[u8], p: NameIn) -> Looked
     let directory = p.directory;
     let name = p.name;
     let answer = reach_directory(store, call, directory);
-    match answer {
-        Reached::At(d) => check_in(store, d, call, name),
+    let d = match answer {
+        Reached::At(d) => d,
+        Reached::Refused(status) => return Looked::Refused(status),
+    };
+    let found = check_in(store, d, call, name);
+    match found {
+        Reached::At(o) => Looked::At(d, o),
         Reached::Refused(status) => Looked::Refused(status),
     }
 }

@@ -1,7 +1,7 @@
 -- Every handle in an OK reply is a live object's after the call. Assumes nothing.
 use mathlib.Core.Path.{_≡_, refl, sym, ap, _∙_, subst}
 use mathlib.Core.Logic.{_⊎_}
-use mathlib.Core.Bool.{Bool, true, false, cond}
+use mathlib.Core.Bool.{true}
 use mathlib.Core.Option.{Option, some, none}
 use mathlib.Core.List.{List}
 use Prim.Native.Nat.{ℕ}
@@ -9,19 +9,18 @@ use native.Mathlib.Omega.{arith}
 use Rattle.kinds.specs.declared.call.NameIn.{NameIn}
 use Rattle.kinds.specs.declared.call.Arguments.{Arguments}
 use Rattle.kinds.specs.declared.call.Arguments.the-variants as Call
-use Rattle.spec.specs.Checked.{Checked, refused, passed, present}
-use Rattle.spec.specs.Handles.{handleOf, reachDirectory, checkName, attributes}
-use Rattle.spec.specs.Image.{Store, stamp, names, objectAt, nameAt}
-use Rattle.spec.specs.Names.{isDot, isDotDot}
+use Rattle.spec.specs.Checked.{Checked, refused, passed}
+use Rattle.spec.specs.Handles.{handleOf, attributes}
+use Rattle.spec.specs.Image.{Store, stamp, names, objectAt}
 use Rattle.spec.specs.Procedures.{cut, act}
-use Rattle.spec.specs.Procedures.Names.{childOf, lookIn, checkLookup}
+use Rattle.spec.specs.Procedures.Names.{checkLookup}
 use Rattle.spec.specs.Procedures.Names as Spec
 use Rattle.spec.specs.Results.{unchanged, failShowing, settle, found}
-use Rattle.spec.specs.Room.{findName, parent}
+use Rattle.spec.specs.Room.{parent}
 use Rattle.laws.proofs.Count.{true-false, lowest-passes}
 use Rattle.history.proofs.Sum.{holds, holds-true}
 use Rattle.laws.proofs.Error.{lookup-store}
-use Rattle.laws.proofs.Passed.{bind-passed, directory-passed}
+use Rattle.laws.proofs.Passed.{lookup-passed, look-found}
 use Rattle.laws.proofs.Valid.{passes-valid}
 use Rattle.history.specs.Book.{Ledger, asked, foundHandle, madeHandle, isOk}
 use Rattle.history.specs.Run.{Request, Lent, outcome, replyTo}
@@ -58,36 +57,14 @@ module _ (σ p q r : ℕ) (s : Store) (L : Ledger) (I : Inv σ p q r s L) where
             (holds-true (names? (view s) n d) (lowest-passes (λ n. holds (names? (view s) n d)) (names s) n z .passes) .0),
       )
 
-  look-live : (d : ℕ) (text : List ℕ) (o : ℕ) → Live (view s) d → lookIn s d text ≡ passed o → Live (view s) o
-  unfolding lookIn
-  look-live d text o l e = dot (isDot text) e
-    where
-      child : (x : Option ℕ) → findName s d text ≡ x → childOf s (present 2 x) ≡ passed o → Live (view s) o
-      child none z e = let y : _≡_ {A = ℕ} 0 1 = cc in absurd (omega arith)
-      child (some n) z e =
-          let (k, at) = found-name s (I .valid .good-names) d text n z in
-          let live = tree σ p q r s L I .flat .ends n (at .0) in
-          let is : nameAt s n .child ≡ o = cc in
-          subst (Live (view s)) (child-at s n k ∙ is) live
-
-      dots : (t : Bool) → cond t (passed (parent s d)) (childOf s (present 2 (findName s d text))) ≡ passed o → Live (view s) o
-      dots true e = let is : parent s d ≡ o = cc in subst (Live (view s)) is (parent-live d l)
-      dots false e = child (findName s d text) refl e
-
-      dot : (t : Bool) → cond t (passed d) (cond (isDotDot text) (passed (parent s d)) (childOf s (present 2 (findName s d text)))) ≡ passed o → Live (view s) o
-      dot true e = let is : d ≡ o = cc in subst (Live (view s)) is l
-      dot false e = dots (isDotDot text) e
-
   look-facts : (h text : List ℕ) (x : ℕ × ℕ) → checkLookup s h text ≡ passed x → Live (view s) (x .1)
-  unfolding checkLookup
   look-facts h text x e =
-      bind-passed (reachDirectory s h) _ x e (λ d e₁ f₁.
-      bind-passed (checkName text) _ x f₁ (λ u e₂ f₂.
-      bind-passed (lookIn s d text) _ x f₂ (λ o e₃ f₃.
-      let is : (d, o) ≡ x = cc in
-      let (w, k) = directory-passed s h d e₁ in
-      let l : Live (view s) d = omega (arith, kind-at s d (w .below)) in
-      subst (Live (view s)) (ap (λ (y : ℕ × ℕ). y .1) is) (look-live d text o l e₃))))
+      let w = lookup-passed s h text x e in
+      let d = x .0 in
+      let l : Live (view s) d = omega (arith, kind-at s d (w .reached .below), w .directory) in
+      look-found (Live (view s)) s d text (x .1) (w .found) l (parent-live d l) (λ n z.
+      let (k, at) = found-name s (I .valid .good-names) d text n z in
+      subst (Live (view s)) (child-at s n k) (tree σ p q r s L I .flat .ends n (at .0)))
 
   lookup-shown : (call reply : List ℕ) (place : NameIn)
       → Answer call reply (Call.Lookup place) (Spec.lookup s (cut call (place .directory)) (cut call (place .name)) .result)

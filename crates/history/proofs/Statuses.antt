@@ -10,7 +10,7 @@ use native.Mathlib.Omega.{arith}
 use lib.Dec.{eqb, leb, ltb, lit<}
 use lib.ListN.{length}
 use borrow.Author.Tests.{eqb-true, eqb-false, ltb-false, not-true, not-false}
-use Rattle.kinds.specs.Numbers.{mostNameBytes, mostTransferBytes}
+use Rattle.kinds.specs.Numbers.{mostNameBytes, mostTransferBytes, listingCost, entryFixedCost}
 use Rattle.kinds.specs.declared.call.Settable.{Settable}
 use Rattle.kinds.specs.declared.call.Guard.{Guard}
 use Rattle.kinds.specs.declared.call.How.{How}
@@ -22,10 +22,10 @@ use Rattle.spec.specs.Image.{Store, stamp, objects, objectAt, nameAt}
 use Rattle.spec.specs.Names.{goodBytes, isDot, isDotDot, isDots}
 use Rattle.spec.specs.Procedures.Attributes.{isGiven, sizeSet, badAttributes, differs, lacksRoom, checkSetattr}
 use Rattle.spec.specs.Procedures.Data.{reachRegular, grown, checkWrite}
-use Rattle.spec.specs.Procedures.Listing.{entries, entriesAbove, isNothing, fitting, checkListing, checkReaddir}
-use Rattle.spec.specs.Procedures.Names.{childOf, lookIn, checkLookup, roomForNew, isNew, checkExisting, targetOf, checkNew, checkAttributed}
+use Rattle.spec.specs.Procedures.Listing.{entries, entriesAbove, isNothing, fitting, checkListing, checkReaddirIn, checkReaddir}
+use Rattle.spec.specs.Procedures.Names.{childOf, lookIn, checkIn, checkLookup, roomForNew, isNew, checkExisting, targetOf, checkNew, checkAttributed}
 use Rattle.spec.specs.Procedures.Names.{checkHow, checkCreate, checkMkdir}
-use Rattle.spec.specs.Procedures.Removal.{checkRemove, hasEntries, checkRmdir, isWithin, checkRename}
+use Rattle.spec.specs.Procedures.Removal.{checkEntry, checkRemove, hasEntries, checkRmdir, isWithin, checkMove, checkRename}
 use Rattle.spec.specs.Results.{Entry}
 use Rattle.spec.specs.Room.{isLive, isRegular, isDirectory, sizeOf, availableObject, availableName, findName, parent}
 use Rattle.laws.proofs.Count.{and-both, true-false}
@@ -126,41 +126,46 @@ module _ (P : ℕ → Type 0) (plain : (n : ℕ) → Plain n → P n) (s : Store
   new-tells d text invalid =
       tells-bind P (checkName text) _ (name-tells text) (λ _ _. tells-if P (isDots text) 17 _ (λ _. exist) (λ _. tells-last P invalid 22 inval))
 
-  pub lookup-tells : (h text : List ℕ) → Tells P (checkLookup s h text)
-  unfolding checkLookup lookIn
-  lookup-tells h text =
-      tells-bind P (reachDirectory s h) _ (directory-tells h) (λ d _.
+  in-tells : (d : ℕ) (text : List ℕ) → Tells P (checkIn s d text)
+  unfolding checkIn lookIn
+  in-tells d text =
       tells-bind P (checkName text) _ (name-tells text) (λ _ _.
-      tells-bind P (lookIn s d text) _
-      (tells-cond P (isDot text) (passed d) _ (tells-passed P d)
+      tells-cond P (isDot text) (passed d) _ (tells-passed P d)
       (tells-cond P (isDotDot text) (passed (parent s d)) _ (tells-passed P (parent s d)) (child (findName s d text))))
-      (λ o _. tells-passed P _)))
     where
       child : (o : Option ℕ) → Tells P (childOf s (present 2 o))
       child none = tells-refused P 2 noent
       child (some n) = tells-passed P _
 
+  pub lookup-tells : (h text : List ℕ) → Tells P (checkLookup s h text)
+  unfolding checkLookup
+  lookup-tells h text =
+      tells-bind P (reachDirectory s h) _ (directory-tells h) (λ d _.
+      tells-bind P (checkIn s d text) _ (in-tells d text) (λ o _. tells-passed P _))
+
+  entry-tells : (d : ℕ) (text : List ℕ) (dots : ℕ) → P dots → Tells P (checkEntry s d text dots)
+  unfolding checkEntry
+  entry-tells d text dots told =
+      tells-bind P (checkName text) _ (name-tells text) (λ _ _.
+      tells-if P (isDots text) dots _ (λ _. told) (λ _. tells-present P 2 (findName s d text) noent))
+
   pub remove-tells : (h text : List ℕ) → Tells P (checkRemove s h text)
   unfolding checkRemove
   remove-tells h text =
       tells-bind P (reachDirectory s h) _ (directory-tells h) (λ d _.
-      tells-bind P (checkName text) _ (name-tells text) (λ _ _.
-      tells-if P (isDots text) 13 _ (λ _. acces) (λ _.
-      tells-bind P (present 2 (findName s d text)) _ (tells-present P 2 (findName s d text) noent) (λ n _.
-      tells-if P (isDirectory s (nameAt s n .child)) 13 _ (λ _. acces) (λ _. tells-passed P _)))))
+      tells-bind P (checkEntry s d text 13) _ (entry-tells d text 13 acces) (λ n _.
+      tells-if P (isDirectory s (nameAt s n .child)) 13 _ (λ _. acces) (λ _. tells-passed P _)))
 
   pub rmdir-tells : (h text : List ℕ) → Tells P (checkRmdir s h text)
   unfolding checkRmdir
   rmdir-tells h text =
       tells-bind P (reachDirectory s h) _ (directory-tells h) (λ d _.
-      tells-bind P (checkName text) _ (name-tells text) (λ _ _.
-      tells-if P (isDots text) 22 _ (λ _. inval) (λ _.
-      tells-bind P (present 2 (findName s d text)) _ (tells-present P 2 (findName s d text) noent) (λ n _.
+      tells-bind P (checkEntry s d text 22) _ (entry-tells d text 22 inval) (λ n _.
       tells-if P (not (isDirectory s (nameAt s n .child))) 20 _ (λ _. notdir) (λ _.
-      tells-if P (hasEntries s (nameAt s n .child)) 66 _ (λ _. plain 66 (lit< tt, lit< tt, omega arith)) (λ _. tells-passed P _))))))
+      tells-if P (hasEntries s (nameAt s n .child)) 66 _ (λ _. plain 66 (lit< tt, lit< tt, omega arith)) (λ _. tells-passed P _))))
 
   pub rename-tells : (h text g title : List ℕ) → Tells P (checkRename s h text g title)
-  unfolding checkRename
+  unfolding checkRename checkMove
   rename-tells h text g title =
       tells-bind P (reachDirectory s h) _ (directory-tells h) (λ d _.
       tells-bind P (reachDirectory s g) _ (directory-tells g) (λ e _.
@@ -178,12 +183,12 @@ module _ (P : ℕ → Type 0) (plain : (n : ℕ) → Plain n → P n) (s : Store
       tells-if P (not (isNothing es) && isNothing (fitting each (limit - head) es)) 10005 _ (λ _. too-small) (λ _. tells-passed P _))
 
   pub readdir-tells : (h : List ℕ) (cookie verifier count : ℕ) → Tells P (checkReaddir s h cookie verifier count)
-  unfolding checkReaddir
+  unfolding checkReaddir checkReaddirIn
   readdir-tells h cookie verifier count =
       tells-bind P (reachDirectory s h) _ (directory-tells h) (λ d _.
-      tells-if P (not (eqb verifier 0)) 10003 _ (λ _. plain 10003 (lit< tt, lit< tt, omega arith)) (λ _.
-      let es = entriesAbove cookie (entries s d) in
-      tells-bind P (checkListing 104 24 (min count 4096) es) _ (listing-tells 104 24 (min count 4096) es) (λ _ _. tells-passed P _)))
+      tells-bind P (checkReaddirIn s d cookie verifier count) _
+      (tells-if P (not (eqb verifier 0)) 10003 _ (λ _. plain 10003 (lit< tt, lit< tt, omega arith)) (λ _.
+      listing-tells listingCost entryFixedCost (min count mostTransferBytes) (entriesAbove cookie (entries s d)))) (λ _ _. tells-passed P _))
 
   -- ---- those that ask for room
   pub setattr-tells : (h : List ℕ) (a : Settable) (g : Guard)

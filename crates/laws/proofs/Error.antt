@@ -5,8 +5,7 @@ use mathlib.Core.Logic.{_≢_, _⊎_, ⊎-elim}
 use mathlib.Core.List.{List}
 use Prim.Native.Nat.{ℕ, _*_, min}
 use native.Mathlib.Omega.{arith}
-use lib.Dec.{eqb}
-use lib.ListN.{length, take}
+use lib.ListN.{take}
 use Rattle.kinds.specs.Numbers.{OK, DIRECTORY, mostTransferBytes}
 use Rattle.kinds.specs.declared.object.Attributes.{Attributes}
 use Rattle.kinds.specs.declared.object.Change.{Change}
@@ -24,7 +23,7 @@ use Rattle.spec.specs.Image.{Store, objects, blocks}
 use Rattle.spec.specs.Procedures.{cut, act}
 use Rattle.spec.specs.Procedures.Attributes.{getattr, checkSetattr, setattrEdit, edited, setattr, grantedBits, access}
 use Rattle.spec.specs.Procedures.Data.{reachRegular, readResult, read, checkWrite, writeDone, write, commit}
-use Rattle.spec.specs.Procedures.Listing.{entries, entriesAbove, checkReaddir, readdir}
+use Rattle.spec.specs.Procedures.Listing.{checkReaddir, readdir}
 use Rattle.spec.specs.Procedures.Names.{checkLookup, lookup, touchDirectory, newEdit, createdIn, Target, new, existing, settableOf, checkCreate}
 use Rattle.spec.specs.Procedures.Names.{createEdit, create, checkMkdir, mkdir}
 use Rattle.spec.specs.Procedures.Removal.{checkRemove, checkRmdir, removeFrom, remove, rmdir, checkRename, renameEdit, failRenaming, renamedTo, rename}
@@ -153,8 +152,7 @@ module _ (s : Store) (h : List ℕ) where
   pub readdir-store : (cookie verifier count : ℕ) → readdir s h cookie verifier count .store ≡ s
   unfolding readdir
   readdir-store cookie verifier count =
-      settle-unchanged s (failShowing s h) (checkReaddir s h cookie verifier count)
-      (λ p. listed (attributes s (p .0)) (p .1) (eqb (length (p .1)) (length (entriesAbove cookie (entries s (p .0))))))
+      settle-unchanged s (failShowing s h) (checkReaddir s h cookie verifier count) (λ p. listed (attributes s (p .0)) (p .1) (p .2))
 
   pub fsstat-store : fsstat s h .store ≡ s
   unfolding fsstat

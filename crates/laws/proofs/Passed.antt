@@ -20,14 +20,14 @@ use Rattle.spec.specs.Bytes.{beAt, sameBytes}
 use Rattle.spec.specs.Checked.{Checked, refused, passed, bind, refuseIf, present, absent}
 use Rattle.spec.specs.Handles.{reach, reachDirectory, checkName}
 use Rattle.spec.specs.Image.{Store, stamp, objects, names, objectAt, nameAt, nameLength}
-use Rattle.spec.specs.Names.{isDots, goodBytes}
+use Rattle.spec.specs.Names.{isDot, isDotDot, isDots, goodBytes}
 use Rattle.spec.specs.Procedures.Attributes.{isGiven, sizeSet, badAttributes, lacksRoom, differs, checkSetattr}
 use Rattle.spec.specs.Procedures.Data.{reachRegular, grown, checkWrite}
-use Rattle.spec.specs.Procedures.Names.{roomForNew, Target, new, existing, isNew, checkExisting, targetOf, checkNew, checkAttributed, checkHow}
-use Rattle.spec.specs.Procedures.Names.{checkCreate, settableOf, checkMkdir}
-use Rattle.spec.specs.Procedures.Removal.{checkRemove, hasEntries, checkRmdir, isWithin, checkRename}
+use Rattle.spec.specs.Procedures.Names.{childOf, lookIn, checkIn, checkLookup, roomForNew, Target, new, existing, isNew, checkExisting, targetOf}
+use Rattle.spec.specs.Procedures.Names.{checkNew, checkAttributed, checkHow, checkCreate, settableOf, checkMkdir}
+use Rattle.spec.specs.Procedures.Removal.{checkEntry, checkRemove, hasEntries, checkRmdir, isWithin, checkMove, checkRename}
 use Rattle.spec.specs.Room.{isLive, isRegular, isDirectory, sizeOf, need, freeBlockCount, isAvailable, availableObject, isUsedName, availableName}
-use Rattle.spec.specs.Room.{isIn, isNamed, findName}
+use Rattle.spec.specs.Room.{isIn, isNamed, findName, parent}
 use Rattle.laws.proofs.Bytes.{same-eq}
 use Rattle.laws.proofs.Count.{and-both, by-bool, true-false, lowest-passes, some-none}
 use Rattle.laws.proofs.SetAttributes.{Allowed, allowed}
@@ -61,6 +61,11 @@ pub absent-passed : {B P : Type 0} (status : ℕ) (x : Option ℕ) (k : Checked 
     → (x ≡ none → k ≡ passed b → P) → P
 absent-passed status none k b e f = f refl e
 absent-passed status (some n) k b e f = absurd (refused-passed status b e)
+
+-- the same where nothing follows
+some-present : (status : ℕ) (x : Option ℕ) (n : ℕ) → present status x ≡ passed n → x ≡ some n
+some-present status none n e = absurd (refused-passed status n e)
+some-present status (some m) n e = cc
 
 same-passed : {A : Type 0} (a b : A) → passed a ≡ passed b → a ≡ b
 same-passed a b e = cc
@@ -145,6 +150,36 @@ found-record s d text n e =
     let b = and-both (isUsedName s n) (eqb (nameAt s n .directory) d) (a .0) in
     let c = and-both (eqb (nameLength s n) (length text)) (sameBytes (nameAt s n .text) text) (a .1) in
     (p .below, used-true s n (b .0), eqb-true (nameAt s n .directory) d (b .1), same-eq (nameAt s n .text) text (c .1))
+
+-- ---- LOOKUP
+pub record LookupPassed (s : Store) (h text : List ℕ) (d o : ℕ) : Type 0 where
+  pub reached : Reached s h d
+  pub directory : objectAt s d .kind ≡ DIRECTORY
+  pub found : lookIn s d text ≡ passed o
+
+pub lookup-passed : (s : Store) (h text : List ℕ) (p : ℕ × ℕ) → checkLookup s h text ≡ passed p → LookupPassed s h text (p .0) (p .1)
+unfolding checkLookup checkIn
+lookup-passed s h text p e =
+    bind-passed (reachDirectory s h) _ p e (λ d e₁ f₁.
+    bind-passed (checkIn s d text) _ p f₁ (λ o e₂ f₂.
+    let z = directory-passed s h d e₁ in
+    let v : LookupPassed s h text d o = record { reached = z .0; directory = z .1; found = name-passed text _ o e₂ (λ _ f. f) } in
+    subst (λ (x : ℕ × ℕ). LookupPassed s h text (x .0) (x .1)) (same-passed (d, o) p f₂) v))
+
+-- what holds of the directory, of its parent and of the object of the name holds of the object that was found
+pub look-found : (P : ℕ → Type 0) (s : Store) (d : ℕ) (text : List ℕ) (o : ℕ) → lookIn s d text ≡ passed o → P d → P (parent s d)
+    → ((n : ℕ) → findName s d text ≡ some n → P (nameAt s n .child)) → P o
+unfolding lookIn
+look-found P s d text o e itself above named =
+    by-bool (isDot text)
+    (λ t. subst P (same-passed d o (rw t at e)) itself)
+    (λ f. by-bool (isDotDot text)
+    (λ t. subst P (same-passed (parent s d) o (rw (f, t) at e)) above)
+    (λ t. child (findName s d text) refl (rw (f, t) at e)))
+  where
+    child : (x : Option ℕ) → findName s d text ≡ x → childOf s (present NOENT x) ≡ passed o → P o
+    child none q w = absurd (refused-passed NOENT o w)
+    child (some n) q w = subst P (same-passed (nameAt s n .child) o w) (named n q)
 
 -- ---- room
 -- "NOSPC for growth past the free blocks": not that
@@ -384,17 +419,19 @@ pub record EntryPassed (s : Store) (h text : List ℕ) (d n : ℕ) : Type 0 wher
   pub good : GoodName text
   pub found : findName s d text ≡ some n
 
-entry-passed : {B P : Type 0} (s : Store) (h text : List ℕ) (status : ℕ) (k : ℕ → ℕ → Checked B) (b : B)
-    → bind (reachDirectory s h) (λ d. bind (checkName text)
-    (λ _. bind (refuseIf (isDots text) status) (λ _. bind (present NOENT (findName s d text)) (k d)))) ≡ passed b
-    → ((d n : ℕ) → EntryPassed s h text d n → k d n ≡ passed b → P) → P
-entry-passed s h text status k b e f =
-    bind-passed (reachDirectory s h) _ b e (λ d e₁ f₁.
-    name-passed text _ b f₁ (λ m f₂.
-    refuse-passed (isDots text) status _ b f₂ (λ t f₃.
-    present-passed NOENT (findName s d text) (k d) b f₃ (λ n e₄ f₄.
-    let z = directory-passed s h d e₁ in
-    f d n (record { reached = z .0; directory = z .1; good = passed-good text m t; found = e₄ }) f₄))))
+pub entry-passed : (s : Store) (d : ℕ) (text : List ℕ) (dots n : ℕ) → checkEntry s d text dots ≡ passed n → GoodName text × (findName s d text ≡ some n)
+unfolding checkEntry
+entry-passed s d text dots n e =
+    name-passed text _ n e (λ m f₁.
+    refuse-passed (isDots text) dots _ n f₁ (λ t f₂.
+    (passed-good text m t, some-present NOENT (findName s d text) n f₂)))
+
+-- the same in the directory of a handle
+entry-in : (s : Store) (h text : List ℕ) (dots d n : ℕ) → reachDirectory s h ≡ passed d → checkEntry s d text dots ≡ passed n → EntryPassed s h text d n
+entry-in s h text dots d n e f =
+    let z = directory-passed s h d e in
+    let y = entry-passed s d text dots n f in
+    record { reached = z .0; directory = z .1; good = y .0; found = y .1 }
 
 pub record RemovePassed (s : Store) (h text : List ℕ) (d n : ℕ) : Type 0 where
   pub entry : EntryPassed s h text d n
@@ -403,10 +440,14 @@ pub record RemovePassed (s : Store) (h text : List ℕ) (d n : ℕ) : Type 0 whe
 pub remove-passed : (s : Store) (h text : List ℕ) (p : ℕ × ℕ) → checkRemove s h text ≡ passed p → RemovePassed s h text (p .0) (p .1)
 unfolding checkRemove
 remove-passed s h text p e =
-    entry-passed s h text ACCES _ p e (λ d n a f.
-    refuse-passed (isDirectory s (nameAt s n .child)) ACCES _ p f (λ t g.
-    let v : RemovePassed s h text d n = record { entry = a; file = λ k. true-false (sym (true-directory s (nameAt s n .child) k) ∙ t) } in
-    subst (λ (x : ℕ × ℕ). RemovePassed s h text (x .0) (x .1)) (same-passed (d, n) p g) v))
+    bind-passed (reachDirectory s h) _ p e (λ d e₁ f₁.
+    bind-passed (checkEntry s d text ACCES) _ p f₁ (λ n e₂ f₂.
+    refuse-passed (isDirectory s (nameAt s n .child)) ACCES _ p f₂ (λ t f₃.
+    let v : RemovePassed s h text d n = record {
+      entry = entry-in s h text ACCES d n e₁ e₂;
+      file = λ k. true-false (sym (true-directory s (nameAt s n .child) k) ∙ t);
+    } in
+    subst (λ (x : ℕ × ℕ). RemovePassed s h text (x .0) (x .1)) (same-passed (d, n) p f₃) v)))
 
 pub record RmdirPassed (s : Store) (h text : List ℕ) (d n : ℕ) : Type 0 where
   pub entry : EntryPassed s h text d n
@@ -416,15 +457,16 @@ pub record RmdirPassed (s : Store) (h text : List ℕ) (d n : ℕ) : Type 0 wher
 pub rmdir-passed : (s : Store) (h text : List ℕ) (p : ℕ × ℕ) → checkRmdir s h text ≡ passed p → RmdirPassed s h text (p .0) (p .1)
 unfolding checkRmdir
 rmdir-passed s h text p e =
-    entry-passed s h text INVAL _ p e (λ d n a f.
-    refuse-passed (not (isDirectory s (nameAt s n .child))) NOTDIR _ p f (λ t g.
-    refuse-passed (hasEntries s (nameAt s n .child)) NOTEMPTY _ p g (λ u w.
+    bind-passed (reachDirectory s h) _ p e (λ d e₁ f₁.
+    bind-passed (checkEntry s d text INVAL) _ p f₁ (λ n e₂ f₂.
+    refuse-passed (not (isDirectory s (nameAt s n .child))) NOTDIR _ p f₂ (λ t f₃.
+    refuse-passed (hasEntries s (nameAt s n .child)) NOTEMPTY _ p f₃ (λ u f₄.
     let v : RmdirPassed s h text d n = record {
-      entry = a;
+      entry = entry-in s h text INVAL d n e₁ e₂;
       child-directory = directory-true s (nameAt s n .child) (not-false (isDirectory s (nameAt s n .child)) t);
       empty = u;
     } in
-    subst (λ (x : ℕ × ℕ). RmdirPassed s h text (x .0) (x .1)) (same-passed (d, n) p w) v)))
+    subst (λ (x : ℕ × ℕ). RmdirPassed s h text (x .0) (x .1)) (same-passed (d, n) p f₄) v))))
 
 -- no used name is in a directory without entries
 pub no-entries : (s : Store) (d m : ℕ) → hasEntries s d ≡ false → m < names s → Used s m → nameAt s m .directory ≢ d
@@ -447,7 +489,7 @@ pub record RenamePassed (s : Store) (h text g title : List ℕ) (d e n : ℕ) : 
 
 pub rename-passed : (s : Store) (h text g title : List ℕ) (p : ℕ × ℕ × ℕ) → checkRename s h text g title ≡ passed p
     → RenamePassed s h text g title (p .0) (p .1) (p .2)
-unfolding checkRename
+unfolding checkRename checkMove
 rename-passed s h text g title p w =
     bind-passed (reachDirectory s h) _ p w (λ d e₁ f₁.
     bind-passed (reachDirectory s g) _ p f₁ (λ e e₂ f₂.

@@ -14,7 +14,7 @@ use Rattle.spec.specs.Bytes.{part, beAt}
 use Rattle.spec.specs.Image.{Store, objects, names, nameStart, nameAt, nameFrom, nameLength}
 use Rattle.spec.specs.Room.{isUsedName, isNaming, isIn, directoryOf, parent}
 use Rattle.spec.specs.Results.{Entry}
-use Rattle.spec.specs.Procedures.Listing.{entryOf, dotEntries, entries, entriesAbove, entryCost}
+use Rattle.spec.specs.Procedures.Listing.{entryOf, dotEntries, namedEntries, entries, entriesAbove, entryCost}
 use Rattle.spec.specs.Replies.{entryBytes, entriesBytes}
 use Rattle.laws.proofs.Count.{and-both, lowest-passes}
 use Rattle.laws.proofs.Listing.{above-append, taken-bytes, passing-more, passing-split, entry-length}
@@ -25,7 +25,7 @@ use Rattle.store_search.proofs.Named.{in-directory}
 use Rattle.xdr.specs.Wrote.{Wrote}
 use Rattle.xdr.proofs.Wrote.{wrote-none, wrote-length, andThen, sized}
 use Rattle.reply_entries.specs.declared.Place.{Place}
-use Rattle.reply_entries.specs.Entries.{entry, dots, entryIn, namedEntries, Sent}
+use Rattle.reply_entries.specs.Entries.{entry, dots, entryIn, Sent}
 
 -- how many bytes the entries that are still sent take
 abbrev pub cost : Place → List Entry → ℕ

@@ -5,7 +5,6 @@ use mathlib.Core.List.{List, [], _∷_, _++_, map}
 use mathlib.Core.Path.{_≡_}
 use lib.ListN.{length, take}
 use Rattle.spec.specs.Bytes.{part, padding, zeros}
-use Rattle.spec.specs.Count.{passing}
 use Rattle.spec.specs.Image.{Store}
 use Rattle.spec.specs.Room.{isIn}
 use Rattle.spec.specs.Results.{Entry}
@@ -25,10 +24,6 @@ dots d p = entry (d + 1) (0x2E ∷ []) 1 ∷ entry (p + 1) (0x2E ∷ 0x2E ∷ []
 -- the entry that name record n has in directory d, or none
 abbrev pub entryIn : Store → ℕ → ℕ → List Entry
 entryIn s d n = map (entryOf s) (cond (isIn s d n) (n ∷ []) [])
-
--- the entries that the name records below n have in directory d
-abbrev pub namedEntries : Store → ℕ → ℕ → List Entry
-namedEntries s d n = map (entryOf s) (passing n (isIn s d))
 
 -- b holds a name of n bytes from index from, and behind it the zeros that pad it
 pub record PaddedName (b : List ℕ) (from n : ℕ) : Type 0 where

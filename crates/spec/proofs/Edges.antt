@@ -6,7 +6,7 @@ use mathlib.Core.Path.{_≡_, refl}
 use Rattle.spec.specs.Bytes.{zeros, beAt, words, opaqueBytes}
 use Rattle.spec.specs.Image.{Store}
 use Rattle.spec.specs.Serve.{check, format}
-use Rattle.spec.proofs.Setting.{space, fresh, callTo, served, after, replied, answered, statusIn, handleTo, getattrCall, createCall, mkdirCall}
+use Rattle.spec.proofs.Setting.{space, fresh, callTo, served, after, replied, answered, statusIn, handleTo, getattrCall, createCall}
 use Rattle.spec.proofs.Setting.{removeCall, readdirCall, rootWords, nameA, rootAlone, withoutBlocks, setattrCall, createBy, mkdirBy, rmdirCall}
 use Rattle.spec.proofs.Setting.{renameCall, nameB, answerTo, twoDirectories, threeDirectories, computing}
 
@@ -27,7 +27,8 @@ pub record Edges : Type 0 where
   pub cut-header : answerTo (words (7 ∷ 0 ∷ 2 ∷ 100003 ∷ 3 ∷ 0 ∷ 0 ∷ 0 ∷ 0 ∷ [])) rootAlone space 0 ≡ 5
   pub long-credential : answerTo (words (7 ∷ 0 ∷ 2 ∷ 100003 ∷ 3 ∷ 0 ∷ 0 ∷ 401 ∷ []) ++ zeros 412) rootAlone space 0 ≡ 5
   pub credential-fits : answerTo (words (7 ∷ 0 ∷ 2 ∷ 100003 ∷ 3 ∷ 0 ∷ 0 ∷ 400 ∷ []) ++ zeros 408) rootAlone space 0 ≡ 0
-  -- "RPC version not 2 is denied with RPC_MISMATCH 2 2", "program not 100003, PROG_UNAVAIL; version not 3, PROG_MISMATCH 3 3; procedure over 21, PROC_UNAVAIL; .. GARBAGE_ARGS"
+  -- "RPC version not 2 is denied with RPC_MISMATCH 2 2", "program not 100003, PROG_UNAVAIL; version not 3, PROG_MISMATCH 3 3; procedure over
+  -- 21, PROC_UNAVAIL; .. GARBAGE_ARGS"
   pub other-rpc : served (words (7 ∷ 0 ∷ 3 ∷ [])) rootAlone ≡ replied (words (7 ∷ 1 ∷ 1 ∷ 0 ∷ 2 ∷ 2 ∷ [])) rootAlone
   pub other-program : served (words (7 ∷ 0 ∷ 2 ∷ 100005 ∷ 4 ∷ 22 ∷ 0 ∷ 0 ∷ 0 ∷ 0 ∷ [])) rootAlone ≡ replied (words (7 ∷ 1 ∷ 0 ∷ 0 ∷ 0 ∷ 1 ∷ [])) rootAlone
   pub other-version : served (words (7 ∷ 0 ∷ 2 ∷ 100003 ∷ 2 ∷ 22 ∷ 0 ∷ 0 ∷ 0 ∷ 0 ∷ [])) rootAlone

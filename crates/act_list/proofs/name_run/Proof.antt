@@ -4,7 +4,8 @@ use native.Mathlib.Omega.{arith}
 use borrow.Author.Needs.{needs}
 use Rattle.spec.specs.Count.{passing}
 use Rattle.spec.specs.Image.{names, nameStart}
-use Rattle.act_list.specs.Run.{openRun, namedEntries, runOf}
+use Rattle.spec.specs.Procedures.Listing.{namedEntries}
+use Rattle.act_list.specs.Run.{openRun, runOf}
 use Rattle.act_list.proofs.Runs.{is-absent, named-here, over-absent, over-low, over-fitting, over-large}
 use Rattle.act_list.proofs.name_run.Statement.{statement}
 use Rattle.act_list.proofs.name_run.Tie as tie

@@ -2,7 +2,8 @@ use Prim.Native.Nat.{_≤_}
 use mathlib.Core.Path.{sym, ap, _∙_}
 use native.Mathlib.Omega.{arith}
 use Rattle.spec.specs.Image.{names}
-use Rattle.act_list.specs.Run.{openRun, namedEntries, extended, runOf}
+use Rattle.spec.specs.Procedures.Listing.{namedEntries}
+use Rattle.act_list.specs.Run.{openRun, extended, runOf}
 use Rattle.act_list.specs.declared.Run.{Run}
 use Rattle.act_list.proofs.Runs.{extended-few, run-ended, run-open, behind-dots}
 use borrow.Author.Needs.{needs}

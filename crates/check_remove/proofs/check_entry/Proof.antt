@@ -1,21 +1,8 @@
 use borrow.Author.Needs.{needs}
+use Rattle.spec.specs.Procedures.Removal.{checkEntry}
 use Rattle.store_records.proofs.Good.{good-shaped, good-names-sound}
-use Rattle.check_remove.specs.Checks.{checkEntry}
 use Rattle.check_remove.proofs.check_entry.Statement.{statement}
 use Rattle.check_remove.proofs.check_entry.Tie as tie
-
-reach-directory-requires : tie.Need-reach-directory-requires
-reach-directory-requires c κs = search needs
-
-enum-known-reached : tie.Need-enum-known-reached
-enum-known-reached c = search needs
-
-enum-known-reached-2 : tie.Need-enum-known-reached-2
-enum-known-reached-2 c = search needs
-
-returns : tie.Need-returns
-unfolding checkEntry
-returns c = rw (← c .before .before .before .reach-directory .ensures, c .before .reached2 .given .1)
 
 check-name-requires : tie.Need-check-name-requires
 check-name-requires c κs = search needs
@@ -23,14 +10,9 @@ check-name-requires c κs = search needs
 enum-known-checked : tie.Need-enum-known-checked
 enum-known-checked c = search needs
 
-returns-2 : tie.Need-returns-2
+returns : tie.Need-returns
 unfolding checkEntry
-returns-2 c = rw (
-  ← c .before .before .before .before .before .before .before .reach-directory .ensures,
-  c .before .before .before .before .before .reached .given .1,
-  ← c .before .before .before .check-name .ensures,
-  c .before .checked .given .1,
-)
+returns c = rw (← c .before .before .before .check-name .ensures, c .before .checked .given .1)
 
 enum-told : tie.Need-enum-told
 enum-told c = search needs
@@ -38,11 +20,9 @@ enum-told c = search needs
 is-dots-requires : tie.Need-is-dots-requires
 is-dots-requires c κs = search needs
 
-returns-3 : tie.Need-returns-3
+returns-2 : tie.Need-returns-2
 unfolding checkEntry
-returns-3 c = rw (
-  ← c .before .before .before .before .before .before .before .before .reach-directory .ensures,
-  c .before .before .before .before .before .before .reached .given .1,
+returns-2 c = rw (
   ← c .before .before .before .before .check-name .ensures,
   c .before .before .enum-told .given .1,
   ← c .before .is-dots .ensures,
@@ -51,8 +31,8 @@ returns-3 c = rw (
 
 find-name-requires : tie.Need-find-name-requires
 find-name-requires c κs =
-    let pre = c .before .before .before .before .before .before .before .before .before .before .before .before .before .pre in
-    (good-shaped _ (pre .0), (good-names-sound _ (pre .0), pre .1 .1))
+    let pre = c .before .before .before .before .before .before .before .pre in
+    (good-shaped _ (pre .0), (good-names-sound _ (pre .0), pre .1))
 
 enum-known-n : tie.Need-enum-known-n
 enum-known-n c = search needs
@@ -60,11 +40,9 @@ enum-known-n c = search needs
 enum-told-2 : tie.Need-enum-told-2
 enum-told-2 c = search needs
 
-returns-4 : tie.Need-returns-4
+returns-3 : tie.Need-returns-3
 unfolding checkEntry
-returns-4 c = rw (
-  ← c .before .before .before .before .before .before .before .before .before .before .before .reach-directory .ensures,
-  c .before .before .before .before .before .before .before .before .before .reached .given .1,
+returns-3 c = rw (
   ← c .before .before .before .before .before .before .before .check-name .ensures,
   c .before .before .before .before .before .enum-told .given .1,
   ← c .before .before .before .before .is-dots .ensures,
@@ -73,11 +51,9 @@ returns-4 c = rw (
   c .enum-told2 .given .1,
 )
 
-returns-5 : tie.Need-returns-5
+returns-4 : tie.Need-returns-4
 unfolding checkEntry
-returns-5 c = rw (
-  ← c .before .before .before .before .before .before .before .before .before .before .before .before .reach-directory .ensures,
-  c .before .before .before .before .before .before .before .before .before .before .reached .given .1,
+returns-4 c = rw (
   ← c .before .before .before .before .before .before .before .before .check-name .ensures,
   c .before .before .before .before .before .before .enum-told .given .1,
   ← c .before .before .before .before .before .is-dots .ensures,
@@ -90,18 +66,14 @@ pub check-entry-spec : {M : Type 1} → statement M
 check-entry-spec =
     tie.close
     (tie.spec
-    reach-directory-requires
-    enum-known-reached
-    enum-known-reached-2
-    returns
     check-name-requires
     enum-known-checked
-    returns-2
+    returns
     enum-told
     is-dots-requires
-    returns-3
+    returns-2
     find-name-requires
     enum-known-n
     enum-told-2
-    returns-4
-    returns-5)
+    returns-3
+    returns-4)

@@ -1,8 +1,8 @@
 use native.Mathlib.Omega.{arith}
 use borrow.Author.Needs.{needs}
 use Rattle.store_records.proofs.Good.{good-shaped, good-names-sound}
-use Rattle.check_rename.specs.Checks.{checkMove}
 use Rattle.spec.specs.Procedures.{cut}
+use Rattle.spec.specs.Procedures.Removal.{checkMove}
 use Rattle.store_search.proofs.Entry.{name-found}
 use Rattle.check_rename.proofs.check_move.Statement.{statement}
 use Rattle.check_rename.proofs.check_move.Tie as tie

@@ -1,5 +1,4 @@
 use borrow.Author.Needs.{needs}
-use Rattle.check_rename.specs.Checks.{checkMove}
 use Rattle.spec.specs.Procedures.Removal.{checkRename}
 use Rattle.check_rename.proofs.check_rename.Statement.{statement}
 use Rattle.check_rename.proofs.check_rename.Tie as tie
@@ -39,7 +38,7 @@ check-move-requires : tie.Need-check-move-requires
 check-move-requires c κs = search needs
 
 returns-3 : tie.Need-returns-3
-unfolding checkRename checkMove
+unfolding checkRename
 returns-3 c = rw (
   ← c .before .before .before .before .before .before .before .before .before .before .before .reach-directory .ensures,
   c .before .before .before .before .before .before .before .before .before .reached .given .1,

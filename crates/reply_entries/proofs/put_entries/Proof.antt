@@ -1,7 +1,7 @@
 use native.Mathlib.Omega.{arith}
 use Rattle.spec.specs.Image.{names}
-use Rattle.spec.specs.Procedures.Listing.{entriesAbove}
-use Rattle.reply_entries.specs.Entries.{dots, namedEntries}
+use Rattle.spec.specs.Procedures.Listing.{namedEntries, entriesAbove}
+use Rattle.reply_entries.specs.Entries.{dots}
 use Rattle.reply_entries.proofs.Runs.{above-entries, parent-below, sent-append, front-room, rest-room}
 use borrow.Author.Needs.{needs}
 use Rattle.reply_entries.proofs.put_entries.Statement.{statement}

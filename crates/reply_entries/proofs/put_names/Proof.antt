@@ -4,8 +4,8 @@ use mathlib.Core.Path.{_≡_, refl}
 use native.Mathlib.Omega.{arith}
 use lib.ListN.{length}
 use Rattle.spec.specs.Image.{names, nameStart}
-use Rattle.spec.specs.Procedures.Listing.{entriesAbove}
-use Rattle.reply_entries.specs.Entries.{namedEntries, Sent}
+use Rattle.spec.specs.Procedures.Listing.{namedEntries, entriesAbove}
+use Rattle.reply_entries.specs.Entries.{Sent}
 use Rattle.reply_entries.proofs.Runs.{sent-none, sent-append, sent-rest, above-none, above-more, name-room}
 use Rattle.reply_entries.proofs.put_names.Statement.{statement}
 use Rattle.reply_entries.proofs.put_names.Tie as tie

@@ -22,8 +22,12 @@ unfoldable pub dotEntries : Store → ℕ → List Entry
 dotEntries s d =
     record { fileid = d + 1; name = 0x2E ∷ []; cookie = 1 } ∷ record { fileid = parent s d + 1; name = 0x2E ∷ 0x2E ∷ []; cookie = 2 } ∷ []
 
+-- the entries that the name records below n have in directory d
+abbrev pub namedEntries : Store → ℕ → ℕ → List Entry
+namedEntries s d n = map (entryOf s) (passing n (isIn s d))
+
 unfoldable pub entries : Store → ℕ → List Entry
-entries s d = dotEntries s d ++ map (entryOf s) (passing (names s) (isIn s d))
+entries s d = dotEntries s d ++ namedEntries s d (names s)
 
 -- "those above the given cookie, ascending"
 unfoldable pub entriesAbove : ℕ → List Entry → List Entry
@@ -44,23 +48,26 @@ abbrev pub isNothing : List Entry → Bool
 isNothing [] = true
 isNothing (e ∷ es) = false
 
--- "TOOSMALL if 104 doesn't fit, or something remains and its first doesn't.": the run that is sent
-unfoldable pub checkListing : ℕ → ℕ → ℕ → List Entry → Checked (List Entry)
+-- "TOOSMALL if 104 doesn't fit, or something remains and its first doesn't."; "eof when nothing remains": the run that is sent, and eof
+unfoldable pub checkListing : ℕ → ℕ → ℕ → List Entry → Checked (List Entry × Bool)
 checkListing head each limit es = do
   refuseIf (ltb limit head) TOOSMALL
   refuseIf (not (isNothing es) && isNothing (fitting each (limit - head) es)) TOOSMALL
-  passed (fitting each (limit - head) es)
+  passed (fitting each (limit - head) es, eqb (length (fitting each (limit - head) es)) (length es))
 
--- "verifier not zero, BAD_COOKIE": the directory and the run
-unfoldable pub checkReaddir : Store → List ℕ → ℕ → ℕ → ℕ → Checked (ℕ × List Entry)
+-- what READDIR checks in directory d: "verifier not zero, BAD_COOKIE"; the run, and eof
+unfoldable pub checkReaddirIn : Store → ℕ → ℕ → ℕ → ℕ → Checked (List Entry × Bool)
+checkReaddirIn s d cookie verifier count = do
+  refuseIf (not (eqb verifier 0)) BAD-COOKIE
+  checkListing listingCost entryFixedCost (min count mostTransferBytes) (entriesAbove cookie (entries s d))
+
+-- the directory, the run, and eof
+unfoldable pub checkReaddir : Store → List ℕ → ℕ → ℕ → ℕ → Checked (ℕ × List Entry × Bool)
 checkReaddir s h cookie verifier count = do
   d ← reachDirectory s h
-  refuseIf (not (eqb verifier 0)) BAD-COOKIE
-  run ← checkListing listingCost entryFixedCost (min count mostTransferBytes) (entriesAbove cookie (entries s d))
-  passed (d, run)
+  p ← checkReaddirIn s d cookie verifier count
+  passed (d, p .0, p .1)
 
--- "eof when nothing remains"
 unfoldable pub readdir : Store → List ℕ → ℕ → ℕ → ℕ → Done
 readdir s h cookie verifier count =
-    settle s (failShowing s h) (checkReaddir s h cookie verifier count)
-    (λ p. unchanged s (listed (attributes s (p .0)) (p .1) (eqb (length (p .1)) (length (entriesAbove cookie (entries s (p .0)))))))
+    settle s (failShowing s h) (checkReaddir s h cookie verifier count) (λ p. unchanged s (listed (attributes s (p .0)) (p .1) (p .2)))

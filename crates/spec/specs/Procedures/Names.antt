@@ -30,12 +30,17 @@ childOf s (passed n) = passed (nameAt s n .child)
 unfoldable pub lookIn : Store → ℕ → List ℕ → Checked ℕ
 lookIn s d text = cond (isDot text) (passed d) (cond (isDotDot text) (passed (parent s d)) (childOf s (present NOENT (findName s d text))))
 
+-- what LOOKUP checks in directory d: the object that was found
+unfoldable pub checkIn : Store → ℕ → List ℕ → Checked ℕ
+checkIn s d text = do
+  checkName text
+  lookIn s d text
+
 -- the directory and the object that was found
 unfoldable pub checkLookup : Store → List ℕ → List ℕ → Checked (ℕ × ℕ)
 checkLookup s h text = do
   d ← reachDirectory s h
-  checkName text
-  o ← lookIn s d text
+  o ← checkIn s d text
   passed (d, o)
 
 unfoldable pub lookup : Store → List ℕ → List ℕ → Done

@@ -18,13 +18,18 @@ use Rattle.spec.specs.Procedures.Names.{touchDirectory}
 use Rattle.spec.specs.Results.{Result, Done, failChanging, settle, dead, renamed}
 use Rattle.spec.specs.Room.{isDirectory, isIn, findName, above}
 
+-- what REMOVE and RMDIR check first in directory d: ""." or ".."", this status; "NOENT": the name record
+unfoldable pub checkEntry : Store → ℕ → List ℕ → ℕ → Checked ℕ
+checkEntry s d text dots = do
+  checkName text
+  refuseIf (isDots text) dots
+  present NOENT (findName s d text)
+
 -- ""." or "..", ACCES; NOENT; directory, ACCES": the directory and the name record
 unfoldable pub checkRemove : Store → List ℕ → List ℕ → Checked (ℕ × ℕ)
 checkRemove s h text = do
   d ← reachDirectory s h
-  checkName text
-  refuseIf (isDots text) ACCES
-  n ← present NOENT (findName s d text)
+  n ← checkEntry s d text ACCES
   refuseIf (isDirectory s (nameAt s n .child)) ACCES
   passed (d, n)
 
@@ -36,9 +41,7 @@ hasEntries s d = some-below (names s) (isIn s d)
 unfoldable pub checkRmdir : Store → List ℕ → List ℕ → Checked (ℕ × ℕ)
 checkRmdir s h text = do
   d ← reachDirectory s h
-  checkName text
-  refuseIf (isDots text) INVAL
-  n ← present NOENT (findName s d text)
+  n ← checkEntry s d text INVAL
   refuseIf (not (isDirectory s (nameAt s n .child))) NOTDIR
   refuseIf (hasEntries s (nameAt s n .child)) NOTEMPTY
   passed (d, n)
@@ -56,12 +59,10 @@ rmdir s c h text = removeFrom s c h (checkRmdir s h text)
 unfoldable pub isWithin : Store → ℕ → ℕ → Bool
 isWithin s o d = isDirectory s o && some-below (objects s) (λ k. eqb (above s k d) o)
 
--- "RENAME checks both directories, from first, then both names."; "either name "." or "..", INVAL; NOENT; target name exists, EXIST; a
--- directory into itself or below, INVAL": both directories and the name record
-unfoldable pub checkRename : Store → List ℕ → List ℕ → List ℕ → List ℕ → Checked (ℕ × ℕ × ℕ)
-checkRename s h text g title = do
-  d ← reachDirectory s h
-  e ← reachDirectory s g
+-- what RENAME checks in directories d and e: "either name "." or "..", INVAL; NOENT; target name exists, EXIST; a directory into itself or
+-- below, INVAL": both directories and the name record
+unfoldable pub checkMove : Store → ℕ → ℕ → List ℕ → List ℕ → Checked (ℕ × ℕ × ℕ)
+checkMove s d e text title = do
   checkName text
   checkName title
   refuseIf (isDots text || isDots title) INVAL
@@ -69,6 +70,13 @@ checkRename s h text g title = do
   absent EXIST (findName s e title)
   refuseIf (isWithin s (nameAt s n .child) e) INVAL
   passed (d, e, n)
+
+-- "RENAME checks both directories, from first, then both names."
+unfoldable pub checkRename : Store → List ℕ → List ℕ → List ℕ → List ℕ → Checked (ℕ × ℕ × ℕ)
+checkRename s h text g title = do
+  d ← reachDirectory s h
+  e ← reachDirectory s g
+  checkMove s d e text title
 
 -- "The name record is rewritten in place; the object's ctime and both directories' times set."
 unfoldable pub renameEdit : Store → Context → ℕ → ℕ → ℕ → List ℕ → Store

@@ -1,4 +1,5 @@
 use borrow.Author.Needs.{needs}
+use Rattle.spec.specs.Procedures.Names.{checkIn}
 use Rattle.act_read.proofs.lookup.check_in.Statement.{statement}
 use Rattle.act_read.proofs.lookup.check_in.Tie as tie
 
@@ -9,6 +10,7 @@ enum-known-checked : tie.Need-enum-known-checked
 enum-known-checked c = search needs
 
 returns : tie.Need-returns
+unfolding checkIn
 returns c = rw (← c .before .before .before .check-name .ensures, c .before .checked .given .1)
 
 enum-told : tie.Need-enum-told
@@ -17,40 +19,9 @@ enum-told c = search needs
 look-in-requires : tie.Need-look-in-requires
 look-in-requires c κs = search needs
 
-enum-known-found : tie.Need-enum-known-found
-enum-known-found c = search needs
-
-enum-known-found-2 : tie.Need-enum-known-found-2
-enum-known-found-2 c = search needs
-
 returns-2 : tie.Need-returns-2
-returns-2 c =
-    rw (
-      ← c .before .before .before .before .before .before .check-name .ensures,
-      c .before .before .before .before .enum-told .given .1,
-      ← c .before .before .before .look-in .ensures,
-      c .before .found .given .1,
-    )
-
-returns-3 : tie.Need-returns-3
-returns-3 c =
-    rw (
-      ← c .before .before .before .before .before .before .check-name .ensures,
-      c .before .before .before .before .enum-told .given .1,
-      ← c .before .before .before .look-in .ensures,
-      c .before .found2 .given .1,
-    )
+unfolding checkIn
+returns-2 c = rw (← c .before .before .before .check-name .ensures, c .before .enum-told .given .1) (c .look-in .ensures)
 
 pub check-in-spec : {M : Type 1} → statement M
-check-in-spec =
-    tie.close
-    (tie.spec
-    check-name-requires
-    enum-known-checked
-    returns
-    enum-told
-    look-in-requires
-    enum-known-found
-    enum-known-found-2
-    returns-2
-    returns-3)
+check-in-spec = tie.close (tie.spec check-name-requires enum-known-checked returns enum-told look-in-requires returns-2)
