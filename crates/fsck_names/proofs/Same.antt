@@ -8,7 +8,7 @@ use native.Mathlib.Omega.{arith}
 use lib.Dec.{eqb, lit≤}
 use lib.ListN.{length, getD, replicate, drop}
 use borrow.Author.Tests.{eqb-true, eq-eqb}
-use Rattle.kinds.specs.Layout.{namesHead, objectLength, nameRecordLength}
+use Rattle.kinds.specs.Layout.{namesHead, objectLength, textOffset, nameRecordLength}
 use Rattle.spec.specs.Bytes.{part, digits, beOf, sameBytes, allBytes}
 use Rattle.spec.specs.Image.{Store, objects, names, nameStart, nameFrom, nameAt, nameLength}
 use Rattle.spec.specs.Room.{isUsedName, isIn, isNamed}
@@ -156,8 +156,8 @@ word-low b at h =
     (simp towards-suc (omega arith))
 
 pub hash-by : (s : Store) (p n at d a b e f u v w x : ℕ) → p ≡ objects s → at ≡ namesHead + objectLength * p + nameRecordLength * n
-    → d ≡ nameAt s n .directory → a ≡ wordAt s (at + 12)
-    → b ≡ wordAt s (at + 20) → e ≡ wordAt s (at + 28) → f ≡ wordAt s (at + 36) → u ≡ joined d a → v ≡ joined u b → w ≡ joined v e
+    → d ≡ nameAt s n .directory → a ≡ wordAt s (at + textOffset)
+    → b ≡ wordAt s (at + textOffset + 8) → e ≡ wordAt s (at + textOffset + 16) → f ≡ wordAt s (at + textOffset + 24) → u ≡ joined d a → v ≡ joined u b → w ≡ joined v e
     → x ≡ joined w f → (x / 2 ^ 32 * 2104504639 + x % 2 ^ 32 * 1511612125) / 2 ^ 27 % 256 ≡ hash s n
 unfolding hash mix
 hash-by s p n at d a b e f u v w x ep eat ed ea eb ee ef eu ev ew ex =
@@ -174,8 +174,8 @@ hash-by s p n at d a b e f u v w x ep eat ed ea eb ee ef eu ev ew ex =
       eb,
       ee,
       ef,
-      word 0 (at + 12) (lit≤ tt) (rw (eat, ep) (omega arith)),
-      word 8 (at + 20) (lit≤ tt) (rw (eat, ep) (omega arith)),
-      word 16 (at + 28) (lit≤ tt) (rw (eat, ep) (omega arith)),
-      word 24 (at + 36) (lit≤ tt) (rw (eat, ep) (omega arith)),
+      word 0 (at + textOffset) (lit≤ tt) (rw (eat, ep) (omega arith)),
+      word 8 (at + textOffset + 8) (lit≤ tt) (rw (eat, ep) (omega arith)),
+      word 16 (at + textOffset + 16) (lit≤ tt) (rw (eat, ep) (omega arith)),
+      word 24 (at + textOffset + 24) (lit≤ tt) (rw (eat, ep) (omega arith)),
     )

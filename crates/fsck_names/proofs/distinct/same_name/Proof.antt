@@ -27,16 +27,16 @@ same-text-requires c κs = search needs
 
 returns : tie.Need-returns
 returns c =
-    let st = c .before .before .before .before .before .before in
+    let st = c .before .before .before .before .before .before .before .before in
     let a = st .args in
     let s = a .store .now in
     let m = st .pre .1 .1 .0 in
     let n = st .pre .1 .1 .1 in
-    same-found s (st .pre .0) (a .n) (a .m) (n .below) (m .below) (used-good s (st .pre .0) (a .n) n) (used-good s (st .pre .0) (a .m) m)
-    (a .p) (c .before .before .name-start .result) (c .before .name-start2 .result) (c .before .before .before .before .directory-of .result)
-    (c .before .before .before .directory-of2 .result) (c .same-text .result)
+    same-found s (st .pre .0) (a .n .0) (a .m .0) (n .below) (m .below) (used-good s (st .pre .0) (a .n .0) n) (used-good s (st .pre .0) (a .m .0) m)
+    (a .p) (c .before .before .name-start .result) (c .before .name-start2 .result) (c .before .before .before .before .before .before .directory-of .result .0)
+    (c .before .before .before .before .before .directory-of2 .result .0) (c .same-text .result)
     (st .pre .1 .0) (c .before .before .name-start .ensures) (c .before .name-start2 .ensures)
-    (c .before .before .before .before .directory-of .ensures) (c .before .before .before .directory-of2 .ensures) (c .same-text .ensures)
+    (c .before .before .before .before .before .before .directory-of .ensures) (c .before .before .before .before .before .directory-of2 .ensures) (c .same-text .ensures)
     (m .used)
 
 pub same-name-spec : {M : Type 1} → statement M

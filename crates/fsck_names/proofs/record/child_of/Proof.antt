@@ -12,8 +12,8 @@ add-get-u32 c = search needs
 get-u32-requires : tie.Need-get-u32-requires
 get-u32-requires c κs = search needs
 
-cast-result : tie.Need-cast-result
-cast-result c = search needs
+cast-t7 : tie.Need-cast-t7
+cast-t7 c = search needs
 
 returns : tie.Need-returns
 unfolding nameAt nameFrom nameLength
@@ -21,4 +21,4 @@ returns c = cc
 
 pub child-of-spec : {M : Type 1} → statement M
 child-of-spec =
-    tie.close (tie.spec name-start-requires add-get-u32 get-u32-requires cast-result returns)
+    tie.close (tie.spec name-start-requires add-get-u32 get-u32-requires cast-t7 returns)

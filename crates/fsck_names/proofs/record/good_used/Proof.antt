@@ -15,7 +15,7 @@ returns : tie.Need-returns
 returns c =
     let st = c .before .before .before in
     let a = st .args in
-    let e = used-is (a .store .now) (a .p) (a .n) (a .len) (c .before .name-start .result) (st .pre .1 .0) (st .pre .1 .1 .1 .0)
+    let e = used-is (a .store .now) (a .p) (a .n .0) (a .len) (c .before .name-start .result) (st .pre .1 .0) (st .pre .1 .1 .1 .0)
     (c .before .name-start .ensures) in
     sym (e ∙ rw (name-long _ (part-long (a .store .now) (c .before .name-start .result + 12) (a .len) (omega arith) (omega arith))))
 
@@ -31,15 +31,15 @@ returns-2 : tie.Need-returns-2
 returns-2 c =
     let st = c .before .before .before .before .before in
     let a = st .args in
-    let e = used-is (a .store .now) (a .p) (a .n) (a .len) (c .before .before .before .name-start .result) (st .pre .1 .0) (st .pre .1 .1 .1 .0)
+    let e = used-is (a .store .now) (a .p) (a .n .0) (a .len) (c .before .before .before .name-start .result) (st .pre .1 .0) (st .pre .1 .1 .1 .0)
     (c .before .before .before .name-start .ensures) in
     sym (e ∙ rw (sym (c .before .good-text .ensures) ∙ not-true _ (c .if2 .taken)))
 
 get-u32-requires : tie.Need-get-u32-requires
 get-u32-requires c κs = search needs
 
-cast-is-directory : tie.Need-cast-is-directory
-cast-is-directory c = search needs
+cast-get-u32 : tie.Need-cast-get-u32
+cast-get-u32 c = search needs
 
 is-directory-requires : tie.Need-is-directory-requires
 is-directory-requires c κs = search needs
@@ -48,7 +48,7 @@ returns-3 : tie.Need-returns-3
 returns-3 c =
     let st = c .before .before .before .before .before .before .before .before in
     let a = st .args in
-    let e = used-is (a .store .now) (a .p) (a .n) (a .len) (c .before .before .before .before .before .before .name-start .result) (st .pre .1 .0)
+    let e = used-is (a .store .now) (a .p) (a .n .0) (a .len) (c .before .before .before .before .before .before .name-start .result) (st .pre .1 .0)
     (st .pre .1 .1 .1 .0) (c .before .before .before .before .before .before .name-start .ensures) in
     sym (e ∙ rw (
       sym (c .before .before .before .before .good-text .ensures) ∙ not-false _ (c .before .before .before .if2 .left),
@@ -62,8 +62,8 @@ add-get-u32 c = search needs
 get-u32-requires-2 : tie.Need-get-u32-requires-2
 get-u32-requires-2 c κs = search needs
 
-cast-is-live : tie.Need-cast-is-live
-cast-is-live c = search needs
+cast-t13 : tie.Need-cast-t13
+cast-t13 c = search needs
 
 is-live-requires : tie.Need-is-live-requires
 is-live-requires c κs = search needs
@@ -72,7 +72,7 @@ returns-4 : tie.Need-returns-4
 returns-4 c =
     let st = c .before .before .before .before .before .before .before .before .before .before in
     let a = st .args in
-    let e = used-is (a .store .now) (a .p) (a .n) (a .len) (c .before .before .before .before .before .before .before .before .name-start .result)
+    let e = used-is (a .store .now) (a .p) (a .n .0) (a .len) (c .before .before .before .before .before .before .before .before .name-start .result)
     (st .pre .1 .0) (st .pre .1 .1 .1 .0) (c .before .before .before .before .before .before .before .before .name-start .ensures) in
     sym (e ∙ rw (
       sym (c .before .before .before .before .before .before .good-text .ensures) ∙ not-false _ (c .before .before .before .before .before .if2 .left),
@@ -92,11 +92,11 @@ good-used-spec =
     good-text-requires
     returns-2
     get-u32-requires
-    cast-is-directory
+    cast-get-u32
     is-directory-requires
     returns-3
     add-get-u32
     get-u32-requires-2
-    cast-is-live
+    cast-t13
     is-live-requires
     returns-4)

@@ -16,7 +16,7 @@ is-free-requires : tie.Need-is-free-requires
 is-free-requires c κs =
     let st = c .before .before .before in
     let a = st .args in
-    (omega arith, sym (length-at (a .store .now) (a .p) (a .n) _ (st .pre .1 .0) (c .name-start .ensures)) ∙ sym (st .pre .1 .1 .1 .0) ∙ c .before .if1 .taken)
+    (omega arith, sym (length-at (a .store .now) (a .p) (a .n .0) _ (st .pre .1 .0) (c .name-start .ensures)) ∙ sym (st .pre .1 .1 .1 .0) ∙ c .before .if1 .taken)
 
 returns : tie.Need-returns
 unfolding goodNameRecord
@@ -24,8 +24,8 @@ returns c =
     let st = c .before .before .before .before in
     let a = st .args in
     c .is-free .ensures ∙ ap (λ (k : ℕ). isZero (part (a .store .now) k nameRecordLength))
-    (c .before .name-start .ensures ∙ ap (λ (k : ℕ). namesHead + objectLength * k + nameRecordLength * a .n) (st .pre .1 .0))
-    ∙ sym (rw (used-no (a .store .now) (a .n) (sym (st .pre .1 .1 .1 .0) ∙ c .before .before .if1 .taken)))
+    (c .before .name-start .ensures ∙ ap (λ (k : ℕ). namesHead + objectLength * k + nameRecordLength * a .n .0) (st .pre .1 .0))
+    ∙ sym (rw (used-no (a .store .now) (a .n .0) (sym (st .pre .1 .1 .1 .0) ∙ c .before .before .if1 .taken)))
 
 good-used-requires : tie.Need-good-used-requires
 good-used-requires c κs =
@@ -37,7 +37,7 @@ unfolding goodNameRecord
 returns-2 c =
     let st = c .before .before .before in
     let a = st .args in
-    c .good-used .ensures ∙ sym (rw (used-yes (a .store .now) (a .n) (λ e. c .before .if1 .left (st .pre .1 .1 .1 .0 ∙ e))))
+    c .good-used .ensures ∙ sym (rw (used-yes (a .store .now) (a .n .0) (λ e. c .before .if1 .left (st .pre .1 .1 .1 .0 ∙ e))))
 
 pub record-passes-spec : {M : Type 1} → statement M
 record-passes-spec =
