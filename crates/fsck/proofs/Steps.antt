@@ -15,7 +15,7 @@ use borrow.Author.Tests.{eq-eqb, ne-eqb}
 use Rattle.spec.specs.Image.{Store, objects, names}
 use Rattle.spec.specs.Room.{isLive, parent, above}
 use Rattle.spec.specs.Check.{leadsToRoot}
-use Rattle.fsck_objects.specs.Told.{Shaped}
+use Rattle.laws.proofs.Valid.{Shaped}
 use Rattle.fsck_objects.specs.Objects.{Blank}
 use Rattle.fsck_names.specs.Named.{NamedBy}
 use Rattle.fsck_names.proofs.Parents.{parent-is}
@@ -221,8 +221,8 @@ pub parents-by : (s : Store) (p : ℕ) (parents : List ℕ) → Shaped s → p �
 parents-by s p parents t e n =
     record {
       count = e;
-      least = omega (arith, t .least);
-      most = omega (arith, t .few);
+      least = omega (arith, t .some-object);
+      most = omega (arith, t .few-objects);
       long = n .long;
       are = λ o h. parent-is s t parents n o (omega arith);
       range = λ o. let r = n .range o in omega arith;

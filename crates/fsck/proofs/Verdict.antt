@@ -12,7 +12,7 @@ use Rattle.spec.specs.Image.{Store, objects, names, blocks, objectAt}
 use Rattle.spec.specs.Room.{isDirectory, uses, isFreeBlock}
 use Rattle.spec.specs.Check.{goodShape, goodRoot, isNamedOnce, leadsToRoot, passes}
 use Rattle.laws.proofs.Count.{by-bool, true-false}
-use Rattle.fsck_objects.specs.Told.{Shaped}
+use Rattle.laws.proofs.Valid.{Shaped, shaped, shape-true}
 use Rattle.fsck_objects.specs.Objects.{UsedBy, ObjectsPass}
 use Rattle.fsck_blocks.proofs.Places.{used-once}
 use Rattle.fsck_objects.proofs.Passes.{passes-by, fails-shape, fails-root}
@@ -25,7 +25,6 @@ use Rattle.fsck.specs.Checked.{ParentMap, UsedMap, RestPasses, Checked}
 use Rattle.fsck.specs.declared.shape.Counts.{Counts}
 use Rattle.fsck.specs.declared.shape.Found.{Found}
 use Rattle.fsck.specs.declared.shape.Found.the-variants.{Bad, Good}
-use Rattle.fsck.proofs.Shapes.{shaped-by, shape-good}
 
 -- ---- the shape
 good-bad : {A : Type 0} (k : Counts) → Good k ≡ Bad → A
@@ -40,7 +39,7 @@ pub shape-yes : (s : Store) (k : Counts) → shapeOf s ≡ Good k → (Shaped s)
 unfolding shapeOf
 shape-yes s k e =
     by-bool (goodShape s)
-    (λ t. let q : Good (countsOf s) ≡ Good k = sym (ap (λ (x : Bool). foundIf x s) t) ∙ e in (shaped-by s t, cc))
+    (λ t. let q : Good (countsOf s) ≡ Good k = sym (ap (λ (x : Bool). foundIf x s) t) ∙ e in (shaped s t, cc))
     (λ t. good-bad k (sym e ∙ ap (λ (x : Bool). foundIf x s) t))
 
 -- ---- the root
@@ -77,7 +76,7 @@ pub checked-good : (s : Store) (k : Counts) (used parents : List ℕ) → Shaped
     → RestPasses s parents → Checked s (Good k) used parents
 checked-good s k used parents t e g a b =
     let y = passes-by s (record {
-      shape = shape-good s t;
+      shape = shape-true s t;
       root = g;
       good = a .good;
       good-names = b .good;

@@ -1,7 +1,8 @@
 // The whole check.
 ghost use mathlib.Core.Path.{_≡_};
 ghost use Rattle.spec.specs.Image.{objects, names};
-ghost use Rattle.fsck_objects.specs.Told.{Shaped, Told};
+ghost use Rattle.laws.proofs.Valid.{Shaped};
+ghost use Rattle.fsck_objects.specs.Told.{Told};
 ghost use Rattle.fsck_objects.specs.Objects.{Blank, Inside};
 ghost use Rattle.fsck.specs.Checked.{RestPasses, Checked};
 use crate::shape::Found;

@@ -18,7 +18,8 @@ use Rattle.spec.specs.Room.{isUsedName, isNamed}
 use Rattle.spec.specs.Check.{goodNameRecord, isDistinct, passes}
 use Rattle.laws.proofs.Bytes.{lt-or-le}
 use Rattle.laws.proofs.Count.{by-bool, true-false, and-both, every-at, sum-more, sum-at, sum-zero}
-use Rattle.fsck_objects.specs.Told.{Shaped, Told}
+use Rattle.laws.proofs.Valid.{Shaped}
+use Rattle.fsck_objects.specs.Told.{Told}
 use Rattle.fsck_objects.specs.Objects.{Blank}
 use Rattle.fsck_objects.proofs.Marks.{sum-grows}
 use Rattle.fsck_objects.proofs.Passes.{told-true, told-false, fails-distinct}

@@ -17,7 +17,7 @@ use Rattle.laws.proofs.Bytes.{lt-or-le}
 use Rattle.laws.proofs.Count.{and-both}
 use Rattle.fsck_names.proofs.Dots.{part-long}
 use mathlib.Core.Logic.{⊎-elim}
-use Rattle.fsck_objects.specs.Told.{Shaped}
+use Rattle.laws.proofs.Valid.{Shaped}
 use Rattle.fsck_names.specs.Record.{isDirectoryIn, isLiveIn}
 
 -- the demands on a used record, by its bytes
@@ -47,7 +47,7 @@ short-text xs e =
 long-text : (s : Store) (n : ℕ) → Shaped s → n < names s → length (nameAt s n .text) ≤ 32 → nameLength s n ≤ 32
 unfolding nameAt nameFrom nameLength
 long-text s n t h l = ⊎-elim (λ (q : 32 < beAt s (nameStart s n + 8) 4). let w = part-long s (nameStart s n + 12) (beAt s (nameStart s n + 8) 4)
-    (omega (arith, t .long)) q in absurd (omega arith)) (λ (q : beAt s (nameStart s n + 8) 4 ≤ 32). q) (lt-or-le 32 (beAt s (nameStart s n + 8) 4))
+    (omega (arith, t .exact)) q in absurd (omega arith)) (λ (q : beAt s (nameStart s n + 8) 4 ≤ 32). q) (lt-or-le 32 (beAt s (nameStart s n + 8) 4))
 
 pub used-well : (s : Store) (n : ℕ) → Shaped s → n < names s → goodUsed s n ≡ true → UsedWell s n
 unfolding goodUsed

@@ -16,7 +16,7 @@ use Rattle.spec.specs.Image.{Store, objects, names, nameAt, objectAt}
 use Rattle.spec.specs.Room.{isLive, isUsedName, isNaming, namings, directoryOf, parent}
 use Rattle.spec.specs.Check.{mostNames, goodNameRecord, isNamedOnce, passes}
 use Rattle.laws.proofs.Count.{by-bool, true-false, and-both, sum-more, sum-at, sum-zero, passing-miss, lowest-hit, lowest-none, lowest-passes, Passes}
-use Rattle.fsck_objects.specs.Told.{Shaped}
+use Rattle.laws.proofs.Valid.{Shaped}
 use Rattle.fsck_objects.specs.Objects.{Blank}
 use Rattle.fsck_objects.proofs.Passes.{fails-name, fails-named}
 use Rattle.fsck_names.specs.Named.{markOf, NamedBy}
@@ -92,7 +92,7 @@ module _ (s : Store) (t : Shaped s) (n : ℕ) (l : n < names s) (u : isUsedName 
   unfolding isNamedOnce namings
   child-root e =
       let b = count-at (isNaming s 0) (names s) n l (names-child 0 e) in
-      fails-named s 0 (omega (arith, t .least)) (ne-eqb (count (names s) (isNaming s 0)) 0 (λ q. absurd (omega arith)))
+      fails-named s 0 (omega (arith, t .some-object)) (ne-eqb (count (names s) (isNaming s 0)) 0 (λ q. absurd (omega arith)))
 
   -- an object that is named already
   pub child-twice : (c : ℕ) → c ≡ nameAt s n .child → (c ≡ 0 → ⊥) → (getD parents c 0 ≡ 0 → ⊥) → passes s ≡ false
@@ -109,7 +109,7 @@ module _ (s : Store) (t : Shaped s) (n : ℕ) (l : n < names s) (u : isUsedName 
       → NamedBy s (n + 1) (set parents c (d + 1))
   child-marked c d e g z f =
       let h : c < objects s = omega (arith, w .child) in
-      let i : c < length parents = omega (arith, a .long, t .few) in
+      let i : c < length parents = omega (arith, a .long, t .few-objects) in
       let o = mark-none s (lowest n (isNaming s c)) (sym (a .marks c h) ∙ f) in
       record {
         long = simp length-set (a .long);
@@ -141,7 +141,7 @@ module _ (s : Store) (t : Shaped s) (parents : List ℕ) (a : NamedBy s (names s
   pub root-named : isNamedOnce s 0 ≡ true
   unfolding isNamedOnce namings
   root-named =
-      let o = mark-none s (lowest (names s) (isNaming s 0)) (sym (a .marks 0 (t .least)) ∙ a .root) in
+      let o = mark-none s (lowest (names s) (isNaming s 0)) (sym (a .marks 0 (t .some-object)) ∙ a .root) in
       eq-eqb (count (names s) (isNaming s 0)) 0 (count-nothing (isNaming s 0) (names s) o)
 
   -- a live object other than the root is named once where it has a mark, and fails where it has none

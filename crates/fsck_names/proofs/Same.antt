@@ -18,7 +18,7 @@ use Rattle.laws.proofs.Bytes.{part-cons, part-add, part-length, part-part, same
 use Rattle.laws.proofs.Count.{by-bool, true-false, and-both}
 use Rattle.laws.proofs.RecordRange.{text-length}
 use Rattle.wire.specs.LowFirst.{lowFirst}
-use Rattle.fsck_objects.specs.Told.{Shaped}
+use Rattle.laws.proofs.Valid.{Shaped}
 use Rattle.fsck_names.specs.Distinct.{wordAt, joined, mix, hash, isSame}
 use Rattle.fsck_names.proofs.Joins.{UsedWell}
 
@@ -77,7 +77,7 @@ same-by s n m a =
 
 module _ (s : Store) (t : Shaped s) where
   long-of : (n : ℕ) → n < names s → UsedWell s n → length (nameAt s n .text) ≡ nameLength s n
-  long-of n h w = text-length s n (omega (arith, t .long, w .short))
+  long-of n h w = text-length s n (omega (arith, t .exact, w .short))
 
   -- a record is the same as itself, and sameness goes both ways
   pub same-self : (n : ℕ) → n < names s → UsedWell s n → isUsedName s n ≡ true → isSame s n n ≡ true
@@ -95,7 +95,7 @@ module _ (s : Store) (t : Shaped s) where
       let len = nameLength s n in
       let at = nameStart s n + 12 in
       let q : 32 ≡ len + (32 - len) = omega (arith, w .short) in
-      let e : length (part s (at + len) (32 - len)) ≡ 32 - len = part-length s (at + len) (32 - len) (omega (arith, w .short, t .long)) in
+      let e : length (part s (at + len) (32 - len)) ≡ 32 - len = part-length s (at + len) (32 - len) (omega (arith, w .short, t .exact)) in
       ap (part s at) q ∙ part-add s at len (32 - len)
       ∙ ap (λ (l : List ℕ). part s at len ++ l) (zero-is (part s (at + len) (32 - len)) (w .padded) ∙ ap (λ (k : ℕ). replicate k 0) e)
 

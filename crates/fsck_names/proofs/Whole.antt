@@ -15,7 +15,7 @@ use Rattle.spec.specs.Room.{isUsedName, isNamed}
 use Rattle.spec.specs.Check.{goodNameRecord, isDistinct}
 use Rattle.laws.proofs.Bytes.{lt-or-le}
 use Rattle.laws.proofs.Count.{by-bool, true-false, every-at, every-all, every-more, sum-zero}
-use Rattle.fsck_objects.specs.Told.{Shaped}
+use Rattle.laws.proofs.Valid.{Shaped}
 use Rattle.fsck_objects.specs.Objects.{Blank}
 use Rattle.fsck_names.specs.Distinct.{isSame, Chains}
 use Rattle.fsck_names.specs.Named.{NamedBy}

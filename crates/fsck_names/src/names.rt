@@ -2,7 +2,8 @@
 ghost use mathlib.Core.Path.{_≡_};
 ghost use Prim.Native.Nat.{_+_, _<_};
 ghost use Rattle.spec.specs.Image.{objects, names};
-ghost use Rattle.fsck_objects.specs.Told.{Shaped, Told};
+ghost use Rattle.laws.proofs.Valid.{Shaped};
+ghost use Rattle.fsck_objects.specs.Told.{Told};
 ghost use Rattle.fsck_objects.specs.Objects.{Blank, Inside};
 ghost use Rattle.fsck_names.specs.Names.{NamesPass};
 use crate::distinct::hash_of;

@@ -8,7 +8,7 @@ ghost use Rattle.spec.specs.Image.{objects, names, nameAt, nameLength};
 ghost use Rattle.spec.specs.Room.{isDirectory, isLive};
 ghost use Rattle.spec.specs.Bytes.{part, beAt};
 ghost use Rattle.spec.specs.Check.{isZero, goodUsed, goodNameRecord};
-ghost use Rattle.fsck_objects.specs.Told.{Shaped};
+ghost use Rattle.laws.proofs.Valid.{Shaped};
 ghost use Rattle.fsck_objects.specs.Objects.{Inside};
 ghost use Rattle.fsck_names.specs.Record.{isDirectoryIn, isLiveIn};
 use crate::text::good_text;

@@ -20,7 +20,7 @@ use Rattle.spec.specs.Check.{goodBlock, goodFree, goodLive, goodObject, passes}
 use Rattle.laws.proofs.Bytes.{lt-or-le, be-2}
 use Rattle.laws.proofs.Count.{true-false, by-bool, and-both, sum-ext, sum-add, sum-zero, sum-more, times-append, every-more, every-fails, every-at, every-all}
 use Rattle.laws.proofs.Records.{halves-count, half-read}
-use Rattle.fsck_objects.specs.Told.{Shaped}
+use Rattle.laws.proofs.Valid.{Shaped}
 use Rattle.fsck_objects.specs.Objects.{goodFields, isUnused, markFor, LiveAt, usesBelow, MarkedBy, MarkedTo, Inside}
 use Rattle.fsck_objects.proofs.Zeros.{zero-within, zero-be}
 use Rattle.fsck_objects.proofs.Passes.{or-false, fails-object}

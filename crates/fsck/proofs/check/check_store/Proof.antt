@@ -27,7 +27,7 @@ kind-of-requires c κs =
     let k = c .before .found .given .0 .0 in
     let y = shape-yes s k (sym (c .before .before .before .shape .ensures) ∙ c .before .found .given .1) in
     let t = y .0 in
-    omega (arith, t .least, t .long)
+    omega (arith, t .some-object, t .exact)
 
 returns-2 : tie.Need-returns-2
 returns-2 c = checked-bad (c .before .before .before .before .before .before .before .args .store .now) _ _

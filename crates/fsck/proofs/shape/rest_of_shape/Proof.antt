@@ -1,6 +1,6 @@
 use mathlib.Core.Path.{_≡_, _∙_}
 use native.Mathlib.Omega.{arith}
-use Rattle.fsck_objects.specs.Told.{Shaped}
+use Rattle.laws.proofs.Valid.{Shaped}
 use Rattle.spec.specs.Image.{names, blocks}
 use Rattle.fsck.proofs.Shapes.{shape-bad, shape-counts, names-are, blocks-are}
 use borrow.Author.Needs.{needs}
@@ -43,7 +43,7 @@ returns-2 c =
     let st = c .before .before .before .before in
     let s = st .args .store .now in
     let q : c .before .before .get-u32 .result ≡ names s = c .before .before .get-u32 .ensures ∙ names-are s (st .args .objects) (st .pre .count) in
-    shape-bad s (λ (t : Shaped s). omega (arith, t .long))
+    shape-bad s (λ (t : Shaped s). omega (arith, t .exact))
 
 sub-get-u32 : tie.Need-sub-get-u32
 sub-get-u32 c = search needs
@@ -78,7 +78,7 @@ returns-4 c =
     names-are s (st .args .objects) (st .pre .count) in
     let r : c .before .before .get-u322 .result ≡ blocks s = c .before .before .get-u322 .ensures ∙ blocks-are s (st .args .objects)
     (c .before .before .before .before .before .get-u32 .result) _ (st .pre .count) q (omega arith) in
-    shape-bad s (λ (t : Shaped s). c .if4 .taken (omega (arith, t .long)))
+    shape-bad s (λ (t : Shaped s). c .if4 .taken (omega (arith, t .exact)))
 
 returns-5 : tie.Need-returns-5
 returns-5 c =
@@ -89,7 +89,7 @@ returns-5 c =
     let r : c .before .before .get-u322 .result ≡ blocks s = c .before .before .get-u322 .ensures ∙ blocks-are s (st .args .objects)
     (c .before .before .before .before .before .get-u32 .result) _ (st .pre .count) q (omega arith) in
     shape-counts s (st .args .objects) (c .before .before .before .before .before .get-u32 .result) (c .before .before .get-u322 .result) (st .pre .count) q r
-    (record { one = st .pre .one; least = omega arith; few = omega arith; few-names = omega arith; few-blocks = omega arith; long = omega arith })
+    (record { volume = st .pre .one; some-object = omega arith; few-objects = omega arith; few-names = omega arith; few-blocks = omega arith; exact = omega arith })
 
 pub rest-of-shape-spec : {M : Type 1} → statement M
 rest-of-shape-spec =

@@ -1,6 +1,6 @@
 use mathlib.Core.Path.{_≡_, sym, _∙_}
 use native.Mathlib.Omega.{arith}
-use Rattle.fsck_objects.specs.Told.{Shaped}
+use Rattle.laws.proofs.Valid.{Shaped}
 use Rattle.spec.specs.Image.{objects}
 use Rattle.fsck.proofs.Shapes.{shape-bad, volumes-are, objects-are}
 use borrow.Author.Needs.{needs}
@@ -11,7 +11,7 @@ returns : tie.Need-returns
 returns c =
     let st = c .before .before in
     let s = st .args .store .now in
-    shape-bad s (λ (t : Shaped s). omega (arith, t .long))
+    shape-bad s (λ (t : Shaped s). omega (arith, t .exact))
 
 get-u32-requires : tie.Need-get-u32-requires
 get-u32-requires c κs = search needs
@@ -20,7 +20,7 @@ returns-2 : tie.Need-returns-2
 returns-2 c =
     let st = c .before .before .before .before in
     let s = st .args .store .now in
-    shape-bad s (λ (t : Shaped s). c .if2 .taken (c .before .get-u32 .ensures ∙ sym (volumes-are s) ∙ t .one))
+    shape-bad s (λ (t : Shaped s). c .if2 .taken (c .before .get-u32 .ensures ∙ sym (volumes-are s) ∙ t .volume))
 
 get-u32-requires-2 : tie.Need-get-u32-requires-2
 get-u32-requires-2 c κs = search needs
@@ -33,14 +33,14 @@ returns-3 c =
     let st = c .before .before .before .before .before .before in
     let s = st .args .store .now in
     let p : c .before .get-u322 .result ≡ objects s = c .before .get-u322 .ensures ∙ sym (objects-are s) in
-    shape-bad s (λ (t : Shaped s). omega (arith, t .least))
+    shape-bad s (λ (t : Shaped s). omega (arith, t .some-object))
 
 returns-4 : tie.Need-returns-4
 returns-4 c =
     let st = c .before .before .before .before .before .before .before in
     let s = st .args .store .now in
     let p : c .before .before .get-u322 .result ≡ objects s = c .before .before .get-u322 .ensures ∙ sym (objects-are s) in
-    shape-bad s (λ (t : Shaped s). omega (arith, t .few))
+    shape-bad s (λ (t : Shaped s). omega (arith, t .few-objects))
 
 mul-if5 : tie.Need-mul-if5
 mul-if5 c = search needs
@@ -53,7 +53,7 @@ returns-5 c =
     let st = c .before .before .before .before .before .before .before .before in
     let s = st .args .store .now in
     let p : c .before .before .before .get-u322 .result ≡ objects s = c .before .before .before .get-u322 .ensures ∙ sym (objects-are s) in
-    shape-bad s (λ (t : Shaped s). omega (arith, t .long))
+    shape-bad s (λ (t : Shaped s). omega (arith, t .exact))
 
 rest-of-shape-requires : tie.Need-rest-of-shape-requires
 rest-of-shape-requires c κs =
