@@ -6,14 +6,14 @@ ghost use Prim.Native.Nat.{ℕ, _+_, _≤_, _<_};
 ghost use lib.ListN.{length, getD, set};
 ghost use Rattle.kinds.specs.Numbers.{mostNameRecords};
 ghost use Rattle.spec.specs.Image.{objects, names};
-ghost use Rattle.laws.proofs.Valid.{Shaped};
+ghost use Rattle.laws.proofs.Valid.{Shaped, UsedName};
 ghost use Rattle.fsck_objects.specs.Told.{Told};
-ghost use Rattle.fsck_names.specs.Distinct.{wordAt, joined, hash, isSame, Used, New, Chains};
+ghost use Rattle.fsck_names.specs.Distinct.{wordAt, joined, hash, isSame, New, Chains};
 use crate::record::directory_of;
-use crate::record::name_start;
 use crate::text::same_text;
 use kinds::layout::NameRecord;
 use kinds::numbers::NameNumber;
+use store_places::name_place;
 
 // A byte as a number.
 pub fn index(x: u8) -> usize
@@ -51,7 +51,7 @@ pub fn hash_of(store: &[u8], p: usize, n: NameNumber) -> usize
     requires { ⌜ n .0 < names (now store) ⌝ }
     ensures { λ r. ⌜ (r ≡ hash (now (store .entry)) (n .0)) × (r < 256) ⌝ }
 {
-    let at = name_start(p, n);
+    let at = name_place(p, n);
     let directory = directory_of(store, p, n);
     let text = at + NameRecord::TEXT;
     let first = join(directory.0, word_at(store, text));
@@ -65,8 +65,10 @@ pub fn hash_of(store: &[u8], p: usize, n: NameNumber) -> usize
 fn same_name(store: &[u8], p: usize, m: NameNumber, n: NameNumber) -> bool
     requires { ⌜ Shaped (now store) ⌝ }
     requires { ⌜ p ≡ objects (now store) ⌝ }
-    requires { ⌜ Used (now store) (m .0) ⌝ }
-    requires { ⌜ Used (now store) (n .0) ⌝ }
+    requires { ⌜ m .0 < names (now store) ⌝ }
+    requires { ⌜ n .0 < names (now store) ⌝ }
+    requires { ⌜ UsedName (now store) (m .0) ⌝ }
+    requires { ⌜ UsedName (now store) (n .0) ⌝ }
     ensures { λ r. ⌜ r ≡ isSame (now (store .entry)) (n .0) (m .0) ⌝ }
 {
     let directory = directory_of(store, p, m);
@@ -75,8 +77,8 @@ fn same_name(store: &[u8], p: usize, m: NameNumber, n: NameNumber) -> bool
     same
         & same_text(
             store,
-            name_start(p, m) + NameRecord::TEXT,
-            name_start(p, n) + NameRecord::TEXT,
+            name_place(p, m) + NameRecord::TEXT,
+            name_place(p, n) + NameRecord::TEXT,
         )
 }
 

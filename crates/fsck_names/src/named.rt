@@ -1,11 +1,8 @@
 // That no object is named twice, and the root never. `parents` has for each object the number of its directory and 1, or 0 where nothing names it.
 ghost use mathlib.Core.Path.{_≡_};
-ghost use mathlib.Core.Bool.{true};
 ghost use Prim.Native.Nat.{_+_, _<_};
 ghost use Rattle.spec.specs.Image.{objects, names};
-ghost use Rattle.spec.specs.Check.{goodUsed};
-ghost use Rattle.spec.specs.Room.{isUsedName};
-ghost use Rattle.laws.proofs.Valid.{Shaped};
+ghost use Rattle.laws.proofs.Valid.{Shaped, UsedName};
 ghost use Rattle.fsck_objects.specs.Told.{Told};
 ghost use Rattle.fsck_names.specs.Named.{NamedBy};
 use crate::record::child_of;
@@ -17,8 +14,7 @@ pub fn mark_child(store: &[u8], p: usize, n: NameNumber, parents: &mut [u8; 64])
     requires { ⌜ Shaped (now store) ⌝ }
     requires { ⌜ p ≡ objects (now store) ⌝ }
     requires { ⌜ n .0 < names (now store) ⌝ }
-    requires { ⌜ isUsedName (now store) (n .0) ≡ true ⌝ }
-    requires { ⌜ goodUsed (now store) (n .0) ≡ true ⌝ }
+    requires { ⌜ UsedName (now store) (n .0) ⌝ }
     requires { ⌜ NamedBy (now store) (n .0) (now parents) ⌝ }
     ensures { λ r. ⌜ Told r (now (store .entry)) (NamedBy (now (store .entry)) (n .0 + 1) (now (parents .exit))) ⌝ }
 {

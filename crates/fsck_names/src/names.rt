@@ -1,6 +1,7 @@
 // All name records.
 ghost use mathlib.Core.Path.{_≡_};
 ghost use Prim.Native.Nat.{_+_, _<_};
+ghost use Rattle.kinds.specs.Numbers.{mostObjects, mostNameRecords};
 ghost use Rattle.spec.specs.Image.{objects, names};
 ghost use Rattle.laws.proofs.Valid.{Shaped};
 ghost use Rattle.fsck_objects.specs.Told.{Told};
@@ -63,9 +64,9 @@ pub fn names_pass(
     requires { ⌜ Shaped (now store) ⌝ }
     requires { ⌜ p ≡ objects (now store) ⌝ }
     requires { ⌜ count ≡ names (now store) ⌝ }
-    requires { ⌜ Blank 64 (now parents) ⌝ }
+    requires { ⌜ Blank mostObjects (now parents) ⌝ }
     requires { ⌜ Blank 256 (now head) ⌝ }
-    requires { ⌜ Blank 128 (now next) ⌝ }
+    requires { ⌜ Blank mostNameRecords (now next) ⌝ }
     requires { ⌜ Inside (now inside) ⌝ }
     ensures { λ r. ⌜ Told r (now (store .entry)) (NamesPass (now (store .entry)) count (now (parents .exit)) (now (head .exit)) (now (next .exit))) ⌝ }
 {

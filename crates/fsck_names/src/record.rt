@@ -1,11 +1,9 @@
 // One name record by itself.
 ghost use mathlib.Core.Path.{_≡_};
-ghost use Prim.Native.Nat.{_+_, _*_, _≤_, _<_};
+ghost use Prim.Native.Nat.{_+_, _≤_, _<_};
 ghost use lib.ListN.{length};
-ghost use Rattle.kinds.specs.Layout.{namesHead, objectLength, lengthOffset, nameRecordLength};
-ghost use Rattle.kinds.specs.Numbers.{mostObjects, mostNameRecords};
+ghost use Rattle.kinds.specs.Layout.{lengthOffset, nameRecordLength};
 ghost use Rattle.spec.specs.Image.{objects, names, nameAt, nameLength};
-ghost use Rattle.spec.specs.Room.{isDirectory, isLive};
 ghost use Rattle.spec.specs.Bytes.{part, beAt};
 ghost use Rattle.spec.specs.Check.{isZero, goodUsed, goodNameRecord};
 ghost use Rattle.laws.proofs.Valid.{Shaped};
@@ -14,22 +12,12 @@ ghost use Rattle.fsck_names.specs.Record.{isDirectoryIn, isLiveIn};
 use crate::text::good_text;
 use fsck_objects::object::kind_of;
 use fsck_objects::zero::is_zero;
-use kinds::layout::Image;
 use kinds::layout::NameRecord;
-use kinds::layout::ObjectRecord;
 use kinds::numbers::Kind;
 use kinds::numbers::Limit;
 use kinds::numbers::NameNumber;
 use kinds::numbers::ObjectNumber;
-
-// Where name record n starts, in a store of p objects.
-pub fn name_start(p: usize, n: NameNumber) -> usize
-    requires { ⌜ p ≤ mostObjects ⌝ }
-    requires { ⌜ n .0 ≤ mostNameRecords ⌝ }
-    ensures { λ r. ⌜ r ≡ namesHead + objectLength * p + nameRecordLength * n .0 ⌝ }
-{
-    Image::NAMES_HEAD + ObjectRecord::BYTES * p + NameRecord::BYTES * n.0
-}
+use store_places::name_place;
 
 // Whether o is the number of a directory.
 fn is_directory(store: &[u8], p: usize, o: ObjectNumber) -> bool
@@ -59,7 +47,7 @@ fn good_used(store: &[u8], inside: &[u8; 64], p: usize, n: NameNumber, len: usiz
     requires { ⌜ Inside (now inside) ⌝ }
     ensures { λ r. ⌜ r ≡ goodUsed (now (store .entry)) (n .0) ⌝ }
 {
-    let at = name_start(p, n);
+    let at = name_place(p, n);
     if len > Limit::MOST_NAME_BYTES {
         return false;
     }
@@ -81,7 +69,7 @@ pub fn length_of(store: &[u8], p: usize, n: NameNumber) -> usize
     requires { ⌜ n .0 < names (now store) ⌝ }
     ensures { λ r. ⌜ r ≡ nameLength (now (store .entry)) (n .0) ⌝ }
 {
-    wire::get_u32(store, name_start(p, n) + NameRecord::LENGTH) as usize
+    wire::get_u32(store, name_place(p, n) + NameRecord::LENGTH) as usize
 }
 
 // The directory of name record n.
@@ -91,7 +79,7 @@ pub fn directory_of(store: &[u8], p: usize, n: NameNumber) -> ObjectNumber
     requires { ⌜ n .0 < names (now store) ⌝ }
     ensures { λ r. ⌜ r .0 ≡ nameAt (now (store .entry)) (n .0) .directory ⌝ }
 {
-    ObjectNumber(wire::get_u32(store, name_start(p, n)) as usize)
+    ObjectNumber(wire::get_u32(store, name_place(p, n)) as usize)
 }
 
 // The object that name record n names.
@@ -101,7 +89,7 @@ pub fn child_of(store: &[u8], p: usize, n: NameNumber) -> ObjectNumber
     requires { ⌜ n .0 < names (now store) ⌝ }
     ensures { λ r. ⌜ r .0 ≡ nameAt (now (store .entry)) (n .0) .child ⌝ }
 {
-    ObjectNumber(wire::get_u32(store, name_start(p, n) + NameRecord::CHILD) as usize)
+    ObjectNumber(wire::get_u32(store, name_place(p, n) + NameRecord::CHILD) as usize)
 }
 
 // Whether the name record from `at`, whose length is 0, is zero.
@@ -126,7 +114,7 @@ pub fn record_passes(store: &[u8], inside: &[u8; 64], p: usize, n: NameNumber, l
     ensures { λ r. ⌜ r ≡ goodNameRecord (now (store .entry)) (n .0) ⌝ }
 {
     if len == 0 {
-        return is_free(store, name_start(p, n));
+        return is_free(store, name_place(p, n));
     }
     good_used(store, inside, p, n, len)
 }

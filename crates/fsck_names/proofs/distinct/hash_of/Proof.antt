@@ -4,8 +4,8 @@ use borrow.Author.Needs.{needs}
 use Rattle.fsck_names.proofs.distinct.hash_of.Statement.{statement}
 use Rattle.fsck_names.proofs.distinct.hash_of.Tie as tie
 
-name-start-requires : tie.Need-name-start-requires
-name-start-requires c κs = search needs
+name-place-requires : tie.Need-name-place-requires
+name-place-requires c κs = search needs
 
 directory-of-requires : tie.Need-directory-of-requires
 directory-of-requires c κs = search needs
@@ -59,13 +59,13 @@ returns : tie.Need-returns
 returns c =
     let st = c .before .before .before .before .before .before .before .before .before .before .before in (
       hash-by (st .args .store .now) (st .args .p) (st .args .n .0)
-          (c .before .before .before .before .before .before .before .before .before .name-start .result)
+          (c .before .before .before .before .before .before .before .before .before .name-place .result)
           (c .before .before .before .before .before .before .before .before .directory-of .result .0)
           (c .before .before .before .before .before .before .before .word-at .result) (c .before .before .before .before .before .word-at2 .result)
           (c .before .before .before .word-at3 .result) (c .before .word-at4 .result)
           (c .before .before .before .before .before .before .join .result) (c .before .before .before .before .join2 .result)
           (c .before .before .join3 .result) (c .join4 .result)
-          (st .pre .1 .0) (c .before .before .before .before .before .before .before .before .before .name-start .ensures)
+          (st .pre .1 .0) (c .before .before .before .before .before .before .before .before .before .name-place .ensures)
           (c .before .before .before .before .before .before .before .before .directory-of .ensures)
           (c .before .before .before .before .before .before .before .word-at .ensures)
           (c .before .before .before .before .before .word-at2 .ensures) (c .before .before .before .word-at3 .ensures)
@@ -78,7 +78,7 @@ pub hash-of-spec : {M : Type 1} → statement M
 hash-of-spec =
     tie.close
     (tie.spec
-    name-start-requires
+    name-place-requires
     directory-of-requires
     add-text
     word-at-requires

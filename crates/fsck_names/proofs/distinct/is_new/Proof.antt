@@ -1,8 +1,7 @@
 use Rattle.fsck_names.proofs.Chained.{Walked, walk-start, walk-step, walk-less, used-before}
 use borrow.Author.Needs.{needs}
 use native.Mathlib.Omega.{arith}
-use mathlib.Core.Bool.{Bool, _||_}
-use mathlib.Core.Path.{ap, sym, _∙_}
+use mathlib.Core.Path.{_∙_}
 use Prim.Native.Nat.{_-_}
 use Rattle.fsck_names.proofs.distinct.is_new.Statement.{statement}
 use Rattle.fsck_names.proofs.distinct.is_new.Tie as tie
@@ -37,9 +36,15 @@ same-name-requires c κs =
       (
         st .pre .1 .0,
         (
-          used-before (st .args .store .now) (st .pre .0) (st .args .n .0) (st .args .h) w (l .loop .k - 1)
-              (omega (arith, l .loop .inv .most)) (l .loop .inv .at (c .loop-test .taken) .0),
-          w .itself,
+          omega (arith, l .loop .inv .most, w .below),
+          (
+            w .below,
+            (
+              used-before (st .args .store .now) (st .pre .0) (st .args .n .0) (st .args .h) w (l .loop .k - 1)
+                  (omega (arith, l .loop .inv .most)) (l .loop .inv .at (c .loop-test .taken) .0),
+              w .itself,
+            ),
+          ),
         ),
       ),
     )

@@ -2,8 +2,9 @@ use mathlib.Core.Path.{sym, _∙_}
 use native.Mathlib.Omega.{arith}
 use borrow.Author.Tests.{not-true, not-false}
 use Rattle.fsck_objects.proofs.Passes.{told-true, told-false, fails-name}
+use Rattle.laws.proofs.Valid.{true-used, false-used}
 use Rattle.fsck_names.specs.Distinct.{New}
-use Rattle.fsck_names.proofs.Joins.{used-yes, used-no, record-used}
+use Rattle.fsck_names.proofs.Joins.{used-passes}
 use Rattle.fsck_names.proofs.Chained.{chains-used}
 use Rattle.fsck_names.proofs.Whole.{names-free, names-used}
 use borrow.Author.Needs.{needs}
@@ -30,7 +31,7 @@ returns-2 c =
     let s = a .store .now in
     let g = sym (c .before .before .record-passes .ensures) ∙ not-false _ (c .before .if1 .left) in
     told-true (names-free s (a .n .0) (a .parents .now) (a .head .now) (a .next .now) (st .pre .1 .1 .1 .0) g
-    (used-no s (a .n .0) (sym (c .before .before .before .length-of .ensures) ∙ c .if2 .taken)))
+    (false-used s (a .n .0) (sym (c .before .before .before .length-of .ensures) ∙ c .if2 .taken)))
 
 mark-child-requires : tie.Need-mark-child-requires
 mark-child-requires c κs =
@@ -38,8 +39,12 @@ mark-child-requires c κs =
     let a = st .args in
     let s = a .store .now in
     let g = sym (c .before .before .before .before .record-passes .ensures) ∙ not-false _ (c .before .before .before .if1 .left) in
-    let u = used-yes s (a .n .0) (λ e. c .before .before .if2 .left (c .before .before .before .before .before .length-of .ensures ∙ e)) in
-    (st .pre .0, (st .pre .1 .0, (st .pre .1 .1 .0, (u, (record-used s (a .n .0) u g, st .pre .1 .1 .1 .0 .named)))))
+    let u = true-used s (a .n .0) (omega (
+      arith,
+      c .before .before .if2 .left,
+      c .before .before .before .before .before .length-of .ensures,
+    )) in
+    (st .pre .0, (st .pre .1 .0, (st .pre .1 .1 .0, (used-passes s (a .n .0) (st .pre .0) (st .pre .1 .1 .0) u g, st .pre .1 .1 .1 .0 .named))))
 
 returns-3 : tie.Need-returns-3
 returns-3 c = told-false (c .before .mark-child .ensures .no (not-true _ (c .if3 .taken)))
@@ -54,10 +59,14 @@ is-new-requires c κs =
     let s = a .store .now in
     let g = sym (c .before .before .before .before .before .before .before .before .record-passes .ensures) ∙ not-false _
     (c .before .before .before .before .before .before .before .if1 .left) in
-    let u = used-yes s (a .n .0) (λ e. c .before .before .before .before .before .before .if2 .left
-    (c .before .before .before .before .before .before .before .before .before .length-of .ensures ∙ e)) in
+    let u = true-used s (a .n .0) (omega (
+      arith,
+      c .before .before .before .before .before .before .if2 .left,
+      c .before .before .before .before .before .before .before .before .before .length-of .ensures,
+    )) in
     let w : New s (a .n .0) (c .before .before .before .before .before .hash-of .result) = record {
-      itself = record { below = st .pre .1 .1 .0; used = u; good = g };
+      below = st .pre .1 .1 .0;
+      itself = used-passes s (a .n .0) (st .pre .0) (st .pre .1 .1 .0) u g;
       before = st .pre .1 .1 .1 .0 .good;
       hashed = c .before .before .before .before .before .hash-of .ensures .0;
       small = c .before .before .before .before .before .hash-of .ensures .1;
@@ -77,8 +86,11 @@ returns-5 c =
     let s = a .store .now in
     let g = sym (c .before .before .before .before .before .before .before .before .before .before .before .before .before .record-passes .ensures) ∙
     not-false _ (c .before .before .before .before .before .before .before .before .before .before .before .before .if1 .left) in
-    let u = used-yes s (a .n .0) (λ e. c .before .before .before .before .before .before .before .before .before .before .before .if2 .left
-    (c .before .before .before .before .before .before .before .before .before .before .before .before .before .before .length-of .ensures ∙ e))
+    let u = true-used s (a .n .0) (omega (
+      arith,
+      c .before .before .before .before .before .before .before .before .before .before .before .if2 .left,
+      c .before .before .before .before .before .before .before .before .before .before .before .before .before .before .length-of .ensures,
+    ))
     in
     let h = c .before .before .before .before .before .before .before .before .before .before .hash-of in
     let m = c .before .before .before .before .before .before .before .before .mark-child .ensures .yes

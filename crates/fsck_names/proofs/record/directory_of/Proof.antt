@@ -3,8 +3,8 @@ use borrow.Author.Needs.{needs}
 use Rattle.fsck_names.proofs.record.directory_of.Statement.{statement}
 use Rattle.fsck_names.proofs.record.directory_of.Tie as tie
 
-name-start-requires : tie.Need-name-start-requires
-name-start-requires c κs = search needs
+name-place-requires : tie.Need-name-place-requires
+name-place-requires c κs = search needs
 
 get-u32-requires : tie.Need-get-u32-requires
 get-u32-requires c κs = search needs
@@ -17,4 +17,4 @@ unfolding nameAt nameFrom nameLength
 returns c = cc
 
 pub directory-of-spec : {M : Type 1} → statement M
-directory-of-spec = tie.close (tie.spec name-start-requires get-u32-requires cast-t6 returns)
+directory-of-spec = tie.close (tie.spec name-place-requires get-u32-requires cast-t6 returns)
