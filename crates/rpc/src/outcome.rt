@@ -1,7 +1,7 @@
 // Whether a procedure runs, and the replies of calls that do not run.
 ghost use mathlib.Core.Path.{_≡_};
 ghost use mathlib.Core.List.{[], _∷_};
-ghost use Prim.Native.Nat.{_≤_, _+_};
+ghost use Prim.Native.Nat.{_≤_};
 ghost use lib.ListN.{length};
 ghost use Rattle.spec.specs.Bytes.{words};
 ghost use Rattle.spec.specs.Rpc.{judge, nfs, denied, accepted, mismatch};

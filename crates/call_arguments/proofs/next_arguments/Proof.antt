@@ -1,6 +1,5 @@
 -- `call_arguments::next_arguments` meets its contract: it takes the reader apart, and calls `arguments_at`. Assumes nothing.
-use Prim.Native.Nat.{ℕ}
-use mathlib.Core.List.{List}
+use mathlib.Core.Option.{some}
 use mathlib.Core.Path.{_≡_}
 use mir.Syntax.{w32}
 use contract.Running.{givenOf, tables, tablesOf}
@@ -9,7 +8,6 @@ use denote.Triple.Spec.{tripleOf}
 use denote.Triple.Table.{entered, cited}
 use Rattle.spec.specs.Arguments.{arguments}
 use Rattle.call_arguments.specs.Reading.{argumentsOf}
-use Rattle.call_end.specs.declared.reading.ArgumentsRead.{ArgumentsRead}
 use Rattle.call_end.proofs.reading.ArgumentsRead as R
 use Rattle.call_end.proofs.reading.ArgumentsRead.Laws as R′
 use Rattle.reader.proofs.Taken.{taken}
@@ -22,17 +20,13 @@ use Rattle.call_arguments.proofs.next_arguments as next-arguments
 use Rattle.call_arguments.proofs.next_arguments.Statement as stated
 use Rattle.call_arguments.proofs.next_arguments.Code as code
 
--- what it promises of the bytes s, the place at and the procedure p
-abbrev Says : List ℕ → ℕ → ℕ → ArgumentsRead → Type 0
-Says s at p r = argumentsOf r ≡ arguments p s at
-
 pub next-arguments-spec : {M : Type 1} → stated.statement M
 unfolding code.routine tablesOf
 next-arguments-spec 𝓤 H 𝓜 𝓖 𝓡 =
     entered 𝓤 H (tripleOf 𝓤 H (𝓖 .A) next-arguments.signature (next-arguments.spec 𝓤 H (𝓖 .A) (𝓜 .mem) (𝓡 .run)))
     (tables 𝓤 H 𝓜 𝓡 code.env .C) (tables 𝓤 H 𝓜 𝓡 code.env .Λ) #next-arguments code.function (code.unfolded 𝓤 H 𝓜 𝓡)
-    (taken 𝓤 H (𝓖 .A) (givenOf 𝓤 H 𝓜 𝓖) w32 tt R.the-row R′.mir
-    (λ r u is. EL.lawful R.the-type R′.the-laws 𝓤 H (𝓖 .A) (givenOf 𝓤 H 𝓜 𝓖) tt .typed r _ is .0) Says #arguments-at
-    (tablesOf 𝓤 H 𝓜 (tables 𝓤 H 𝓜 𝓡 code.env))
+    (taken 𝓤 H (𝓖 .A) (givenOf 𝓤 H 𝓜 𝓖) R.the-row R′.mir
+    (λ r u is. EL.lawful R.the-type R′.the-laws 𝓤 H (𝓖 .A) (givenOf 𝓤 H 𝓜 𝓖) tt .typed r _ is .0) (EL.makes R.the-type R′.the-plain 𝓤 H (𝓖 .A)) #arguments-at
+    (tablesOf 𝓤 H 𝓜 (tables 𝓤 H 𝓜 𝓡 code.env)) (some w32) (λ _ s at p r. argumentsOf r ≡ arguments (p .0) s at)
     (cited 𝓤 H (tripleOf 𝓤 H (𝓖 .A) callee.signature (callee.spec 𝓤 H (𝓖 .A) (𝓜 .mem) (𝓡 .run))) 𝓜 𝓡 code.env #arguments-at callee-def.routine
     code.calls-call-arguments·arguments-at (callee-thm.met 𝓤 H 𝓜 𝓖 𝓡)))

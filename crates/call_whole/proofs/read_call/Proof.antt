@@ -1,6 +1,4 @@
 -- `call_whole::read_call` meets its contract: it makes a reader, and calls `next_call` on it. Assumes nothing.
-use Prim.Native.Nat.{ℕ}
-use mathlib.Core.List.{List}
 use mathlib.Core.Path.{_≡_}
 use contract.Running.{givenOf, tables, tablesOf}
 use denote.Struct.Laws as LL
@@ -10,7 +8,6 @@ use Rattle.spec.specs.Header.{header}
 use Rattle.rpc.specs.Meaning.{headerOf}
 use Rattle.call_arguments.specs.Reading.{argumentsOf}
 use Rattle.call_whole.specs.After.{argumentsAfter}
-use Rattle.call_whole.specs.declared.CallRead.{CallRead}
 use Rattle.call_whole.proofs.CallRead as R
 use Rattle.call_whole.proofs.CallRead.Laws as R′
 use Rattle.reader.proofs.Made.{made}
@@ -27,16 +24,14 @@ use Rattle.call_whole.proofs.read_call as self
 use Rattle.call_whole.proofs.read_call.Statement as stated
 use Rattle.call_whole.proofs.read_call.Code as code
 
-abbrev Says : List ℕ → ℕ → CallRead → Type 0
-Says s at t = (headerOf (t .header) ≡ header s at) × (argumentsOf (t .arguments) ≡ argumentsAfter s (header s at))
-
 pub read-call-spec : {M : Type 1} → stated.statement M
 unfolding code.routine tablesOf
 read-call-spec 𝓤 H 𝓜 𝓖 𝓡 =
     entered 𝓤 H (tripleOf 𝓤 H (𝓖 .A) self.signature (self.spec 𝓤 H (𝓖 .A) (𝓜 .mem) (𝓡 .run)))
     (tables 𝓤 H 𝓜 𝓡 code.env .C) (tables 𝓤 H 𝓜 𝓡 code.env .Λ) #read-call code.function (code.unfolded 𝓤 H 𝓜 𝓡)
-    (made 𝓤 H (𝓖 .A) (givenOf 𝓤 H 𝓜 𝓖) (𝓜 .mem) (𝓡 .run) R.the-row R′.mir
-    (λ r u is. LL.lawful R.the-type R′.the-laws 𝓤 H (𝓖 .A) (givenOf 𝓤 H 𝓜 𝓖) .typed r _ is .0) Says #next-call
+    (made 𝓤 H (𝓖 .A) (givenOf 𝓤 H 𝓜 𝓖) R.the-row R′.mir
+    (λ r u is. LL.lawful R.the-type R′.the-laws 𝓤 H (𝓖 .A) (givenOf 𝓤 H 𝓜 𝓖) .typed r _ is .0)
+    (λ _ s at _ t. (headerOf (t .header) ≡ header s at) × (argumentsOf (t .arguments) ≡ argumentsAfter s (header s at))) #next-call
     (tablesOf 𝓤 H 𝓜 (tables 𝓤 H 𝓜 𝓡 code.env))
     (cited 𝓤 H (tripleOf 𝓤 H (𝓖 .A) new.signature (new.spec 𝓤 H (𝓖 .A) (𝓜 .mem) (𝓡 .run))) 𝓜 𝓡 code.env #new new-def.routine code.calls-reader·new
     (new-thm.met 𝓤 H 𝓜 𝓖 𝓡))

@@ -1,6 +1,6 @@
 -- `reader::past` meets its contract: a walk of its MIR, by hand. A struct is made anew of the slice that the one passed holds, and another number.
--- The struct is Copy: what it owns is had twice, one copy is kept whole for the exit, and the other, with the facts of the number in the place of the place's, is what the result owns.
--- Assumes nothing.
+-- The struct is Copy: what it owns is had twice, one copy is kept whole for the exit, and the other, with the facts of the number in the place
+-- of the place's, is what the result owns. Assumes nothing.
 use mathlib.Core.Path.{refl}
 use Prim.Native.Nat.{ℕ, _<_, _^_}
 use mathlib.Core.List.{[], _∷_}
@@ -14,7 +14,6 @@ use prog.Memory.{Memory}
 use prog.Routine.{Routine}
 use prog.Wp.{Heap, Calls, Loops, WpFn, Tables}
 use ghost.Atoms.{Atoms}
-use contract.Lifetimes.{Lfts}
 use contract.Monad.{Fun}
 use contract.Running.{givenOf, tables, tablesOf}
 use types.Kit.{Given, ‵, _⊛_, _$_, _∵_, !, qed, by, move, use1, split, fsplit, fjoin, suffices, frame}
@@ -22,7 +21,7 @@ use types.Part.{whole, sub, look-in, agg}
 use types.Run.{look, init, forget, stop, fld, from, load, of-opd, and-then, no-more, assigns, returns, enter, alloc1, alloc0, params1, pass1, pass0}
 use types.Run.{free1, free0}
 use sound.WpLaws.{WpFn-mono}
-use denote.RattleType.{RattleType, owns}
+use denote.RattleType.{owns}
 use denote.Laws.{Is}
 use denote.Plain.{uint-vals, uint-tells, uint-makes}
 use denote.Builtin.{usize}
@@ -38,14 +37,11 @@ use denote.Exit.{yes}
 use Rattle.reader.specs.declared.Reader.{Reader}
 use Rattle.reader.proofs.Reader as T
 use Rattle.reader.proofs.Reader.Laws as T′
+use Rattle.reader.proofs.Shape.{B}
 use Rattle.reader.proofs.past.Key.{name as #past}
 use Rattle.reader.proofs.past as past
 use Rattle.reader.proofs.past.Statement as stated
 use Rattle.reader.proofs.past.Code as code
-
--- the struct's type, over the signature's lifetimes
-abbrev B : Lfts 1 → RattleType
-B κs = T.the-row (namedLft 1 0 tt κs)
 
 abbrev stayed : Stays (past.ended .signature .params) (past.ended .kept)
 stayed = (stay-none B yes, (stay-none (λ _. usize) yes, tt))
