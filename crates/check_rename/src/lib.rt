@@ -1,7 +1,8 @@
 // What RENAME checks, in the order that decides the status.
 ghost use mathlib.Core.Path.{_≡_};
-ghost use Prim.Native.Nat.{_+_, _≤_};
+ghost use Prim.Native.Nat.{_+_, _<_, _≤_};
 ghost use lib.ListN.{length};
+ghost use Rattle.spec.specs.Image.{objects};
 ghost use Rattle.spec.specs.Procedures.{cut};
 ghost use Rattle.spec.specs.Procedures.Removal.{checkMove, checkRename};
 ghost use Rattle.laws.proofs.GoodRecords.{GoodRecords};
@@ -37,6 +38,7 @@ fn check_move(
     to: Part,
 ) -> Renamable
     requires { ⌜ GoodRecords (now store) ⌝ }
+    requires { ⌜ e .0 < objects (now store) ⌝ }
     requires { ⌜ from .start + from .length ≤ length (now call) ⌝ }
     requires { ⌜ to .start + to .length ≤ length (now call) ⌝ }
     ensures { λ r. ⌜ renamableOf r ≡ checkMove (now (store .entry)) (d .0) (e .0) (cut (now (call .entry)) from) (cut (now (call .entry)) to) ⌝ }

@@ -10,7 +10,7 @@ use store_records::counts::name_count;
 use store_records::counts::object_count;
 use store_records::object::is_directory;
 use store_search::name::is_in;
-use store_search::name::parent_of;
+use store_search::name::parent_table;
 
 // Whether some name is in a directory.
 pub fn has_entries(store: &[u8], directory: ObjectNumber) -> bool
@@ -32,11 +32,13 @@ pub fn has_entries(store: &[u8], directory: ObjectNumber) -> bool
 pub fn is_within(store: &[u8], o: ObjectNumber, directory: ObjectNumber) -> bool
     requires { ⌜ GoodRecords (now store) ⌝ }
     requires { ⌜ o .0 < objects (now store) ⌝ }
+    requires { ⌜ directory .0 < objects (now store) ⌝ }
     ensures { λ r. ⌜ r ≡ isWithin (now (store .entry)) (o .0) (directory .0) ⌝ }
 {
     if !is_directory(store, o) {
         return false;
     }
+    let parents = parent_table(store);
     let total = object_count(store);
     let mut at = directory.0;
     let mut steps = 0;
@@ -44,8 +46,7 @@ pub fn is_within(store: &[u8], o: ObjectNumber, directory: ObjectNumber) -> bool
         if at == o.0 {
             return true;
         }
-        let up = parent_of(store, ObjectNumber(at));
-        let parent = up.0;
+        let parent = parents[at] as usize;
         if parent == at {
             return false;
         }

@@ -10,6 +10,7 @@ ghost use Rattle.spec.specs.Room.{isUsedName, isNaming, isIn, isNamed, isDirect
 ghost use Rattle.store_records.specs.Shaped.{Shaped, SoundNames};
 ghost use Rattle.store_records.specs.Text.{textOf};
 ghost use Rattle.store_search.specs.Found.{foundName};
+ghost use Rattle.store_search.specs.Parents.{ParentTable};
 use crate::found::FoundName;
 use crate::found::one_if;
 use kinds::call::Part;
@@ -99,6 +100,27 @@ pub fn parent_of(store: &[u8], o: ObjectNumber) -> ObjectNumber
         FoundName::At(n) => name_directory(store, n),
         FoundName::Nothing => ObjectNumber(0),
     }
+}
+
+// The directory that each object is in, as `parent_of` gives it. It goes from the last record to the first, so that of those that name an object
+// the lowest-numbered decides.
+pub fn parent_table(store: &[u8]) -> [u8; 64]
+    requires { ⌜ Shaped (now store) ⌝ }
+    requires { ⌜ SoundNames (now store) ⌝ }
+    ensures { λ r. ⌜ ParentTable (now (store .entry)) r ⌝ }
+{
+    let mut table = [0u8; 64];
+    let mut n = name_count(store);
+    while n > 0 {
+        n -= 1;
+        if is_used_name(store, NameNumber(n)) {
+            let child = name_child(store, NameNumber(n));
+            let directory = name_directory(store, NameNumber(n));
+            let o = child.0;
+            table[o] = directory.0 as u8;
+        }
+    }
+    table
 }
 
 // Whether a record is used, and in a directory.

@@ -71,7 +71,7 @@ returns-4 c = rw (
 find-name-requires : tie.Need-find-name-requires
 find-name-requires c κs =
     let pre = c .before .before .before .before .before .before .before .before .before .before .before .before .pre in
-    (good-shaped _ (pre .0), (good-names-sound _ (pre .0), pre .1 .0))
+    (good-shaped _ (pre .0), (good-names-sound _ (pre .0), pre .1 .1 .0))
 
 enum-known-n : tie.Need-enum-known-n
 enum-known-n c = search needs
@@ -97,7 +97,7 @@ returns-5 c = rw (
 find-name-requires-2 : tie.Need-find-name-requires-2
 find-name-requires-2 c κs =
     let pre = c .before .before .before .before .before .before .before .before .before .before .before .before .before .before .before .before .pre
-    in (good-shaped _ (pre .0), (good-names-sound _ (pre .0), pre .1 .1))
+    in (good-shaped _ (pre .0), (good-names-sound _ (pre .0), pre .1 .1 .1))
 
 enum-known-other : tie.Need-enum-known-other
 enum-known-other c = search needs
@@ -141,7 +141,7 @@ is-within-requires c κs =
     let a = st .args in
     let k = name-found (a .store .now) (st .pre .0) (a .d .0) (cut (a .call .now) (a .from)) _ _
     (c .before .before .before .before .before .n .given .1) (c .before .before .before .before .before .before .before .find-name .ensures) in
-    (st .pre .0, omega (arith, c .name-child .ensures))
+    (st .pre .0, (omega (arith, c .name-child .ensures), st .pre .1 .0))
 
 returns-7 : tie.Need-returns-7
 unfolding checkMove

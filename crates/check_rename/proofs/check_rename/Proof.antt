@@ -1,4 +1,5 @@
 use borrow.Author.Needs.{needs}
+use Rattle.check_handles.proofs.Reach.{directory-reached}
 use Rattle.spec.specs.Procedures.Removal.{checkRename}
 use Rattle.check_rename.proofs.check_rename.Statement.{statement}
 use Rattle.check_rename.proofs.check_rename.Tie as tie
@@ -35,7 +36,10 @@ returns-2 c = rw (
 )
 
 check-move-requires : tie.Need-check-move-requires
-check-move-requires c κs = search needs
+check-move-requires c κs =
+    let st = c .before .before .before .before .before .before .before .before .before .before .before .before .before .before in
+    let d = directory-reached _ _ _ _ (c .before .before .before .answer .given .1) (c .before .before .before .before .before .reach-directory2 .ensures) in
+    (st .pre .0, (d .0 .below, (st .pre .1 .1 .0, st .pre .1 .1 .1 .1)))
 
 returns-3 : tie.Need-returns-3
 unfolding checkRename
