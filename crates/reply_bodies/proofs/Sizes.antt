@@ -1,6 +1,6 @@
 -- The words of a change, and of the numbers that FSSTAT sends. Assumes nothing.
 use Prim.Native.Nat.{ℕ, _≤_, _<_}
-use mathlib.Core.List.{List, [], _∷_, _++_, append-assoc}
+use mathlib.Core.List.{List, [], _∷_, _++_}
 use mathlib.Core.Path.{_≡_}
 use lib.ListN.{length}
 use lib.Dec.{lit≤}
@@ -17,12 +17,10 @@ change-small s HandleChange.Absent = lit≤ tt
 change-small s (HandleChange.Present c) = lit≤ tt
 
 -- the numbers that FSSTAT sends, as words
-pub room-words : (xs : List ℕ) (t f o v : ℕ) → t < 4294967296 → f < 4294967296 → o < 4294967296 → v < 4294967296
-    → xs ++ hyper t ++ hyper f ++ hyper f ++ hyper o ++ hyper v ++ hyper v ++ (0 ∷ [])
-    ≡ xs ++ (0 ∷ t ∷ 0 ∷ f ∷ 0 ∷ f ∷ 0 ∷ o ∷ 0 ∷ v ∷ 0 ∷ v ∷ 0 ∷ [])
-room-words xs t f o v a b c d =
-    joined (hyper t) (hyper f) (hyper o) (hyper v) (hyper-small t a) (hyper-small f b) (hyper-small o c) (hyper-small v d)
+pub room-words : (t f o v : ℕ) → t < 4294967296 → f < 4294967296 → o < 4294967296 → v < 4294967296
+    → hyper t ++ hyper f ++ hyper f ++ hyper o ++ hyper v ++ hyper v ++ (0 ∷ []) ≡ 0 ∷ t ∷ 0 ∷ f ∷ 0 ∷ f ∷ 0 ∷ o ∷ 0 ∷ v ∷ 0 ∷ v ∷ 0 ∷ []
+room-words t f o v a b c d = joined (hyper t) (hyper f) (hyper o) (hyper v) (hyper-small t a) (hyper-small f b) (hyper-small o c) (hyper-small v d)
   where
     joined : (x y z w : List ℕ) → x ≡ 0 ∷ t ∷ [] → y ≡ 0 ∷ f ∷ [] → z ≡ 0 ∷ o ∷ [] → w ≡ 0 ∷ v ∷ []
-        → xs ++ x ++ y ++ y ++ z ++ w ++ w ++ (0 ∷ []) ≡ xs ++ (0 ∷ t ∷ 0 ∷ f ∷ 0 ∷ f ∷ 0 ∷ o ∷ 0 ∷ v ∷ 0 ∷ v ∷ 0 ∷ [])
-    joined x y z w p q r u = rw (p, q, r, u) (simp append-assoc)
+        → x ++ y ++ y ++ z ++ w ++ w ++ (0 ∷ []) ≡ 0 ∷ t ∷ 0 ∷ f ∷ 0 ∷ f ∷ 0 ∷ o ∷ 0 ∷ v ∷ 0 ∷ v ∷ 0 ∷ []
+    joined x y z w p q r u = rw (p, q, r, u)

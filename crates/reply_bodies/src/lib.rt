@@ -1,4 +1,5 @@
-// The results of each procedure in a reply: the status and what follows it.
+// The parts of each procedure's results in a reply. The results begin with the status; most go on with attributes that are read from the store,
+// and end with what is written here from numbers alone.
 ghost use mathlib.Core.Path.{_≡_};
 ghost use mathlib.Core.List.{[], _∷_, _++_};
 ghost use Prim.Native.Nat.{_+_, _*_, _/_, _%_, _≤_};
@@ -17,11 +18,11 @@ use kinds::numbers::Limit;
 use kinds::numbers::ObjectNumber;
 use kinds::numbers::Status;
 use reply_entries::put_entries;
-use reply_fields::attributes::put_attributes;
-use reply_fields::attributes::put_change;
-use reply_fields::attributes::put_handle;
-use reply_fields::attributes::put_handle_change;
-use reply_fields::attributes::put_post_op;
+use reply_fields::attributes::put_fattr3_of;
+use reply_fields::attributes::put_nfs_fh3;
+use reply_fields::attributes::put_post_op_attr;
+use reply_fields::attributes::put_wcc_data;
+use reply_fields::attributes::put_wcc_option;
 use reply_file::put_file_bytes;
 use results::HandleChange;
 use results::ObjectChange;
@@ -55,8 +56,8 @@ fn flag(b: bool) -> u32
     if b { 1 } else { 0 }
 }
 
-// A status, and the attributes of an object.
-pub fn put_failed(
+// The status, and the post_op_attr of an object.
+pub fn put_status_post_op_attr(
     reply: &mut [u8],
     at: usize,
     store: &[u8],
@@ -68,11 +69,11 @@ pub fn put_failed(
     ensures { λ r. ⌜ Wrote 92 (now (reply .entry)) (now (reply .exit)) at r (words (status .0 ∷ postOp (attributes (now (store .entry)) (o .0)))) ⌝ }
 {
     let next = put_word(reply, at, status.0);
-    put_post_op(reply, next, store, o)
+    put_post_op_attr(reply, next, store, o)
 }
 
-// A status, and a change.
-pub fn put_changed(
+// The status, and the wcc_data of an object.
+pub fn put_status_wcc_data(
     reply: &mut [u8],
     at: usize,
     store: &[u8],
@@ -84,10 +85,10 @@ pub fn put_changed(
     ensures { λ r. ⌜ Wrote 120 (now (reply .entry)) (now (reply .exit)) at r (words (status .0 ∷ wccData (changeIn (now (store .entry)) c))) ⌝ }
 {
     let next = put_word(reply, at, status.0);
-    put_change(reply, next, store, c)
+    put_wcc_data(reply, next, store, c)
 }
 
-// RENAME.
+// RENAME, whole: the status, and the wcc_data of both directories.
 pub fn put_renamed(
     reply: &mut [u8],
     at: usize,
@@ -102,21 +103,21 @@ pub fn put_renamed(
     ensures { λ r. ⌜ Wrote (4 + 4 * length (wccOption (handleChangeIn (now (store .entry)) c)) + 4 * length (wccOption (handleChangeIn (now (store .entry)) d))) (now (reply .entry)) (now (reply .exit)) at r (words (status .0 ∷ wccOption (handleChangeIn (now (store .entry)) c) ++ wccOption (handleChangeIn (now (store .entry)) d))) ⌝ }
 {
     let next = put_word(reply, at, status.0);
-    let behind = put_handle_change(reply, next, store, c);
-    put_handle_change(reply, behind, store, d)
+    let behind = put_wcc_option(reply, next, store, c);
+    put_wcc_option(reply, behind, store, d)
 }
 
-// GETATTR.
+// GETATTR, whole: OK, and the fattr3 of the object.
 pub fn put_got_attributes(reply: &mut [u8], at: usize, store: &[u8], o: ObjectNumber) -> usize
     requires { ⌜ at + 88 ≤ length (now reply) ⌝ }
     requires { ⌜ Showable (now store) (o .0) ⌝ }
     ensures { λ r. ⌜ Wrote 88 (now (reply .entry)) (now (reply .exit)) at r (words (OK ∷ fattr3 (attributes (now (store .entry)) (o .0)))) ⌝ }
 {
     let next = put_word(reply, at, 0);
-    put_attributes(reply, next, store, o)
+    put_fattr3_of(reply, next, store, o)
 }
 
-// LOOKUP.
+// LOOKUP, whole: OK, the nfs_fh3 of the object, its post_op_attr and that of the directory.
 pub fn put_found(
     reply: &mut [u8],
     at: usize,
@@ -130,60 +131,12 @@ pub fn put_found(
     ensures { λ r. ⌜ Wrote 196 (now (reply .entry)) (now (reply .exit)) at r (words (OK ∷ []) ++ opaqueBytes (handleOf (now (store .entry)) (o .0)) ++ words (postOp (attributes (now (store .entry)) (o .0)) ++ postOp (attributes (now (store .entry)) (d .0)))) ⌝ }
 {
     let handle = put_word(reply, at, 0);
-    let object = put_handle(reply, handle, store, o);
-    let directory = put_post_op(reply, object, store, o);
-    put_post_op(reply, directory, store, d)
+    let object = put_nfs_fh3(reply, handle, store, o);
+    let directory = put_post_op_attr(reply, object, store, o);
+    put_post_op_attr(reply, directory, store, d)
 }
 
-// ACCESS.
-pub fn put_granted(reply: &mut [u8], at: usize, store: &[u8], o: ObjectNumber, bits: u32) -> usize
-    requires { ⌜ at + 96 ≤ length (now reply) ⌝ }
-    requires { ⌜ Showable (now store) (o .0) ⌝ }
-    ensures { λ r. ⌜ Wrote 96 (now (reply .entry)) (now (reply .exit)) at r (words (OK ∷ postOp (attributes (now (store .entry)) (o .0)) ++ (bits ∷ []))) ⌝ }
-{
-    let next = put_failed(reply, at, store, Status::OK, o);
-    put_word(reply, next, bits)
-}
-
-// READ.
-pub fn put_got_bytes(
-    reply: &mut [u8],
-    at: usize,
-    store: &[u8],
-    o: ObjectNumber,
-    eof: bool,
-    offset: usize,
-    n: usize,
-) -> usize
-    requires { ⌜ Readable (now store) (o .0) offset n ⌝ }
-    requires { ⌜ at + 4200 ≤ length (now reply) ⌝ }
-    ensures { λ r. ⌜ Wrote (100 + (4 + n + padding n)) (now (reply .entry)) (now (reply .exit)) at r (words (OK ∷ postOp (attributes (now (store .entry)) (o .0)) ++ (n ∷ bit eof ∷ [])) ++ opaqueBytes (readFile (now (store .entry)) (o .0) offset n)) ⌝ }
-{
-    let next = put_failed(reply, at, store, Status::OK, o);
-    let ws = [n as u32, flag(eof)];
-    let bytes = put_words(reply, next, &ws);
-    put_file_bytes(reply, bytes, store, o, offset, n)
-}
-
-// WRITE: the count, FILE_SYNC and the verifier follow the change.
-pub fn put_wrote(
-    reply: &mut [u8],
-    at: usize,
-    store: &[u8],
-    c: ObjectChange,
-    count: u32,
-    verifier: u64,
-) -> usize
-    requires { ⌜ at + 136 ≤ length (now reply) ⌝ }
-    requires { ⌜ Showable (now store) (c .object .0) ⌝ }
-    ensures { λ r. ⌜ Wrote 136 (now (reply .entry)) (now (reply .exit)) at r (words (OK ∷ wccData (changeIn (now (store .entry)) c) ++ (count ∷ fileSync ∷ hyper verifier))) ⌝ }
-{
-    let next = put_changed(reply, at, store, Status::OK, c);
-    let ws = [count, Limit::FILE_SYNC, high(verifier), low(verifier)];
-    put_words(reply, next, &ws)
-}
-
-// CREATE and MKDIR.
+// CREATE and MKDIR, whole: OK, the post_op_fh3 and the post_op_attr of the object, and the wcc_data of the directory.
 pub fn put_created(
     reply: &mut [u8],
     at: usize,
@@ -198,13 +151,32 @@ pub fn put_created(
 {
     let ws = [0, 1];
     let handle = put_words(reply, at, &ws);
-    let object = put_handle(reply, handle, store, o);
-    let directory = put_post_op(reply, object, store, o);
-    put_change(reply, directory, store, d)
+    let object = put_nfs_fh3(reply, handle, store, o);
+    let directory = put_post_op_attr(reply, object, store, o);
+    put_wcc_data(reply, directory, store, d)
 }
 
-// READDIR: a verifier of zero follows the attributes; the word 0 ends the entries.
-pub fn put_listed(
+// READ, behind the attributes: the count, whether the end was reached, and n bytes of the file from `offset`.
+pub fn put_read_bytes(
+    reply: &mut [u8],
+    at: usize,
+    store: &[u8],
+    o: ObjectNumber,
+    eof: bool,
+    offset: usize,
+    n: usize,
+) -> usize
+    requires { ⌜ Readable (now store) (o .0) offset n ⌝ }
+    requires { ⌜ at + (8 + (4 + n + padding n)) ≤ length (now reply) ⌝ }
+    ensures { λ r. ⌜ Wrote (8 + (4 + n + padding n)) (now (reply .entry)) (now (reply .exit)) at r (words (n ∷ bit eof ∷ []) ++ opaqueBytes (readFile (now (store .entry)) (o .0) offset n)) ⌝ }
+{
+    let ws = [n as u32, flag(eof)];
+    let bytes = put_words(reply, at, &ws);
+    put_file_bytes(reply, bytes, store, o, offset, n)
+}
+
+// READDIR, behind the attributes: a verifier of zero, the first n entries above the cookie, the word 0 that ends them, and whether nothing remains.
+pub fn put_listing(
     reply: &mut [u8],
     at: usize,
     store: &[u8],
@@ -214,33 +186,48 @@ pub fn put_listed(
     n: usize,
 ) -> usize
     requires { ⌜ Listable (now store) (o .0) cookie n ⌝ }
-    requires { ⌜ at + 4200 ≤ length (now reply) ⌝ }
-    ensures { λ r. ⌜ Wrote (100 + length (entriesBytes (take n (entriesAbove cookie (entries (now (store .entry)) (o .0))))) + 8) (now (reply .entry)) (now (reply .exit)) at r (words (OK ∷ postOp (attributes (now (store .entry)) (o .0)) ++ hyper 0) ++ entriesBytes (take n (entriesAbove cookie (entries (now (store .entry)) (o .0)))) ++ words (0 ∷ bit eof ∷ [])) ⌝ }
+    requires { ⌜ at + (8 + length (entriesBytes (take n (entriesAbove cookie (entries (now store) (o .0))))) + 8) ≤ length (now reply) ⌝ }
+    ensures { λ r. ⌜ Wrote (8 + length (entriesBytes (take n (entriesAbove cookie (entries (now (store .entry)) (o .0))))) + 8) (now (reply .entry)) (now (reply .exit)) at r (words (hyper 0) ++ entriesBytes (take n (entriesAbove cookie (entries (now (store .entry)) (o .0)))) ++ words (0 ∷ bit eof ∷ [])) ⌝ }
 {
-    let next = put_failed(reply, at, store, Status::OK, o);
     let zeros = [0u32, 0];
-    let entries = put_words(reply, next, &zeros);
-    let behind = put_entries(reply, entries, store, o, cookie, n);
+    let first = put_words(reply, at, &zeros);
+    let behind = put_entries(reply, first, store, o, cookie, n);
     let ws = [0, flag(eof)];
     put_words(reply, behind, &ws)
 }
 
-// FSSTAT.
-pub fn put_got_room(
+// COMMIT, behind the wcc_data, and the end of WRITE: writeverf3.
+pub fn put_verifier(reply: &mut [u8], at: usize, verifier: u64) -> usize
+    requires { ⌜ at + 8 ≤ length (now reply) ⌝ }
+    ensures { λ r. ⌜ Wrote 8 (now (reply .entry)) (now (reply .exit)) at r (words (hyper verifier)) ⌝ }
+{
+    let ws = [high(verifier), low(verifier)];
+    put_words(reply, at, &ws)
+}
+
+// WRITE, behind the wcc_data: the count, FILE_SYNC and the verifier.
+pub fn put_written(reply: &mut [u8], at: usize, count: u32, verifier: u64) -> usize
+    requires { ⌜ at + 16 ≤ length (now reply) ⌝ }
+    ensures { λ r. ⌜ Wrote 16 (now (reply .entry)) (now (reply .exit)) at r (words (count ∷ fileSync ∷ hyper verifier)) ⌝ }
+{
+    let ws = [count, Limit::FILE_SYNC];
+    let next = put_words(reply, at, &ws);
+    put_verifier(reply, next, verifier)
+}
+
+// FSSTAT, behind the attributes: bytes and objects, each number as all of them, those free, and those free for the caller; then no time for
+// which they hold.
+pub fn put_room(
     reply: &mut [u8],
     at: usize,
-    store: &[u8],
-    o: ObjectNumber,
     total: u32,
     free: u32,
     objects: u32,
     available: u32,
 ) -> usize
-    requires { ⌜ at + 144 ≤ length (now reply) ⌝ }
-    requires { ⌜ Showable (now store) (o .0) ⌝ }
-    ensures { λ r. ⌜ Wrote 144 (now (reply .entry)) (now (reply .exit)) at r (words (OK ∷ postOp (attributes (now (store .entry)) (o .0)) ++ hyper total ++ hyper free ++ hyper free ++ hyper objects ++ hyper available ++ hyper available ++ (0 ∷ []))) ⌝ }
+    requires { ⌜ at + 52 ≤ length (now reply) ⌝ }
+    ensures { λ r. ⌜ Wrote 52 (now (reply .entry)) (now (reply .exit)) at r (words (hyper total ++ hyper free ++ hyper free ++ hyper objects ++ hyper available ++ hyper available ++ (0 ∷ []))) ⌝ }
 {
-    let next = put_failed(reply, at, store, Status::OK, o);
     let ws = [
         0,
         total,
@@ -256,16 +243,14 @@ pub fn put_got_room(
         available,
         0,
     ];
-    put_words(reply, next, &ws)
+    put_words(reply, at, &ws)
 }
 
-// FSINFO.
-pub fn put_got_limits(reply: &mut [u8], at: usize, store: &[u8], o: ObjectNumber) -> usize
-    requires { ⌜ at + 140 ≤ length (now reply) ⌝ }
-    requires { ⌜ Showable (now store) (o .0) ⌝ }
-    ensures { λ r. ⌜ Wrote 140 (now (reply .entry)) (now (reply .exit)) at r (words (OK ∷ postOp (attributes (now (store .entry)) (o .0)) ++ (mostTransferBytes ∷ mostTransferBytes ∷ 1 ∷ mostTransferBytes ∷ mostTransferBytes ∷ 1 ∷ mostTransferBytes ∷ hyper mostFileBytes) ++ (0 ∷ 1 ∷ fileSystemProperties ∷ []))) ⌝ }
+// FSINFO, behind the attributes.
+pub fn put_limits(reply: &mut [u8], at: usize) -> usize
+    requires { ⌜ at + 48 ≤ length (now reply) ⌝ }
+    ensures { λ r. ⌜ Wrote 48 (now (reply .entry)) (now (reply .exit)) at r (words ((mostTransferBytes ∷ mostTransferBytes ∷ 1 ∷ mostTransferBytes ∷ mostTransferBytes ∷ 1 ∷ mostTransferBytes ∷ hyper mostFileBytes) ++ (0 ∷ 1 ∷ fileSystemProperties ∷ []))) ⌝ }
 {
-    let next = put_failed(reply, at, store, Status::OK, o);
     let ws = [
         TRANSFER,
         TRANSFER,
@@ -280,33 +265,14 @@ pub fn put_got_limits(reply: &mut [u8], at: usize, store: &[u8], o: ObjectNumber
         1,
         Limit::PROPERTIES,
     ];
-    put_words(reply, next, &ws)
+    put_words(reply, at, &ws)
 }
 
-// PATHCONF.
-pub fn put_got_naming(reply: &mut [u8], at: usize, store: &[u8], o: ObjectNumber) -> usize
-    requires { ⌜ at + 116 ≤ length (now reply) ⌝ }
-    requires { ⌜ Showable (now store) (o .0) ⌝ }
-    ensures { λ r. ⌜ Wrote 116 (now (reply .entry)) (now (reply .exit)) at r (words (OK ∷ postOp (attributes (now (store .entry)) (o .0)) ++ (mostLinks ∷ mostNameBytes ∷ 1 ∷ 0 ∷ 0 ∷ 1 ∷ []))) ⌝ }
+// PATHCONF, behind the attributes.
+pub fn put_naming(reply: &mut [u8], at: usize) -> usize
+    requires { ⌜ at + 24 ≤ length (now reply) ⌝ }
+    ensures { λ r. ⌜ Wrote 24 (now (reply .entry)) (now (reply .exit)) at r (words (mostLinks ∷ mostNameBytes ∷ 1 ∷ 0 ∷ 0 ∷ 1 ∷ [])) ⌝ }
 {
-    let next = put_failed(reply, at, store, Status::OK, o);
     let ws = [Limit::MOST_LINKS, LONGEST_NAME, 1, 0, 0, 1];
-    put_words(reply, next, &ws)
-}
-
-// COMMIT.
-pub fn put_committed(
-    reply: &mut [u8],
-    at: usize,
-    store: &[u8],
-    c: ObjectChange,
-    verifier: u64,
-) -> usize
-    requires { ⌜ at + 128 ≤ length (now reply) ⌝ }
-    requires { ⌜ Showable (now store) (c .object .0) ⌝ }
-    ensures { λ r. ⌜ Wrote 128 (now (reply .entry)) (now (reply .exit)) at r (words (OK ∷ wccData (changeIn (now (store .entry)) c) ++ hyper verifier)) ⌝ }
-{
-    let next = put_changed(reply, at, store, Status::OK, c);
-    let ws = [high(verifier), low(verifier)];
-    put_words(reply, next, &ws)
+    put_words(reply, at, &ws)
 }

@@ -6,6 +6,8 @@ use Prim.Native.Nat.{ℕ, zero, suc, _+_, _*_, _-_, _/_, _≤_, _<_}
 use native.Mathlib.Omega.{arith}
 use lib.Dec.{lit<}
 use lib.ListN.{length}
+use Rattle.kinds.specs.Layout.{textOffset}
+use Rattle.kinds.specs.Numbers.{mostNameBytes, entryFixedCost}
 use Rattle.spec.specs.Bytes.{part, overlay, padding, zeros, bytesOf, beAt, words, opaqueBytes}
 use Rattle.spec.specs.Image.{Store, names, nameStart, nameLength}
 use Rattle.spec.specs.Replies.{entryBytes}
@@ -40,17 +42,17 @@ record-padded : (s : Store) (n : ℕ) → GoodNameRecord s n → Padded s n
 record-padded s n (_⊎_.inl f) = f .padded
 record-padded s n (_⊎_.inr u) = u .padded
 
-pub padded-name : (s : Store) (n at len : ℕ) → GoodRecords s → n < names s → at ≡ nameStart s n → len ≡ nameLength s n → PaddedName s (at + 12) len
+pub padded-name : (s : Store) (n at len : ℕ) → GoodRecords s → n < names s → at ≡ nameStart s n → len ≡ nameLength s n → PaddedName s (at + textOffset) len
 padded-name s n at len g l p q =
     let h = g .sound .shaped in
     let k = g .sound .short n l in
-    let z = zero-within s (nameStart s n + 12 + nameLength s n) (32 - nameLength s n) 0 (padding len) (record-padded s n (g .good-names n l)) (omega arith) in
-    let e : at + 12 + len ≡ nameStart s n + 12 + nameLength s n + 0 = omega arith in
+    let z = zero-within s (nameStart s n + textOffset + nameLength s n) (mostNameBytes - nameLength s n) 0 (padding len) (record-padded s n (g .good-names n l)) (omega arith) in
+    let e : at + textOffset + len ≡ nameStart s n + textOffset + nameLength s n + 0 = omega arith in
     record {
       bytes = g .sound .bytes;
       short = omega arith;
       inside = omega arith;
-      padded = part-add s (at + 12) len (padding len) ∙ ap (λ (x : List ℕ). part s (at + 12) len ++ x) (ap (λ (x : ℕ). part s x (padding len)) e ∙ z);
+      padded = part-add s (at + textOffset) len (padding len) ∙ ap (λ (x : List ℕ). part s (at + textOffset) len ++ x) (ap (λ (x : ℕ). part s x (padding len)) e ∙ z);
     }
 
 -- ---- "." and "..", padded
@@ -80,9 +82,9 @@ pub wrote-entry : (fileid number len : ℕ) (name : List ℕ) {r r₁ r₂ r₃ 
     → Wrote 4 r r₁ at p₁ (words (1 ∷ [])) → Wrote 4 r₁ r₂ p₁ p₂ (words (0 ∷ [])) → Wrote 4 r₂ r₃ p₂ p₃ (words (fileid ∷ []))
     → Wrote 4 r₃ r₄ p₃ p₄ (words (len ∷ [])) → Wrote (len + padding len) r₄ r₅ p₄ p₅ (name ++ zeros (padding len))
     → Wrote 4 r₅ r₆ p₅ p₆ (words (0 ∷ [])) → Wrote 4 r₆ r₇ p₆ p₇ (words (number ∷ []))
-    → Wrote (24 + (len + padding len)) r r₇ at p₇ (entryBytes (entry fileid name number))
+    → Wrote (entryFixedCost + (len + padding len)) r r₇ at p₇ (entryBytes (entry fileid name number))
 unfolding entryBytes
 wrote-entry fileid number len name f n l a b c d t y z =
-    let e : 24 + (len + padding len) ≡ 12 + (4 + (len + padding len)) + 8 = omega arith in
+    let e : entryFixedCost + (len + padding len) ≡ 12 + (4 + (len + padding len)) + 8 = omega arith in
     rw (e, hyper-small fileid f, hyper-small number n, ← padded-opaque name len l)
     (andThen (andThen (andWords (1 ∷ 0 ∷ []) (fileid ∷ []) (andWords (1 ∷ []) (0 ∷ []) a b) c) (andThen d t)) (andWords (0 ∷ []) (number ∷ []) y z))

@@ -9,6 +9,8 @@ use lib.Dec.{eqb}
 use lib.ListN.{length, take, drop, length-append}
 use lib.Seq.{take-nil}
 use borrow.Author.Tests.{lt-ltb, le-ltb}
+use Rattle.kinds.specs.Layout.{childOffset, lengthOffset, textOffset}
+use Rattle.kinds.specs.Numbers.{mostObjects, entryFixedCost}
 use Rattle.spec.specs.Count.{passing, lowest}
 use Rattle.spec.specs.Bytes.{part, beAt}
 use Rattle.spec.specs.Image.{Store, objects, names, nameStart, nameAt, nameFrom, nameLength}
@@ -46,7 +48,7 @@ one-bytes zero e h = absurd (omega arith)
 one-bytes (suc n) e h = rw (take-nil n) (append-nil (entryBytes e))
 
 -- what one entry takes, where it is sent
-pub one-cost : (p : Place) (cookie : ℕ) (e : Entry) → cookie < e .cookie → 0 < p .left → cost p (entriesAbove cookie (e ∷ [])) ≡ entryCost 24 e
+pub one-cost : (p : Place) (cookie : ℕ) (e : Entry) → cookie < e .cookie → 0 < p .left → cost p (entriesAbove cookie (e ∷ [])) ≡ entryCost entryFixedCost e
 one-cost p cookie e h l = rw (above-high cookie e h, one-bytes (p .left) e l) (entry-length e)
 
 -- ---- runs
@@ -144,7 +146,7 @@ module _ (s : Store) (d n : ℕ) where
   pub entryIn-present : isIn s d n ≡ true → entryIn s d n ≡ entryOf s n ∷ []
   entryIn-present e = rw e
 
-  pub child-below : GoodRecords s → n < names s → isIn s d n ≡ true → nameAt s n .child < 64
+  pub child-below : GoodRecords s → n < names s → isIn s d n ≡ true → nameAt s n .child < mostObjects
   unfolding isIn
   child-below g l e =
       let h = g .sound .shaped in
@@ -157,11 +159,11 @@ module _ (s : Store) (n at : ℕ) (p : at ≡ nameStart s n) where
   unfolding nameAt nameFrom
   directory-here = rw p
 
-  pub child-here : beAt s (at + 4) 4 ≡ nameAt s n .child
+  pub child-here : beAt s (at + childOffset) 4 ≡ nameAt s n .child
   unfolding nameAt nameFrom
   child-here = rw p
 
-  pub length-here : beAt s (at + 8) 4 ≡ nameLength s n
+  pub length-here : beAt s (at + lengthOffset) 4 ≡ nameLength s n
   unfolding nameLength
   length-here = rw p
 
@@ -172,12 +174,12 @@ pub is-in-free : (s : Store) (d n : ℕ) → nameAt s n .directory ≡ d → nam
 is-in-free s d n e h = in-directory s d n e ∙ false-used s n h
 
 pub entry-of : (s : Store) (n c at len : ℕ) → c ≡ nameAt s n .child → at ≡ nameStart s n → len ≡ nameLength s n
-    → entry (c + 1) (part s (at + 12) len) (n + 3) ≡ entryOf s n
+    → entry (c + 1) (part s (at + textOffset) len) (n + 3) ≡ entryOf s n
 unfolding entryOf nameAt nameFrom nameLength
 entry-of s n c at len p q r =
-    ap (λ (x : ℕ). entry (x + 1) (part s (at + 12) len) (n + 3)) p
-    ∙ ap (λ (x : ℕ). entry (nameAt s n .child + 1) (part s (x + 12) len) (n + 3)) q
-    ∙ ap (λ (x : ℕ). entry (nameAt s n .child + 1) (part s (nameStart s n + 12) x) (n + 3)) r
+    ap (λ (x : ℕ). entry (x + 1) (part s (at + textOffset) len) (n + 3)) p
+    ∙ ap (λ (x : ℕ). entry (nameAt s n .child + 1) (part s (x + textOffset) len) (n + 3)) q
+    ∙ ap (λ (x : ℕ). entry (nameAt s n .child + 1) (part s (nameStart s n + textOffset) x) (n + 3)) r
 
 -- what was sent of one entry was sent of an equal one
 pub sent-equal : (cookie : ℕ) {e f : Entry} {r r₁ : List ℕ} {p q : Place} → e ≡ f → Sent (entriesAbove cookie (e ∷ [])) r r₁ p q

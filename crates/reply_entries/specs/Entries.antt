@@ -4,6 +4,7 @@ use mathlib.Core.Bool.{cond}
 use mathlib.Core.List.{List, [], _∷_, _++_, map}
 use mathlib.Core.Path.{_≡_}
 use lib.ListN.{length, take}
+use Rattle.kinds.specs.Numbers.{mostNameBytes}
 use Rattle.spec.specs.Bytes.{part, padding, zeros}
 use Rattle.spec.specs.Image.{Store}
 use Rattle.spec.specs.Room.{isIn}
@@ -28,7 +29,7 @@ entryIn s d n = map (entryOf s) (cond (isIn s d n) (n ∷ []) [])
 -- b holds a name of n bytes from index from, and behind it the zeros that pad it
 pub record PaddedName (b : List ℕ) (from n : ℕ) : Type 0 where
   pub bytes : Below 256 b
-  pub short : n ≤ 32
+  pub short : n ≤ mostNameBytes
   pub inside : from + (n + padding n) ≤ length b
   pub padded : part b from (n + padding n) ≡ part b from n ++ zeros (padding n)
 

@@ -3,6 +3,7 @@ ghost use mathlib.Core.List.{[], _∷_, _++_};
 ghost use mathlib.Core.Path.{_≡_};
 ghost use Prim.Native.Nat.{_+_, _*_, _<_, _≤_};
 ghost use lib.ListN.{length, take};
+ghost use Rattle.kinds.specs.Numbers.{mostObjects, entryFixedCost};
 ghost use Rattle.spec.specs.Bytes.{part, overlay, padding, zeros};
 ghost use Rattle.spec.specs.Image.{names, nameStart};
 ghost use Rattle.spec.specs.Replies.{entryBytes, entriesBytes};
@@ -63,8 +64,8 @@ fn put_entry(
     number: u32,
 ) -> usize
     requires { ⌜ PaddedName (now src) from len ⌝ }
-    requires { ⌜ at + (24 + (len + padding len)) ≤ length (now reply) ⌝ }
-    ensures { λ r. ⌜ Wrote (24 + (len + padding len)) (now (reply .entry)) (now (reply .exit)) at r (entryBytes (entry fileid (part (now (src .entry)) from len) number)) ⌝ }
+    requires { ⌜ at + (entryFixedCost + (len + padding len)) ≤ length (now reply) ⌝ }
+    ensures { λ r. ⌜ Wrote (entryFixedCost + (len + padding len)) (now (reply .entry)) (now (reply .exit)) at r (entryBytes (entry fileid (part (now (src .entry)) from len) number)) ⌝ }
 {
     let high = put_word(reply, at, 1);
     let low = put_word(reply, high, 0);
@@ -113,8 +114,8 @@ fn put_dots(
     parent: ObjectNumber,
     cookie: u64,
 ) -> Place
-    requires { ⌜ directory .0 < 64 ⌝ }
-    requires { ⌜ parent .0 < 64 ⌝ }
+    requires { ⌜ directory .0 < mostObjects ⌝ }
+    requires { ⌜ parent .0 < mostObjects ⌝ }
     requires { ⌜ p .at + length (entriesBytes (take (p .left) (entriesAbove cookie (dots (directory .0) (parent .0))))) ≤ length (now reply) ⌝ }
     ensures { λ q. ⌜ Sent (entriesAbove cookie (dots (directory .0) (parent .0))) (now (reply .entry)) (now (reply .exit)) p q ⌝ }
 {

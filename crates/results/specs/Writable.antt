@@ -1,6 +1,7 @@
 -- What must hold of a store and a reply value so that the reply can be written from them.
 use Prim.Native.Nat.{ℕ, _+_, _-_, _≤_, _<_}
 use lib.ListN.{length, take}
+use Rattle.kinds.specs.Numbers.{mostTransferBytes, listingCost}
 use Rattle.spec.specs.Image.{Store, objects}
 use Rattle.spec.specs.Room.{sizeOf}
 use Rattle.spec.specs.Replies.{entriesBytes}
@@ -24,7 +25,7 @@ ShowableChange s (HandleChange.Present c) = Showable s (c .object .0)
 pub record Readable (s : Store) (o offset n : ℕ) : Type 0 where
   pub good : GoodRecords s
   pub object : o < objects s
-  pub few : n ≤ 4096
+  pub few : n ≤ mostTransferBytes
   pub left : n ≤ sizeOf s o - offset
 
 -- the first `count` entries of directory d above a cookie: "The result body after the status costs 104 bytes plus 24 + padded name each",
@@ -32,7 +33,7 @@ pub record Readable (s : Store) (o offset n : ℕ) : Type 0 where
 pub record Listable (s : Store) (d cookie count : ℕ) : Type 0 where
   pub good : GoodRecords s
   pub directory : d < objects s
-  pub few : 104 + length (entriesBytes (take count (entriesAbove cookie (entries s d)))) ≤ 4096
+  pub few : listingCost + length (entriesBytes (take count (entriesAbove cookie (entries s d)))) ≤ mostTransferBytes
 
 -- what a reply value asks of the store that it is written from
 abbrev pub Writable : Store → Reply → Type 0

@@ -9,22 +9,22 @@ slice-aggregate-put-words c = search needs
 put-words-requires : tie.Need-put-words-requires
 put-words-requires c κs = search needs
 
-put-handle-requires : tie.Need-put-handle-requires
-put-handle-requires c κs = search needs
+put-nfs-fh3-requires : tie.Need-put-nfs-fh3-requires
+put-nfs-fh3-requires c κs = search needs
 
-put-post-op-requires : tie.Need-put-post-op-requires
-put-post-op-requires c κs = search needs
+put-post-op-attr-requires : tie.Need-put-post-op-attr-requires
+put-post-op-attr-requires c κs = search needs
 
-put-change-requires : tie.Need-put-change-requires
-put-change-requires c κs = search needs
+put-wcc-data-requires : tie.Need-put-wcc-data-requires
+put-wcc-data-requires c κs = search needs
 
 same-length : tie.Need-same-length
 same-length c = search needs
 
 returns : tie.Need-returns
 returns c = andThen (andThen (c .before .before .before .before .before .before .before .before .before .before .before .before .before .before
-    .put-words .ensures) (c .before .before .before .before .before .before .before .before .before .before .put-handle .ensures))
-    (andWords _ _ (c .before .before .before .before .before .before .put-post-op .ensures) (c .before .before .put-change .ensures))
+    .put-words .ensures) (c .before .before .before .before .before .before .before .before .before .before .put-nfs-fh3 .ensures))
+    (andWords _ _ (c .before .before .before .before .before .before .put-post-op-attr .ensures) (c .before .before .put-wcc-data .ensures))
 
 pub put-created-spec : {M : Type 1} → statement M
 put-created-spec =
@@ -32,8 +32,8 @@ put-created-spec =
     (tie.spec
     slice-aggregate-put-words
     put-words-requires
-    put-handle-requires
-    put-post-op-requires
-    put-change-requires
+    put-nfs-fh3-requires
+    put-post-op-attr-requires
+    put-wcc-data-requires
     same-length
     returns)

@@ -8,11 +8,11 @@ use Rattle.reply_bodies.proofs.put_renamed.Tie as tie
 put-word-requires : tie.Need-put-word-requires
 put-word-requires c κs = search needs
 
-put-handle-change-requires : tie.Need-put-handle-change-requires
-put-handle-change-requires c κs = search needs
+put-wcc-option-requires : tie.Need-put-wcc-option-requires
+put-wcc-option-requires c κs = search needs
 
-put-handle-change-requires-2 : tie.Need-put-handle-change-requires-2
-put-handle-change-requires-2 c κs =
+put-wcc-option-requires-2 : tie.Need-put-wcc-option-requires-2
+put-wcc-option-requires-2 c κs =
     let st = c .before .before .before .before .before .before .before .before .before .before .before in
     (omega (arith, change-small (st .args .store .now) (st .args .c)), st .pre .1 .1)
 
@@ -21,14 +21,14 @@ same-length c = search needs
 
 returns : tie.Need-returns
 returns c = andWords _ _ (andWords _ _ (c .before .before .before .before .before .before .before .before .before .before .put-word .ensures)
-    (c .before .before .before .before .before .before .put-handle-change .ensures)) (c .before .before .put-handle-change2 .ensures)
+    (c .before .before .before .before .before .before .put-wcc-option .ensures)) (c .before .before .put-wcc-option2 .ensures)
 
 pub put-renamed-spec : {M : Type 1} → statement M
 put-renamed-spec =
     tie.close
     (tie.spec
     put-word-requires
-    put-handle-change-requires
-    put-handle-change-requires-2
+    put-wcc-option-requires
+    put-wcc-option-requires-2
     same-length
     returns)

@@ -1,7 +1,7 @@
 use Rattle.spec.specs.Replies.{preOp}
 use borrow.Author.Needs.{needs}
-use Rattle.reply_fields.proofs.attributes.put_before.Statement.{statement}
-use Rattle.reply_fields.proofs.attributes.put_before.Tie as tie
+use Rattle.reply_fields.proofs.attributes.put_pre_op_attr.Statement.{statement}
+use Rattle.reply_fields.proofs.attributes.put_pre_op_attr.Tie as tie
 
 slice-aggregate-put-words : tie.Need-slice-aggregate-put-words
 slice-aggregate-put-words c = search needs
@@ -16,6 +16,6 @@ returns : tie.Need-returns
 unfolding preOp
 returns c = c .before .before .put-words .ensures
 
-pub put-before-spec : {M : Type 1} → statement M
-put-before-spec =
+pub put-pre-op-attr-spec : {M : Type 1} → statement M
+put-pre-op-attr-spec =
     tie.close (tie.spec slice-aggregate-put-words put-words-requires same-length returns)

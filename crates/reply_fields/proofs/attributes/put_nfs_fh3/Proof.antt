@@ -1,11 +1,12 @@
 use Prim.Native.Nat.{ℕ}
 use mathlib.Core.List.{[], _∷_}
 use mathlib.Core.Path.{_≡_, refl}
+use Rattle.kinds.specs.Numbers.{handleLength}
 use Rattle.spec.specs.Bytes.{words, opaqueBytes, bytesOf}
 use Rattle.spec.specs.Handles.{handleOf}
 use borrow.Author.Needs.{needs}
-use Rattle.reply_fields.proofs.attributes.put_handle.Statement.{statement}
-use Rattle.reply_fields.proofs.attributes.put_handle.Tie as tie
+use Rattle.reply_fields.proofs.attributes.put_nfs_fh3.Statement.{statement}
+use Rattle.reply_fields.proofs.attributes.put_nfs_fh3.Tie as tie
 
 stamp-of-requires : tie.Need-stamp-of-requires
 stamp-of-requires c κs = search needs
@@ -26,7 +27,7 @@ same-length : tie.Need-same-length
 same-length c = search needs
 
 -- three words as opaque data: their length, and the words
-three-words : (a b c : ℕ) → words (12 ∷ a ∷ b ∷ c ∷ []) ≡ opaqueBytes (words (a ∷ b ∷ c ∷ []))
+three-words : (a b c : ℕ) → words (handleLength ∷ a ∷ b ∷ c ∷ []) ≡ opaqueBytes (words (a ∷ b ∷ c ∷ []))
 unfolding opaqueBytes words bytesOf
 three-words a b c = refl
 
@@ -38,8 +39,8 @@ returns c = rw (
   three-words,
 ) at (c .before .before .put-words .ensures)
 
-pub put-handle-spec : {M : Type 1} → statement M
-put-handle-spec =
+pub put-nfs-fh3-spec : {M : Type 1} → statement M
+put-nfs-fh3-spec =
     tie.close
     (tie.spec
     stamp-of-requires
