@@ -9,6 +9,7 @@ ghost use Rattle.fsck_objects.specs.Told.{Told};
 ghost use Rattle.fsck_objects.specs.Objects.{Blank, Inside, AreMarks, ObjectsPass};
 use fsck_objects::object::Uses;
 use fsck_objects::object::object_uses;
+use kinds::numbers::ObjectNumber;
 
 // The sum of n bytes of a map from `from` on, which are 0 or 1.
 fn sum_part(used: &[u8; 1024], from: usize, n: usize) -> u8
@@ -60,7 +61,7 @@ pub fn objects_pass(
     let mut total = 0;
     let mut o = 0;
     while o < count {
-        let found = object_uses(store, inside, o, limit, used);
+        let found = object_uses(store, inside, ObjectNumber(o), limit, used);
         let Uses::Blocks(n) = found else {
             return false;
         };

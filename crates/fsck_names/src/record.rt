@@ -11,13 +11,14 @@ ghost use Rattle.laws.proofs.Valid.{Shaped};
 ghost use Rattle.fsck_objects.specs.Objects.{Inside};
 ghost use Rattle.fsck_names.specs.Record.{isDirectoryIn, isLiveIn};
 use crate::text::good_text;
-use fsck_objects::object::kind_of;
 use fsck_objects::zero::is_zero;
 use kinds::layout::Image;
 use kinds::layout::NameRecord;
 use kinds::layout::ObjectRecord;
 use kinds::numbers::Kind;
 use kinds::numbers::Limit;
+use kinds::numbers::ObjectNumber;
+use store_records::object::kind_of;
 
 // Where name record n starts, in a store of p objects.
 pub fn name_start(p: usize, n: usize) -> usize
@@ -34,7 +35,7 @@ fn is_directory(store: &[u8], p: usize, o: usize) -> bool
     requires { ⌜ p ≡ objects (now store) ⌝ }
     ensures { λ r. ⌜ r ≡ isDirectoryIn (now (store .entry)) o ⌝ }
 {
-    o < p && kind_of(store, o) == Kind::DIRECTORY
+    o < p && kind_of(store, ObjectNumber(o)) == Kind::DIRECTORY
 }
 
 // Whether o is the number of a live object.
@@ -43,7 +44,7 @@ fn is_live(store: &[u8], p: usize, o: usize) -> bool
     requires { ⌜ p ≡ objects (now store) ⌝ }
     ensures { λ r. ⌜ r ≡ isLiveIn (now (store .entry)) o ⌝ }
 {
-    o < p && kind_of(store, o) != Kind::FREE
+    o < p && kind_of(store, ObjectNumber(o)) != Kind::FREE
 }
 
 // Whether name record n, of a length other than 0, passes by itself.

@@ -11,14 +11,14 @@ use native.Mathlib.Omega.{arith}
 use lib.Dec.{eqb, ltb}
 use lib.ListN.{length, take, getD, set, length-set}
 use lib.Seq.{take-suc, getD-set-same, getD-set-other}
-use borrow.Author.Tests.{ltb-true, ltb-false, lt-ltb, le-ltb, eq-eqb, ne-eqb, eqb-true}
+use borrow.Author.Tests.{lt-ltb, le-ltb, eq-eqb, ne-eqb, eqb-true}
 use Rattle.kinds.specs.Layout.{objectLength}
 use Rattle.spec.specs.Count.{bit, sum, every, times}
 use Rattle.spec.specs.Image.{Store, blocks, objectStart, objectFrom, objectAt}
 use Rattle.spec.specs.Room.{need, sizeOf, held}
 use Rattle.spec.specs.Check.{goodBlock, goodFree, goodLive, goodObject, passes}
 use Rattle.laws.proofs.Bytes.{lt-or-le, be-2}
-use Rattle.laws.proofs.Count.{true-false, by-bool, and-both, sum-ext, sum-add, sum-zero, sum-more, times-append, every-more, every-fails, every-at, every-all}
+use Rattle.laws.proofs.Count.{sum-ext, sum-add, sum-zero, sum-more, times-append, every-more, every-fails, every-at, every-all}
 use Rattle.laws.proofs.Records.{halves-count, half-read}
 use Rattle.laws.proofs.Valid.{Shaped}
 use Rattle.fsck_objects.specs.Objects.{goodFields, isUnused, markFor, LiveAt, usesBelow, MarkedBy, MarkedTo, Inside}
@@ -123,44 +123,19 @@ module _ (s : Store) (o count k : ℕ) (t : Shaped s) (a : LiveAt s o count) (h 
       fails-object s o (a .below) (rw (a .live, every-fails (goodBlock (blocks s) (objectAt s o)) k 16 g (omega (arith, a .most)))
       (and-false (goodFields (objectAt s o))))
 
--- four numbers are below a bound
-pub record InRange (l x y z w : ℕ) : Type 0 where
-  pub first : x < l
-  pub second : y < l
-  pub third : z < l
-  pub fourth : w < l
-
-pub in-all : (l x y z w : ℕ) → (ltb x l && ltb y l) && (ltb z l && ltb w l) ≡ true → InRange l x y z w
-in-all l x y z w e =
-    let a = and-both (ltb x l && ltb y l) (ltb z l && ltb w l) e in
-    let b = and-both (ltb x l) (ltb y l) (a .0) in
-    let d = and-both (ltb z l) (ltb w l) (a .1) in
-    record { first = ltb-true x l (b .0); second = ltb-true y l (b .1); third = ltb-true z l (d .0); fourth = ltb-true w l (d .1) }
-
 -- four blocks at once
-module _ (s : Store) (o count k : ℕ) (t : Shaped s) (a : LiveAt s o count) (h : k + 4 ≤ count) (l : ℕ) (q : l ≡ blocks s) (x y z w : ℕ)
-    (ex : x ≡ getD (objectAt s o .blocks) k 0) (ey : y ≡ getD (objectAt s o .blocks) (k + 1) 0) (ez : z ≡ getD (objectAt s o .blocks) (k + 2) 0)
-    (ew : w ≡ getD (objectAt s o .blocks) (k + 3) 0) where
-  pub mark-four : (used : List ℕ) → MarkedTo s o k used → InRange l x y z w → MarkedTo s o (k + 4) (set (set (set (set used x 1) y 1) z 1) w 1)
-  mark-four used m r =
-      let two : k + 1 + 1 ≡ k + 2 = omega arith in
-      let three : k + 2 + 1 ≡ k + 3 = omega arith in
-      let four : k + 3 + 1 ≡ k + 4 = omega arith in
-      let m1 = mark-more s o count k t a (omega arith) used m x ex (omega (arith, r .first)) in
-      let m2 = rw two at (mark-more s o count (k + 1) t a (omega arith) (set used x 1) m1 y ey (omega (arith, r .second))) in
-      let m3 = rw three at (mark-more s o count (k + 2) t a (omega arith) (set (set used x 1) y 1) m2 z ez (omega (arith, r .third))) in
-      rw four at (mark-more s o count (k + 3) t a (omega arith) (set (set (set used x 1) y 1) z 1) m3 w ew (omega (arith, r .fourth)))
-
-  pub mark-four-out : (ltb x l && ltb y l) && (ltb z l && ltb w l) ≡ false → passes s ≡ false
-  mark-four-out e =
-      by-bool (ltb x l)
-      (λ bx. by-bool (ltb y l)
-      (λ by. by-bool (ltb z l)
-      (λ bz. by-bool (ltb w l) (λ bw. true-false (sym (rw (bx, by, bz, bw)) ∙ e))
-      (λ bw. mark-out s o count (k + 3) t a (omega arith) (omega (arith, ltb-false w l bw))))
-      (λ bz. mark-out s o count (k + 2) t a (omega arith) (omega (arith, ltb-false z l bz))))
-      (λ by. mark-out s o count (k + 1) t a (omega arith) (omega (arith, ltb-false y l by))))
-      (λ bx. mark-out s o count k t a (omega arith) (omega (arith, ltb-false x l bx)))
+pub mark-four : (s : Store) (o count k : ℕ) → Shaped s → LiveAt s o count → k + 4 ≤ count → (used : List ℕ) → MarkedTo s o k used → (x y z w : ℕ)
+    → x ≡ getD (objectAt s o .blocks) k 0 → x < blocks s → y ≡ getD (objectAt s o .blocks) (k + 1) 0 → y < blocks s
+    → z ≡ getD (objectAt s o .blocks) (k + 2) 0 → z < blocks s → w ≡ getD (objectAt s o .blocks) (k + 3) 0 → w < blocks s
+    → MarkedTo s o (k + 4) (set (set (set (set used x 1) y 1) z 1) w 1)
+mark-four s o count k t a h used m x y z w ex lx ey ly ez lz ew lw =
+    let two : k + 1 + 1 ≡ k + 2 = omega arith in
+    let three : k + 2 + 1 ≡ k + 3 = omega arith in
+    let four : k + 3 + 1 ≡ k + 4 = omega arith in
+    let m1 = mark-more s o count k t a (omega arith) used m x ex lx in
+    let m2 = rw two at (mark-more s o count (k + 1) t a (omega arith) (set used x 1) m1 y ey ly) in
+    let m3 = rw three at (mark-more s o count (k + 2) t a (omega arith) (set (set used x 1) y 1) m2 z ez lz) in
+    rw four at (mark-more s o count (k + 3) t a (omega arith) (set (set (set used x 1) y 1) z 1) m3 w ew lw)
 
 -- the blocks of a live object
 held-count : (s : Store) (o count : ℕ) → LiveAt s o count → held s o ≡ take count (objectAt s o .blocks)
