@@ -2,6 +2,7 @@
 ghost use mathlib.Core.Path.{_≡_};
 ghost use Prim.Native.Nat.{_-_, _≤_, _<_};
 ghost use lib.ListN.{getD};
+ghost use Rattle.kinds.specs.Numbers.{mostObjects};
 ghost use Rattle.spec.specs.Image.{objects, names};
 ghost use Rattle.laws.proofs.Valid.{Shaped};
 ghost use Rattle.fsck_objects.specs.Told.{Told};
@@ -14,32 +15,33 @@ use kinds::numbers::ObjectNumber;
 use store_records::object::kind_of;
 
 // The parent of an object by the map.
-pub fn parent_of(parents: &[u8; 64], o: usize) -> usize
-    requires { ⌜ o < 64 ⌝ }
-    ensures { λ r. ⌜ r ≡ getD (now (parents .entry)) o 0 - 1 ⌝ }
+fn parent_of(parents: &[u8; 64], o: ObjectNumber) -> ObjectNumber
+    requires { ⌜ o .0 < mostObjects ⌝ }
+    ensures { λ r. ⌜ r .0 ≡ getD (now (parents .entry)) (o .0) 0 - 1 ⌝ }
 {
-    let mark = index(parents[o]);
+    let i = o.0;
+    let mark = index(parents[i]);
     if mark == 0 {
-        return 0;
+        return ObjectNumber(0);
     }
-    mark - 1
+    ObjectNumber(mark - 1)
 }
 
 // How many steps it is from object o to the root; more than p where p steps do not lead there. The store is there for the contract alone.
-fn steps(store: &[u8], p: usize, parents: &[u8; 64], depths: &[u8; 64], o: usize) -> usize
+fn steps(store: &[u8], p: usize, parents: &[u8; 64], depths: &[u8; 64], o: ObjectNumber) -> usize
     requires { ⌜ Parents (now store) p (now parents) ⌝ }
     requires { ⌜ Known (now store) p (now depths) ⌝ }
-    requires { ⌜ o < p ⌝ }
-    ensures { λ r. ⌜ Steps (now (store .entry)) p o r ⌝ }
+    requires { ⌜ o .0 < p ⌝ }
+    ensures { λ r. ⌜ Steps (now (store .entry)) p (o .0) r ⌝ }
 {
-    let mut at = o;
+    let mut at = o.0;
     let mut k = 0;
     while k <= p {
         let depth = index(depths[at]);
         if depth != 0 {
             return k + depth - 1;
         }
-        at = parent_of(parents, at);
+        at = parent_of(parents, ObjectNumber(at)).0;
         k += 1;
     }
     k
@@ -51,21 +53,21 @@ fn note_steps(
     p: usize,
     parents: &[u8; 64],
     depths: &mut [u8; 64],
-    o: usize,
+    o: ObjectNumber,
     count: usize,
 )
     requires { ⌜ Parents (now store) p (now parents) ⌝ }
     requires { ⌜ Known (now store) p (now depths) ⌝ }
-    requires { ⌜ o < p ⌝ }
+    requires { ⌜ o .0 < p ⌝ }
     requires { ⌜ count ≤ p ⌝ }
-    requires { ⌜ Depth (now store) o count ⌝ }
+    requires { ⌜ Depth (now store) (o .0) count ⌝ }
     ensures { λ _. ⌜ Known (now (store .entry)) p (now (depths .exit)) ⌝ }
 {
-    let mut at = o;
+    let mut at = o.0;
     let mut d = count;
     while depths[at] == 0 {
         depths[at] = (d + 1) as u8;
-        at = parent_of(parents, at);
+        at = parent_of(parents, ObjectNumber(at)).0;
         d -= 1;
     }
 }
@@ -76,20 +78,21 @@ fn leads_by_steps(
     p: usize,
     parents: &[u8; 64],
     depths: &mut [u8; 64],
-    o: usize,
+    o: ObjectNumber,
 ) -> bool
     requires { ⌜ Shaped (now store) ⌝ }
     requires { ⌜ p ≡ objects (now store) ⌝ }
     requires { ⌜ NamedBy (now store) (names (now store)) (now parents) ⌝ }
     requires { ⌜ Known (now store) p (now depths) ⌝ }
-    requires { ⌜ o < p ⌝ }
-    ensures { λ r. ⌜ Told r (now (store .entry)) (Leads (now (store .entry)) p o (now (depths .exit))) ⌝ }
+    requires { ⌜ o .0 < p ⌝ }
+    ensures { λ r. ⌜ Told r (now (store .entry)) (Leads (now (store .entry)) p (o .0) (now (depths .exit))) ⌝ }
 {
-    if o == 0 {
+    let i = o.0;
+    if i == 0 {
         return true;
     }
-    if parents[o] == 0 {
-        return kind_of(store, ObjectNumber(o)) == Kind::FREE;
+    if parents[i] == 0 {
+        return kind_of(store, o) == Kind::FREE;
     }
     let count = steps(store, p, parents, depths, o);
     if count > p {
@@ -100,19 +103,20 @@ fn leads_by_steps(
 }
 
 // The same, at once where the steps of the object's parent are known.
-fn leads(store: &[u8], p: usize, parents: &[u8; 64], depths: &mut [u8; 64], o: usize) -> bool
+fn leads(store: &[u8], p: usize, parents: &[u8; 64], depths: &mut [u8; 64], o: ObjectNumber) -> bool
     requires { ⌜ Shaped (now store) ⌝ }
     requires { ⌜ p ≡ objects (now store) ⌝ }
     requires { ⌜ NamedBy (now store) (names (now store)) (now parents) ⌝ }
     requires { ⌜ Known (now store) p (now depths) ⌝ }
-    requires { ⌜ o < p ⌝ }
-    ensures { λ r. ⌜ Told r (now (store .entry)) (Leads (now (store .entry)) p o (now (depths .exit))) ⌝ }
+    requires { ⌜ o .0 < p ⌝ }
+    ensures { λ r. ⌜ Told r (now (store .entry)) (Leads (now (store .entry)) p (o .0) (now (depths .exit))) ⌝ }
 {
-    let mark = index(parents[o]);
+    let i = o.0;
+    let mark = index(parents[i]);
     if mark != 0 {
         let depth = index(depths[mark - 1]);
         if depth != 0 && depth <= p {
-            depths[o] = (depth + 1) as u8;
+            depths[i] = (depth + 1) as u8;
             return true;
         }
     }
@@ -124,13 +128,13 @@ pub fn tree_passes(store: &[u8], p: usize, parents: &[u8; 64], depths: &mut [u8;
     requires { ⌜ Shaped (now store) ⌝ }
     requires { ⌜ p ≡ objects (now store) ⌝ }
     requires { ⌜ NamedBy (now store) (names (now store)) (now parents) ⌝ }
-    requires { ⌜ Blank 64 (now depths) ⌝ }
+    requires { ⌜ Blank mostObjects (now depths) ⌝ }
     ensures { λ r. ⌜ Told r (now (store .entry)) (TreePasses (now (store .entry)) p p (now (depths .exit))) ⌝ }
 {
     depths[0] = 1;
     let mut o = 0;
     while o < p {
-        if !leads(store, p, parents, depths, o) {
+        if !leads(store, p, parents, depths, ObjectNumber(o)) {
             return false;
         }
         o += 1;

@@ -1,7 +1,7 @@
 -- The chains of records with one hash, and the walk along one. Assumes nothing.
 use mathlib.Core.Path.{_≡_, refl, sym, ap, _∙_}
 use mathlib.Core.Logic.{_≢_, by-cases, ⊎-elim}
-use mathlib.Core.Bool.{Bool, true, false, _&&_, _||_, cond, not}
+use mathlib.Core.Bool.{Bool, true, false, _&&_, _||_, not}
 use mathlib.Core.List.{List}
 use Prim.Native.Nat.{ℕ, zero, suc, _+_, _-_, _≤_, _<_}
 use native.Mathlib.Nat.{not-suc-le-zero}
@@ -9,34 +9,24 @@ use native.Mathlib.Decide.{ℕ-discrete}
 use native.Mathlib.Numerals.{add-one}
 use native.Mathlib.Omega.{arith}
 use lib.Dec.{eqb}
-use lib.ListN.{length, getD, set, length-set}
+use lib.ListN.{getD, set, length-set}
 use lib.Seq.{getD-set-same, getD-set-other}
 use borrow.Author.Tests.{eqb-true, eq-eqb, ne-eqb}
-use Rattle.spec.specs.Count.{bit, sum, count, every}
+use Rattle.kinds.specs.Numbers.{mostNameRecords}
+use Rattle.spec.specs.Count.{count}
 use Rattle.spec.specs.Image.{Store, names, nameAt}
 use Rattle.spec.specs.Room.{isUsedName, isNamed}
 use Rattle.spec.specs.Check.{goodNameRecord, isDistinct, passes}
 use Rattle.laws.proofs.Bytes.{lt-or-le}
-use Rattle.laws.proofs.Count.{by-bool, true-false, and-both, every-at, sum-more, sum-at, sum-zero}
-use Rattle.laws.proofs.Valid.{Shaped}
+use Rattle.laws.proofs.Count.{by-bool, true-false, and-both, every-at}
+use Rattle.laws.proofs.Unique.{one-passes}
+use Rattle.laws.proofs.Valid.{Shaped, UsedName}
 use Rattle.fsck_objects.specs.Told.{Told}
 use Rattle.fsck_objects.specs.Objects.{Blank}
-use Rattle.fsck_objects.proofs.Marks.{sum-grows}
 use Rattle.fsck_objects.proofs.Passes.{told-true, told-false, fails-distinct}
-use Rattle.fsck_names.specs.Distinct.{hash, last, isSame, Used, New, Chains}
-use Rattle.fsck_names.proofs.Joins.{UsedWell, used-well, record-used}
+use Rattle.fsck_names.specs.Distinct.{hash, last, isSame, New, Chains}
+use Rattle.fsck_names.proofs.Joins.{used-passes, is-used}
 use Rattle.fsck_names.proofs.Same.{alike, same-self, same-hash}
-
--- ---- two numbers below a bound that pass
-pub count-two : (p : ℕ → Bool) (q n m : ℕ) → m < n → n < q → p m ≡ true → p n ≡ true → 2 ≤ count q p
-count-two p q n m h l e f =
-    let f₁ : ℕ → ℕ = λ i. bit (p i) in
-    let a = sum-at n m f₁ h in
-    let b = sum-more n f₁ in
-    let d = sum-grows f₁ (n + 1) q (omega arith) in
-    let u = ap bit e in
-    let v = ap bit f in
-    omega arith
 
 -- ---- the last record with a hash
 module _ (s : Store) (h : ℕ) where
@@ -86,20 +76,16 @@ pub record Walked (s : Store) (n h : ℕ) (found : Bool) (k : ℕ) : Type 0 wher
   pub told : Told (not found) s ((m : ℕ) → k ≤ m → m < n → isSame s n m ≡ false)
   pub at : (k ≡ 0 → ⊥) → (isUsedName s (k - 1) ≡ true) × (hash s (k - 1) ≡ h)
 
-pub used-good : (s : Store) (t : Shaped s) (n : ℕ) → Used s n → UsedWell s n
-used-good s t n w = used-well s n t (w .below) (record-used s n (w .used) (w .good))
-
 module _ (s : Store) (t : Shaped s) (n h : ℕ) (w : New s n h) where
-  pub used-before : (m : ℕ) → m < n → isUsedName s m ≡ true → Used s m
-  used-before m l u = record { below = omega (arith, w .itself .below); used = u; good = every-at (goodNameRecord s) n m (w .before) l }
+  pub used-before : (m : ℕ) → m < n → isUsedName s m ≡ true → UsedName s m
+  used-before m l u = used-passes s m t (omega (arith, w .below)) u (every-at (goodNameRecord s) n m (w .before) l)
 
   -- a record with another hash, or free, is another one
   other : (m : ℕ) → m < n → (isUsedName s m ≡ true → hash s m ≡ h → ⊥) → isSame s n m ≡ false
   other m l f =
       by-bool (isSame s n m)
       (λ e. by-bool (isUsedName s m)
-      (λ u. let v = used-before m l u in absurd
-      (f u (same-hash s t n m (w .itself .below) (v .below) (used-good s t n (w .itself)) (used-good s t m v) e ∙ sym (w .hashed))))
+      (λ u. absurd (f u (same-hash s n m (w .itself) (used-before m l u) e ∙ sym (w .hashed))))
       (λ u. true-false (sym (alike s n m e .used) ∙ u)))
       (λ e. e)
 
@@ -118,11 +104,9 @@ module _ (s : Store) (t : Shaped s) (n h : ℕ) (w : New s n h) where
   walk-same : (m : ℕ) → m < n → isSame s n m ≡ true → passes s ≡ false
   unfolding isDistinct
   walk-same m l e =
-      let v = w .itself in
-      let b = count-two (isNamed s (nameAt s n .directory) (nameAt s n .text)) (names s) n m l (v .below) e
-      (same-self s t n (v .below) (used-good s t n v) (v .used)) in
-      fails-distinct s n (v .below) (rw (v .used)
-      (ne-eqb (count (names s) (isNamed s (nameAt s n .directory) (nameAt s n .text))) 1 (λ q. absurd (omega arith))))
+      let p = isNamed s (nameAt s n .directory) (nameAt s n .text) in
+      fails-distinct s n (w .below) (rw (is-used s n (w .itself)) (ne-eqb (count (names s) p) 1 (λ q.
+      let d = one-passes (names s) p m n (omega arith) (omega (arith, w .below)) (w .below) e (same-self s n (w .itself)) in absurd (omega arith))))
 
   walk-on : (i j k : ℕ) (found : Bool) → i ≡ suc j → hash s j ≡ h → Walked s n h found i → k ≡ last s j (hash s j) → Walked s n h (found || isSame s n j) k
   walk-on i j k found q g a e =
@@ -144,7 +128,7 @@ module _ (s : Store) (t : Shaped s) (n h : ℕ) (w : New s n h) where
   walk-step i k found z a e = walk-on i (i - 1) k found (one-more i z) (a .at z .1) a e
 
 -- ---- the chains before the first record, after a free one and after a used one
-pub chains-none : (s : Store) (head next : List ℕ) → Blank 256 head → Blank 128 next → Chains s 0 head next
+pub chains-none : (s : Store) (head next : List ℕ) → Blank 256 head → Blank mostNameRecords next → Chains s 0 head next
 unfolding last
 chains-none s head next a b =
     record { long-head = a .long; long-next = b .long; heads = λ h l. a .zero h; nexts = λ m l u. absurd (not-suc-le-zero l) }
@@ -171,7 +155,8 @@ module _ (s : Store) (n : ℕ) (head next : List ℕ) (a : Chains s n head next)
         nexts = λ m l v. by-cases (ℕ-discrete m n) (λ (e : m ≡ n). true-false (sym (rw e at v) ∙ u)) (λ (d : m ≢ n). a .nexts m (omega arith) v);
       }
 
-  pub chains-used : (h : ℕ) → h ≡ hash s n → h < 256 → n < 128 → isUsedName s n ≡ true → Chains s (n + 1) (set head h (n + 1)) (set next n (getD head h 0))
+  pub chains-used : (h : ℕ) → h ≡ hash s n → h < 256 → n < mostNameRecords → isUsedName s n ≡ true
+      → Chains s (n + 1) (set head h (n + 1)) (set next n (getD head h 0))
   chains-used h e l k u =
       record {
         long-head = simp length-set (a .long-head);

@@ -8,8 +8,9 @@ use native.Mathlib.Omega.{arith}
 use lib.Dec.{eqb, leb}
 use lib.ListN.{length, getD, length-take, length-drop}
 use borrow.Author.Tests.{le-leb, lt-leb}
+use Rattle.kinds.specs.Numbers.{mostNameBytes}
 use Rattle.spec.specs.Bytes.{part, sameBytes}
-use Rattle.spec.specs.Names.{isDot, isDotDot, isDots, goodByte, goodBytes, goodName}
+use Rattle.spec.specs.Names.{isDot, isDotDot, isDots, goodBytes, goodName}
 use Rattle.laws.proofs.Bytes.{part-cons}
 use Rattle.laws.proofs.Count.{by-bool}
 
@@ -45,19 +46,19 @@ module _ (b : List ℕ) (at : ℕ) where
   dots-more n e f g = dots-other (part b at n) (λ q. f (sym e ∙ q)) (λ q. g (sym e ∙ q))
 
 -- a name of 1 to 32 bytes
-pub name-is : (xs : List ℕ) → 1 ≤ length xs → length xs ≤ 32 → goodName xs ≡ goodBytes xs && not (isDots xs)
+pub name-is : (xs : List ℕ) → 1 ≤ length xs → length xs ≤ mostNameBytes → goodName xs ≡ goodBytes xs && not (isDots xs)
 unfolding goodName
-name-is xs l h = rw (le-leb 1 (length xs) l, le-leb (length xs) 32 h)
+name-is xs l h = rw (le-leb 1 (length xs) l, le-leb (length xs) mostNameBytes h)
 
 -- a text that is longer
 and-no : (t u v : Bool) → t && false && u && v ≡ false
 and-no true u v = refl
 and-no false u v = refl
 
-pub name-long : (xs : List ℕ) → 32 < length xs → goodName xs ≡ false
+pub name-long : (xs : List ℕ) → mostNameBytes < length xs → goodName xs ≡ false
 unfolding goodName
-name-long xs h = rw (lt-leb (length xs) 32 h) (and-no (leb 1 (length xs)) (goodBytes xs) (not (isDots xs)))
+name-long xs h = rw (lt-leb (length xs) mostNameBytes h) (and-no (leb 1 (length xs)) (goodBytes xs) (not (isDots xs)))
 
-pub part-long : (b : List ℕ) (at n : ℕ) → at + 33 ≤ length b → 32 < n → 32 < length (part b at n)
+pub part-long : (b : List ℕ) (at n : ℕ) → at + mostNameBytes < length b → mostNameBytes < n → mostNameBytes < length (part b at n)
 unfolding part
 part-long b at n h l = simp (length-take, length-drop) (omega arith)

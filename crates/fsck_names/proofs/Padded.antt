@@ -9,7 +9,8 @@ use native.Mathlib.Omega.{arith}
 use lib.Dec.{eqb, ltb}
 use lib.ListN.{length, getD}
 use borrow.Author.Tests.{lt-ltb, le-ltb, eq-eqb, ne-eqb, eqb-true}
-use Rattle.kinds.specs.Layout.{nameRecordLength}
+use Rattle.kinds.specs.Layout.{lengthOffset, textOffset, nameRecordLength}
+use Rattle.kinds.specs.Numbers.{mostNameBytes}
 use Rattle.spec.specs.Bytes.{part, beOf, bytesOf, beAt, sameBytes, allBytes}
 use Rattle.spec.specs.Count.{every}
 use Rattle.spec.specs.Image.{Store}
@@ -43,16 +44,17 @@ all-every p b at (suc n) h =
     ap (λ (t : Bool). t && p (getD b (at + n) 0)) (all-every p b at n (omega arith))
     ∙ sym (all-next p b at n (omega arith)) ∙ ap (λ (k : ℕ). allBytes p (part b at k)) (add-one n)
 
-pub text-is : (s : Store) (at n : ℕ) → at + 32 ≤ length s → n ≤ 32 → every 32 (isText s at n) ≡ goodBytes (part s at n) && isZero (part s (at + n) (32 - n))
+pub text-is : (s : Store) (at n : ℕ) → at + mostNameBytes ≤ length s → n ≤ mostNameBytes
+    → every mostNameBytes (isText s at n) ≡ goodBytes (part s at n) && isZero (part s (at + n) (mostNameBytes - n))
 unfolding goodBytes isZero
 text-is s at n h l =
-    let e : n + (32 - n) ≡ 32 = omega arith in
-    ap (λ (k : ℕ). every k (isText s at n)) (sym e) ∙ every-split (isText s at n) n (32 - n)
+    let e : n + (mostNameBytes - n) ≡ mostNameBytes = omega arith in
+    ap (λ (k : ℕ). every k (isText s at n)) (sym e) ∙ every-split (isText s at n) n (mostNameBytes - n)
     ∙ ap₂ (λ (t u : Bool). t && u)
     (every-ext (isText s at n) (λ i. goodByte (getD s (at + i) 0)) n (λ i q. rw (lt-ltb i n q)) ∙ all-every goodByte s at n (omega arith))
-    (every-ext (λ i. isText s at n (n + i)) (λ i. eqb (getD s (at + n + i) 0) 0) (32 - n)
+    (every-ext (λ i. isText s at n (n + i)) (λ i. eqb (getD s (at + n + i) 0) 0) (mostNameBytes - n)
     (λ i q. let w : at + (n + i) ≡ at + n + i = omega arith in rw (le-ltb (n + i) n (omega arith), w))
-    ∙ all-every (λ x. eqb x 0) s (at + n) (32 - n) (omega arith))
+    ∙ all-every (λ x. eqb x 0) s (at + n) (mostNameBytes - n) (omega arith))
 
 -- ---- one byte
 step-bool : (seen slash blank inside : Bool) → blank && slash ≡ false
@@ -69,8 +71,9 @@ step-bool false false false false e = refl
 zero-slash : (x : ℕ) → eqb x 0 && eqb x 0x2F ≡ false
 zero-slash x = by-bool (eqb x 0) (λ e. rw (eqb-true x 0 e)) (λ e. rw e)
 
-pub text-step : (inside : List ℕ) → Inside inside → (n i x : ℕ) (seen : Bool) → n ≤ 32 → i < 32
-    → not (seen || eqb x 0x2F || Bool·beq (eqb x 0) (not (eqb (getD inside (32 - n + i) 0) 0))) ≡ not seen && cond (ltb i n) (goodByte x) (eqb x 0)
+pub text-step : (inside : List ℕ) → Inside inside → (n i x : ℕ) (seen : Bool) → n ≤ mostNameBytes → i < mostNameBytes
+    → not (seen || eqb x 0x2F || Bool·beq (eqb x 0) (not (eqb (getD inside (mostNameBytes - n + i) 0) 0)))
+    ≡ not seen && cond (ltb i n) (goodByte x) (eqb x 0)
 unfolding goodByte
 text-step inside v n i x seen h l = rw (outside inside v n i h l) (step-bool seen (eqb x 0x2F) (eqb x 0) (ltb i n) (zero-slash x))
 
@@ -85,16 +88,17 @@ padded-yes true true dots e = and-true dots
 padded-yes true false dots e = true-false (sym e)
 padded-yes false blank dots e = true-false (sym e)
 
-module _ (s : Store) (at n : ℕ) (fits : at + 32 ≤ length s) (least : 1 ≤ n) (most : n ≤ 32) where
+module _ (s : Store) (at n : ℕ) (fits : at + mostNameBytes ≤ length s) (least : 1 ≤ n) (most : n ≤ mostNameBytes) where
   named : goodName (part s at n) ≡ goodBytes (part s at n) && not (isDots (part s at n))
   named = let l : length (part s at n) ≡ n = part-length s at n (omega arith) in name-is (part s at n) (omega arith) (omega arith)
 
-  pub text-no : goodBytes (part s at n) && isZero (part s (at + n) (32 - n)) ≡ false → goodName (part s at n) && isZero (part s (at + n) (32 - n)) ≡ false
-  text-no e = rw named (padded-no (goodBytes (part s at n)) (isZero (part s (at + n) (32 - n))) (not (isDots (part s at n))) e)
+  pub text-no : goodBytes (part s at n) && isZero (part s (at + n) (mostNameBytes - n)) ≡ false
+      → goodName (part s at n) && isZero (part s (at + n) (mostNameBytes - n)) ≡ false
+  text-no e = rw named (padded-no (goodBytes (part s at n)) (isZero (part s (at + n) (mostNameBytes - n))) (not (isDots (part s at n))) e)
 
-  pub text-yes : (dots : Bool) → dots ≡ isDots (part s at n) → goodBytes (part s at n) && isZero (part s (at + n) (32 - n)) ≡ true
-      → goodName (part s at n) && isZero (part s (at + n) (32 - n)) ≡ not dots
-  text-yes dots d e = rw (named, d) (padded-yes (goodBytes (part s at n)) (isZero (part s (at + n) (32 - n))) (not (isDots (part s at n))) e)
+  pub text-yes : (dots : Bool) → dots ≡ isDots (part s at n) → goodBytes (part s at n) && isZero (part s (at + n) (mostNameBytes - n)) ≡ true
+      → goodName (part s at n) && isZero (part s (at + n) (mostNameBytes - n)) ≡ not dots
+  text-yes dots d e = rw (named, d) (padded-yes (goodBytes (part s at n)) (isZero (part s (at + n) (mostNameBytes - n))) (not (isDots (part s at n))) e)
 
 -- ---- the bytes of two parts, by their numbers and half by half
 pub same-number : (s : Store) (a b w : ℕ) → Below 256 s → a + w ≤ length s → b + w ≤ length s → eqb (beAt s a w) (beAt s b w)
@@ -121,10 +125,10 @@ same-halves s a b m n h l =
     sym (rw (part-add s a m n, part-add s b m n)
     (same-append (part s a m) (part s b m) (part s (a + m) n) (part s (b + m) n) (part-length s a m h ∙ sym (part-length s b m l))))
 
-pub same-quarters : (s : Store) (a b : ℕ) → a + 32 ≤ length s → b + 32 ≤ length s → (t u v w : Bool)
+pub same-quarters : (s : Store) (a b : ℕ) → a + mostNameBytes ≤ length s → b + mostNameBytes ≤ length s → (t u v w : Bool)
     → t ≡ sameBytes (part s a 8) (part s b 8) → u ≡ sameBytes (part s (a + 8) 8) (part s (b + 8) 8)
     → v ≡ sameBytes (part s (a + 16) 8) (part s (b + 16) 8) → w ≡ sameBytes (part s (a + 24) 8) (part s (b + 24) 8)
-    → t && u && (v && w) ≡ sameBytes (part s a 32) (part s b 32)
+    → t && u && (v && w) ≡ sameBytes (part s a mostNameBytes) (part s b mostNameBytes)
 same-quarters s a b h l t u v w et eu ev ew =
     let x : a + 16 + 8 ≡ a + 24 = omega arith in
     let y : b + 16 + 8 ≡ b + 24 = omega arith in
@@ -139,8 +143,9 @@ number-zero s at w =
     by-bool (isZero (part s at w)) (λ e. e ∙ sym (eq-eqb (beAt s at w) 0 (zero-be s at w e)))
     (λ e. e ∙ sym (ne-eqb (beAt s at w) 0 (λ q. true-false (sym (be-zero s at w q) ∙ e))))
 
-pub free-is : (s : Store) (at : ℕ) → beAt s (at + 8) 4 ≡ 0 → isZero (part s at nameRecordLength) ≡ eqb (beAt s at 8) 0 && isZero (part s (at + 12) 32)
+pub free-is : (s : Store) (at : ℕ) → beAt s (at + lengthOffset) 4 ≡ 0
+    → isZero (part s at nameRecordLength) ≡ eqb (beAt s at lengthOffset) 0 && isZero (part s (at + textOffset) mostNameBytes)
 free-is s at e =
-    let b : at + 8 + 4 ≡ at + 12 = omega arith in
-    let z = number-zero s (at + 8) 4 ∙ eq-eqb (beAt s (at + 8) 4) 0 e in
-    zero-add s at 8 36 ∙ rw (zero-add s (at + 8) 4 32, b, z, number-zero s at 8)
+    let b : at + lengthOffset + 4 ≡ at + textOffset = omega arith in
+    let z = number-zero s (at + lengthOffset) 4 ∙ eq-eqb (beAt s (at + lengthOffset) 4) 0 e in
+    zero-add s at lengthOffset (4 + mostNameBytes) ∙ rw (zero-add s (at + lengthOffset) 4 mostNameBytes, b, z, number-zero s at lengthOffset)

@@ -1,27 +1,28 @@
 -- The map of parents, and how often an object is named. Assumes nothing.
 use mathlib.Core.Path.{_≡_, refl, sym, ap, _∙_}
 use mathlib.Core.Logic.{_≢_, by-cases}
-use mathlib.Core.Bool.{Bool, true, false, _&&_, _||_, cond, not, and-false, or-true}
+use mathlib.Core.Bool.{Bool, true, false, not, and-false, or-true}
 use mathlib.Core.List.{List}
 use mathlib.Core.Option.{Option, some, none}
-use Prim.Native.Nat.{ℕ, zero, suc, _+_, _-_, _≤_, _<_}
+use Prim.Native.Nat.{ℕ, zero, _+_, _-_, _≤_, _<_}
 use native.Mathlib.Decide.{ℕ-discrete}
 use native.Mathlib.Omega.{arith}
 use lib.Dec.{eqb, leb}
 use lib.ListN.{length, getD, set, length-set}
 use lib.Seq.{getD-set-same, getD-set-other}
 use borrow.Author.Tests.{eqb-true, eq-eqb, ne-eqb, lt-leb, le-leb}
+use Rattle.kinds.specs.Numbers.{mostObjects}
 use Rattle.spec.specs.Count.{bit, sum, count, passing, lowest}
-use Rattle.spec.specs.Image.{Store, objects, names, nameAt, objectAt}
+use Rattle.spec.specs.Image.{Store, objects, names, nameAt}
 use Rattle.spec.specs.Room.{isLive, isUsedName, isNaming, namings, directoryOf, parent}
-use Rattle.spec.specs.Check.{mostNames, goodNameRecord, isNamedOnce, passes}
+use Rattle.spec.specs.Check.{goodNameRecord, isNamedOnce, passes}
 use Rattle.laws.proofs.Count.{by-bool, true-false, and-both, sum-more, sum-at, sum-zero, passing-miss, lowest-hit, lowest-none, lowest-passes, Passes}
-use Rattle.laws.proofs.Valid.{Shaped}
+use Rattle.laws.proofs.Unique.{sum-two}
+use Rattle.laws.proofs.Valid.{Shaped, UsedName, true-live}
 use Rattle.fsck_objects.specs.Objects.{Blank}
 use Rattle.fsck_objects.proofs.Passes.{fails-name, fails-named}
 use Rattle.fsck_names.specs.Named.{markOf, NamedBy}
-use Rattle.fsck_names.proofs.Joins.{UsedWell, used-well, record-used}
-use Rattle.fsck_names.proofs.Chained.{count-two}
+use Rattle.fsck_names.proofs.Joins.{used-passes, is-used}
 
 -- ---- searches and counts, one number further
 lowest-skip : (p : ℕ → Bool) (n : ℕ) → p n ≡ false → lowest (n + 1) p ≡ lowest n p
@@ -45,15 +46,11 @@ mark-none : (s : Store) (x : Option ℕ) → markOf s x ≡ 0 → x ≡ none
 mark-none s none e = refl
 mark-none s (some n) e = absurd (omega arith)
 
-pub record Marks (s : Store) (n o k : ℕ) : Type 0 where
-  pub below : k < n
-  pub names : isNaming s o k ≡ true
-
-mark-some : (s : Store) (n o : ℕ) (x : Option ℕ) → lowest n (isNaming s o) ≡ x → (markOf s x ≡ 0 → ⊥) → (k : ℕ) × Marks s n o k
+mark-some : (s : Store) (n o : ℕ) (x : Option ℕ) → lowest n (isNaming s o) ≡ x → (markOf s x ≡ 0 → ⊥) → (k : ℕ) × Passes (isNaming s o) n k
 mark-some s n o none e f = absurd (f refl)
-mark-some s n o (some k) e f = let a = lowest-passes (isNaming s o) n k e in (k, record { below = a .below; names = a .passes })
+mark-some s n o (some k) e f = (k, lowest-passes (isNaming s o) n k e)
 
-pub parents-none : (s : Store) (parents : List ℕ) → Blank 64 parents → NamedBy s 0 parents
+pub parents-none : (s : Store) (parents : List ℕ) → Blank mostObjects parents → NamedBy s 0 parents
 unfolding lowest passing sum
 parents-none s parents b =
     record {
@@ -78,14 +75,14 @@ parents-free s n parents u a =
     }
 
 -- ---- a used record names its child
-module _ (s : Store) (t : Shaped s) (n : ℕ) (l : n < names s) (u : isUsedName s n ≡ true) (w : UsedWell s n) (parents : List ℕ) (a : NamedBy s n parents) where
+module _ (s : Store) (t : Shaped s) (n : ℕ) (l : n < names s) (w : UsedName s n) (parents : List ℕ) (a : NamedBy s n parents) where
   names-child : (o : ℕ) → nameAt s n .child ≡ o → isNaming s o n ≡ true
   unfolding isNaming
-  names-child o e = rw (u, eq-eqb (nameAt s n .child) o e)
+  names-child o e = rw (is-used s n w, eq-eqb (nameAt s n .child) o e)
 
   names-other : (o : ℕ) → (nameAt s n .child ≡ o → ⊥) → isNaming s o n ≡ false
   unfolding isNaming
-  names-other o e = rw (u, ne-eqb (nameAt s n .child) o e)
+  names-other o e = rw (is-used s n w, ne-eqb (nameAt s n .child) o e)
 
   -- the root
   pub child-root : nameAt s n .child ≡ 0 → passes s ≡ false
@@ -100,8 +97,10 @@ module _ (s : Store) (t : Shaped s) (n : ℕ) (l : n < names s) (u : isUsedName 
   child-twice c e z f =
       let h : c < objects s = omega (arith, w .child) in
       let k = mark-some s n c (lowest n (isNaming s c)) refl (λ q. f (a .marks c h ∙ q)) in
-      let b = count-two (isNaming s c) (names s) n (k .0) (k .1 .below) l (k .1 .names) (names-child c (sym e)) in
-      let live : isLive s c ≡ true = rw e (w .live) in
+      let b = sum-two (names s) n (k .0) (λ i. bit (isNaming s c i)) l (omega (arith, k .1 .below)) (λ q. absurd (omega (arith, k .1 .below))) in
+      let x = ap bit (k .1 .passes) in
+      let y = ap bit (names-child c (sym e)) in
+      let live : isLive s c ≡ true = rw e (true-live s (nameAt s n .child) (w .child-live)) in
       fails-named s c h
       (rw (ne-eqb c 0 z, live, lt-leb (count (names s) (isNaming s c)) 1 (omega arith)) (and-false (leb 1 (count (names s) (isNaming s c)))))
 
@@ -149,7 +148,7 @@ module _ (s : Store) (t : Shaped s) (parents : List ℕ) (a : NamedBy s (names s
   unfolding isNamedOnce namings
   named-live o h z f =
       let k = mark-some s (names s) o (lowest (names s) (isNaming s o)) refl (λ q. f (a .marks o h ∙ q)) in
-      let b = count-at (isNaming s o) (names s) (k .0) (k .1 .below) (k .1 .names) in
+      let b = count-at (isNaming s o) (names s) (k .0) (k .1 .below) (k .1 .passes) in
       let g = a .once o h in
       rw (ne-eqb o 0 z, le-leb 1 (count (names s) (isNaming s o)) b, le-leb (count (names s) (isNaming s o)) 1 g) (or-true (not (isLive s o)))
 
@@ -169,8 +168,8 @@ module _ (s : Store) (t : Shaped s) (parents : List ℕ) (a : NamedBy s (names s
   marked-free-fails o h f v =
       let k = mark-some s (names s) o (lowest (names s) (isNaming s o)) refl (λ q. f (a .marks o h ∙ q)) in
       let n = k .0 in
-      let b = and-both (isUsedName s n) (eqb (nameAt s n .child) o) (k .1 .names) in
+      let b = and-both (isUsedName s n) (eqb (nameAt s n .child) o) (k .1 .passes) in
       let c = eqb-true (nameAt s n .child) o (b .1) in
       by-bool (goodNameRecord s n)
-      (λ e. true-false (sym (rw c at (used-well s n t (k .1 .below) (record-used s n (b .0) e) .live)) ∙ v))
+      (λ e. true-false (sym (true-live s o (rw c at (used-passes s n t (k .1 .below) (b .0) e .child-live))) ∙ v))
       (fails-name s n (k .1 .below))

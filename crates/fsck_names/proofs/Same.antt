@@ -2,35 +2,27 @@
 use mathlib.Core.Path.{_≡_, refl, sym, ap, ap₂, _∙_}
 use mathlib.Core.Bool.{Bool, true, _&&_}
 use mathlib.Core.List.{List, [], _∷_, _++_}
-use Prim.Native.Nat.{ℕ, zero, suc, _+_, _*_, _-_, _/_, _%_, _^_, _≤_, _<_}
+use Prim.Native.Nat.{ℕ, zero, suc, _+_, _*_, _-_, _/_, _%_, _^_, _≤_}
 use native.Mathlib.Numerals.{towards-suc}
 use native.Mathlib.Omega.{arith}
 use lib.Dec.{eqb, lit≤}
-use lib.ListN.{length, getD, replicate, drop}
+use lib.ListN.{length, getD, drop}
 use borrow.Author.Tests.{eqb-true, eq-eqb}
-use Rattle.kinds.specs.Layout.{namesHead, objectLength, nameRecordLength}
-use Rattle.spec.specs.Bytes.{part, digits, beOf, sameBytes, allBytes}
-use Rattle.spec.specs.Image.{Store, objects, names, nameStart, nameFrom, nameAt, nameLength}
+use Rattle.kinds.specs.Layout.{namesHead, objectLength, textOffset, nameRecordLength}
+use Rattle.kinds.specs.Numbers.{mostNameBytes}
+use Rattle.spec.specs.Bytes.{part, digits, beOf, zeros, sameBytes, allBytes}
+use Rattle.spec.specs.Image.{Store, objects, nameStart, nameFrom, nameAt, nameLength}
 use Rattle.spec.specs.Room.{isUsedName, isIn, isNamed}
 use Rattle.spec.specs.Names.{goodByte, goodBytes}
-use Rattle.spec.specs.Check.{isZero}
-use Rattle.laws.proofs.Bytes.{part-cons, part-add, part-length, part-part, same-eq, same-yes}
+use Rattle.laws.proofs.Bytes.{part-cons, part-add, part-part, same-eq, same-yes}
 use Rattle.laws.proofs.Count.{by-bool, true-false, and-both}
-use Rattle.laws.proofs.RecordRange.{text-length}
 use Rattle.wire.specs.LowFirst.{lowFirst}
-use Rattle.laws.proofs.Valid.{Shaped}
-use Rattle.fsck_names.specs.Distinct.{wordAt, joined, mix, hash, isSame}
-use Rattle.fsck_names.proofs.Joins.{UsedWell}
-
-zero-is : (xs : List ℕ) → isZero xs ≡ true → xs ≡ replicate (length xs) 0
-unfolding isZero allBytes
-zero-is [] e = refl
-zero-is (x ∷ xs) e =
-    let p = and-both (eqb x 0) (allBytes (λ y. eqb y 0) xs) e in
-    ap₂ (λ (a : ℕ) (l : List ℕ). a ∷ l) (eqb-true x 0 (p .0)) (zero-is xs (p .1))
+use Rattle.laws.proofs.Valid.{UsedName, good-bytes}
+use Rattle.fsck_names.specs.Distinct.{wordAt, joined, mix, paddedText, hash, isSame}
+use Rattle.fsck_names.proofs.Joins.{is-used}
 
 -- lists of no zero that are equal when zeros are put behind them
-front-zero : (i : ℕ) → _≡_ {A = ℕ} (getD (replicate i 0) 0 0) 0
+front-zero : (i : ℕ) → _≡_ {A = ℕ} (getD (zeros i) 0 0) 0
 front-zero zero = refl
 front-zero (suc i) = refl
 
@@ -38,7 +30,7 @@ no-zero : (y : ℕ) (ys : List ℕ) → goodBytes (y ∷ ys) ≡ true → y ≡ 
 unfolding goodBytes allBytes goodByte
 no-zero y ys g e = let a : goodByte y ≡ true = and-both (goodByte y) (allBytes goodByte ys) g .0 in true-false (sym a ∙ ap goodByte e)
 
-padded-same : (xs ys : List ℕ) (i j : ℕ) → goodBytes xs ≡ true → goodBytes ys ≡ true → xs ++ replicate i 0 ≡ ys ++ replicate j 0 → xs ≡ ys
+padded-same : (xs ys : List ℕ) (i j : ℕ) → goodBytes xs ≡ true → goodBytes ys ≡ true → xs ++ zeros i ≡ ys ++ zeros j → xs ≡ ys
 unfolding goodBytes allBytes
 padded-same [] [] i j g k e = refl
 padded-same [] (y ∷ ys) i j g k e = absurd (no-zero y ys k (sym (ap (λ (l : List ℕ). getD l 0 0) e) ∙ front-zero i))
@@ -75,53 +67,48 @@ same-by s n m a =
     rw (a .used, eq-eqb (nameAt s m .directory) (nameAt s n .directory) (a .directory), eq-eqb (nameLength s m) (length (nameAt s n .text)) (a .long))
     (same-yes (nameAt s m .text) (nameAt s n .text) (a .text))
 
-module _ (s : Store) (t : Shaped s) where
-  long-of : (n : ℕ) → n < names s → UsedWell s n → length (nameAt s n .text) ≡ nameLength s n
-  long-of n h w = text-length s n (omega (arith, t .exact, w .short))
-
+module _ (s : Store) where
   -- a record is the same as itself, and sameness goes both ways
-  pub same-self : (n : ℕ) → n < names s → UsedWell s n → isUsedName s n ≡ true → isSame s n n ≡ true
-  same-self n h w u = same-by s n n (record { used = u; directory = refl; long = sym (long-of n h w); text = refl })
+  pub same-self : (n : ℕ) → UsedName s n → isSame s n n ≡ true
+  same-self n w = same-by s n n (record { used = is-used s n w; directory = refl; long = sym (w .exact); text = refl })
 
-  pub same-back : (n m : ℕ) → n < names s → UsedWell s n → isUsedName s n ≡ true → isSame s n m ≡ true → isSame s m n ≡ true
-  same-back n m h w u e =
+  pub same-back : (n m : ℕ) → UsedName s n → isSame s n m ≡ true → isSame s m n ≡ true
+  same-back n m w e =
       let a = alike s n m e in
-      same-by s m n (record { used = u; directory = sym (a .directory); long = sym (ap length (a .text) ∙ long-of n h w); text = sym (a .text) })
+      same-by s m n (record { used = is-used s n w; directory = sym (a .directory); long = sym (ap length (a .text) ∙ w .exact); text = sym (a .text) })
 
-  -- the 32 name bytes of a record: its text, and zeros
-  whole : (n : ℕ) → n < names s → UsedWell s n → part s (nameStart s n + 12) 32 ≡ nameAt s n .text ++ replicate (32 - nameLength s n) 0
+  -- the name bytes of a record: its text, and zeros
+  whole : (n : ℕ) → UsedName s n → paddedText s n ≡ nameAt s n .text ++ zeros (mostNameBytes - nameLength s n)
   unfolding nameAt nameFrom nameLength
-  whole n h w =
+  whole n w =
       let len = nameLength s n in
-      let at = nameStart s n + 12 in
-      let q : 32 ≡ len + (32 - len) = omega (arith, w .short) in
-      let e : length (part s (at + len) (32 - len)) ≡ 32 - len = part-length s (at + len) (32 - len) (omega (arith, w .short, t .exact)) in
-      ap (part s at) q ∙ part-add s at len (32 - len)
-      ∙ ap (λ (l : List ℕ). part s at len ++ l) (zero-is (part s (at + len) (32 - len)) (w .padded) ∙ ap (λ (k : ℕ). replicate k 0) e)
+      let at = nameStart s n + textOffset in
+      let q : mostNameBytes ≡ len + (mostNameBytes - len) = omega (arith, w .short) in
+      ap (part s at) q ∙ part-add s at len (mostNameBytes - len) ∙ ap (λ (l : List ℕ). part s at len ++ l) (w .padded)
 
   -- two records are the same where their directories and those bytes are
-  module _ (n m : ℕ) (h : n < names s) (l : m < names s) (w : UsedWell s n) (v : UsedWell s m) where
-    bytes-of : Alike s n m → part s (nameStart s m + 12) 32 ≡ part s (nameStart s n + 12) 32
+  module _ (n m : ℕ) (w : UsedName s n) (v : UsedName s m) where
+    bytes-of : Alike s n m → paddedText s m ≡ paddedText s n
     bytes-of a =
-        let q : nameLength s m ≡ nameLength s n = a .long ∙ long-of n h w in
-        whole m l v ∙ ap₂ (λ (x : List ℕ) (k : ℕ). x ++ replicate (32 - k) 0) (a .text) q ∙ sym (whole n h w)
+        let q : nameLength s m ≡ nameLength s n = a .long ∙ w .exact in
+        whole m v ∙ ap₂ (λ (x : List ℕ) (k : ℕ). x ++ zeros (mostNameBytes - k)) (a .text) q ∙ sym (whole n w)
 
-    alike-by : isUsedName s m ≡ true → nameAt s m .directory ≡ nameAt s n .directory → part s (nameStart s m + 12) 32 ≡ part s (nameStart s n + 12)
-        32 → Alike s n m
+    alike-by : isUsedName s m ≡ true → nameAt s m .directory ≡ nameAt s n .directory → paddedText s m ≡ paddedText s n → Alike s n m
     alike-by u d e =
-        let x = padded-same (nameAt s m .text) (nameAt s n .text) (32 - nameLength s m) (32 - nameLength s n) (v .bytes) (w .bytes)
-        (sym (whole m l v) ∙ e ∙ whole n h w) in
-        record { used = u; directory = d; long = sym (long-of m l v) ∙ ap length x; text = x }
+        let x = padded-same (nameAt s m .text) (nameAt s n .text) (mostNameBytes - nameLength s m) (mostNameBytes - nameLength s n)
+        (good-bytes _ (v .good .bytes)) (good-bytes _ (w .good .bytes))
+        (sym (whole m v) ∙ e ∙ whole n w) in
+        record { used = u; directory = d; long = sym (v .exact) ∙ ap length x; text = x }
 
     pub same-hash : isSame s n m ≡ true → hash s m ≡ hash s n
     unfolding hash
     same-hash e = let a = alike s n m e in ap₂ mix (a .directory) (bytes-of a)
 
     same-is : isUsedName s m ≡ true
-        → eqb (nameAt s m .directory) (nameAt s n .directory) && sameBytes (part s (nameStart s m + 12) 32) (part s (nameStart s n + 12) 32) ≡ isSame s n m
+        → eqb (nameAt s m .directory) (nameAt s n .directory) && sameBytes (paddedText s m) (paddedText s n) ≡ isSame s n m
     same-is u =
         let d = eqb (nameAt s m .directory) (nameAt s n .directory) in
-        let b = sameBytes (part s (nameStart s m + 12) 32) (part s (nameStart s n + 12) 32) in
+        let b = sameBytes (paddedText s m) (paddedText s n) in
         by-bool (isSame s n m)
         (λ e. let a = alike s n m e in rw (e, eq-eqb (nameAt s m .directory) (nameAt s n .directory) (a .directory)) (same-yes _ _ (bytes-of a)))
         (λ e. by-bool (d && b)
@@ -132,7 +119,8 @@ module _ (s : Store) (t : Shaped s) where
     -- as the code finds it
     pub same-found : (p a b x y : ℕ) (t : Bool) → p ≡ objects s → a ≡ namesHead + objectLength * p + nameRecordLength * m
         → b ≡ namesHead + objectLength * p + nameRecordLength * n
-        → x ≡ nameAt s m .directory → y ≡ nameAt s n .directory → t ≡ sameBytes (part s (a + 12) 32) (part s (b + 12) 32) → isUsedName s m ≡ true
+        → x ≡ nameAt s m .directory → y ≡ nameAt s n .directory
+        → t ≡ sameBytes (part s (a + textOffset) mostNameBytes) (part s (b + textOffset) mostNameBytes) → isUsedName s m ≡ true
         → eqb x y && t ≡ isSame s n m
     same-found p a b x y t ep ea eb ex ey et u = rw (et, ex, ey, ea, eb, ep) (same-is u)
 
@@ -156,14 +144,14 @@ word-low b at h =
     (simp towards-suc (omega arith))
 
 pub hash-by : (s : Store) (p n at d a b e f u v w x : ℕ) → p ≡ objects s → at ≡ namesHead + objectLength * p + nameRecordLength * n
-    → d ≡ nameAt s n .directory → a ≡ wordAt s (at + 12)
-    → b ≡ wordAt s (at + 20) → e ≡ wordAt s (at + 28) → f ≡ wordAt s (at + 36) → u ≡ joined d a → v ≡ joined u b → w ≡ joined v e
+    → d ≡ nameAt s n .directory → a ≡ wordAt s (at + textOffset) → b ≡ wordAt s (at + textOffset + 8)
+    → e ≡ wordAt s (at + textOffset + 16) → f ≡ wordAt s (at + textOffset + 24) → u ≡ joined d a → v ≡ joined u b → w ≡ joined v e
     → x ≡ joined w f → (x / 2 ^ 32 * 2104504639 + x % 2 ^ 32 * 1511612125) / 2 ^ 27 % 256 ≡ hash s n
 unfolding hash mix
 hash-by s p n at d a b e f u v w x ep eat ed ea eb ee ef eu ev ew ex =
-    let t = nameStart s n + 12 in
-    let word : (i q : ℕ) → i + 8 ≤ 32 → q ≡ t + i → wordAt s q ≡ wordAt (part s t 32) i = λ i q h z. ap (wordAt s) z ∙ ap lowFirst
-    (sym (part-part s t 32 i 8 h)) in
+    let t = nameStart s n + textOffset in
+    let word : (i q : ℕ) → i + 8 ≤ mostNameBytes → q ≡ t + i → wordAt s q ≡ wordAt (paddedText s n) i =
+    λ i q h z. ap (wordAt s) z ∙ ap lowFirst (sym (part-part s t mostNameBytes i 8 h)) in
     rw (
       ex,
       ew,
@@ -174,8 +162,8 @@ hash-by s p n at d a b e f u v w x ep eat ed ea eb ee ef eu ev ew ex =
       eb,
       ee,
       ef,
-      word 0 (at + 12) (lit≤ tt) (rw (eat, ep) (omega arith)),
-      word 8 (at + 20) (lit≤ tt) (rw (eat, ep) (omega arith)),
-      word 16 (at + 28) (lit≤ tt) (rw (eat, ep) (omega arith)),
-      word 24 (at + 36) (lit≤ tt) (rw (eat, ep) (omega arith)),
+      word 0 (at + textOffset) (lit≤ tt) (rw (eat, ep) (omega arith)),
+      word 8 (at + textOffset + 8) (lit≤ tt) (rw (eat, ep) (omega arith)),
+      word 16 (at + textOffset + 16) (lit≤ tt) (rw (eat, ep) (omega arith)),
+      word 24 (at + textOffset + 24) (lit≤ tt) (rw (eat, ep) (omega arith)),
     )

@@ -1,7 +1,7 @@
 -- The pass over the name records, one further, and what it shows at the end. Assumes nothing.
 use mathlib.Core.Path.{_≡_, refl, sym, ap, _∙_}
 use mathlib.Core.Logic.{_≢_, by-cases, ⊎-elim}
-use mathlib.Core.Bool.{Bool, true, false, _&&_, _||_, not}
+use mathlib.Core.Bool.{Bool, true, false}
 use mathlib.Core.List.{List}
 use Prim.Native.Nat.{ℕ, zero, suc, _+_, _≤_, _<_}
 use native.Mathlib.Nat.{not-suc-le-zero}
@@ -9,23 +9,25 @@ use native.Mathlib.Decide.{ℕ-discrete}
 use native.Mathlib.Omega.{arith}
 use lib.Dec.{eqb}
 use borrow.Author.Tests.{eq-eqb}
+use Rattle.kinds.specs.Numbers.{mostObjects, mostNameRecords}
 use Rattle.spec.specs.Count.{bit, sum, count, every}
 use Rattle.spec.specs.Image.{Store, names, nameAt}
 use Rattle.spec.specs.Room.{isUsedName, isNamed}
 use Rattle.spec.specs.Check.{goodNameRecord, isDistinct}
 use Rattle.laws.proofs.Bytes.{lt-or-le}
 use Rattle.laws.proofs.Count.{by-bool, true-false, every-at, every-all, every-more, sum-zero}
-use Rattle.laws.proofs.Valid.{Shaped}
+use Rattle.laws.proofs.Valid.{Shaped, UsedName}
 use Rattle.fsck_objects.specs.Objects.{Blank}
 use Rattle.fsck_names.specs.Distinct.{isSame, Chains}
 use Rattle.fsck_names.specs.Named.{NamedBy}
 use Rattle.fsck_names.specs.Names.{NamesPass}
-use Rattle.fsck_names.proofs.Joins.{UsedWell, used-well, record-used}
+use Rattle.fsck_names.proofs.Joins.{used-passes}
 use Rattle.fsck_names.proofs.Same.{alike, same-self, same-back}
 use Rattle.fsck_names.proofs.Chained.{chains-none, chains-free}
 use Rattle.fsck_names.proofs.Parents.{parents-none, parents-free}
 
-pub names-none : (s : Store) (parents head next : List ℕ) → Blank 64 parents → Blank 256 head → Blank 128 next → NamesPass s 0 parents head next
+pub names-none : (s : Store) (parents head next : List ℕ) → Blank mostObjects parents → Blank 256 head → Blank mostNameRecords next
+    → NamesPass s 0 parents head next
 unfolding every
 names-none s parents head next a b d =
     record { good = refl; new = λ k m l. absurd (not-suc-le-zero l); chains = chains-none s head next b d; named = parents-none s parents a }
@@ -69,14 +71,14 @@ unfolding isDistinct
 distinct-all s t parents head next a =
     every-all (isDistinct s) (names s) (λ n l. by-bool (isUsedName s n) (λ u. rw (u, one n l u)) (λ u. rw u))
   where
-    well : (n : ℕ) → n < names s → isUsedName s n ≡ true → UsedWell s n
-    well n l u = used-well s n t l (record-used s n u (every-at (goodNameRecord s) (names s) n (a .good) l))
+    well : (n : ℕ) → n < names s → isUsedName s n ≡ true → UsedName s n
+    well n l u = used-passes s n t l u (every-at (goodNameRecord s) (names s) n (a .good) l)
 
     no-other : (n m : ℕ) → n < names s → m < names s → isUsedName s n ≡ true → m ≢ n → isSame s n m ≡ false
     no-other n m l h u d =
         ⊎-elim (λ (q : m < n). a .new n m l q u)
         (λ (q : n ≤ m). by-bool (isSame s n m)
-        (λ e. let b = same-back s t n m l (well n l u) u e in
+        (λ e. let b = same-back s n m (well n l u) e in
         let v = by-bool (isUsedName s m) (λ x. x) (λ x. true-false (sym (alike s n m e .used) ∙ x)) in
         true-false (sym b ∙ a .new m n h (omega arith) v))
         (λ e. e))
@@ -84,5 +86,5 @@ distinct-all s t parents head next a =
 
     one : (n : ℕ) → n < names s → isUsedName s n ≡ true → eqb (count (names s) (isNamed s (nameAt s n .directory) (nameAt s n .text))) 1 ≡ true
     one n l u =
-        eq-eqb _ _ (count-one (isNamed s (nameAt s n .directory) (nameAt s n .text)) (names s) n l (same-self s t n l (well n l u) u)
+        eq-eqb _ _ (count-one (isNamed s (nameAt s n .directory) (nameAt s n .text)) (names s) n l (same-self s n (well n l u))
         (λ m h d. no-other n m l h u d))

@@ -1,6 +1,7 @@
 // All name records.
 ghost use mathlib.Core.Path.{_≡_};
 ghost use Prim.Native.Nat.{_+_, _<_};
+ghost use Rattle.kinds.specs.Numbers.{mostObjects, mostNameRecords};
 ghost use Rattle.spec.specs.Image.{objects, names};
 ghost use Rattle.laws.proofs.Valid.{Shaped};
 ghost use Rattle.fsck_objects.specs.Told.{Told};
@@ -12,23 +13,24 @@ use crate::distinct::put_first;
 use crate::named::mark_child;
 use crate::record::length_of;
 use crate::record::record_passes;
+use kinds::numbers::NameNumber;
 
 // Whether name record n passes, and those before it.
 fn name_passes(
     store: &[u8],
     inside: &[u8; 64],
     p: usize,
-    n: usize,
+    n: NameNumber,
     parents: &mut [u8; 64],
     head: &mut [u8; 256],
     next: &mut [u8; 128],
 ) -> bool
     requires { ⌜ Shaped (now store) ⌝ }
     requires { ⌜ p ≡ objects (now store) ⌝ }
-    requires { ⌜ n < names (now store) ⌝ }
-    requires { ⌜ NamesPass (now store) n (now parents) (now head) (now next) ⌝ }
+    requires { ⌜ n .0 < names (now store) ⌝ }
+    requires { ⌜ NamesPass (now store) (n .0) (now parents) (now head) (now next) ⌝ }
     requires { ⌜ Inside (now inside) ⌝ }
-    ensures { λ r. ⌜ Told r (now (store .entry)) (NamesPass (now (store .entry)) (n + 1) (now (parents .exit)) (now (head .exit)) (now (next .exit))) ⌝ }
+    ensures { λ r. ⌜ Told r (now (store .entry)) (NamesPass (now (store .entry)) (n .0 + 1) (now (parents .exit)) (now (head .exit)) (now (next .exit))) ⌝ }
 {
     let len = length_of(store, p, n);
     if !record_passes(store, inside, p, n, len) {
@@ -62,15 +64,15 @@ pub fn names_pass(
     requires { ⌜ Shaped (now store) ⌝ }
     requires { ⌜ p ≡ objects (now store) ⌝ }
     requires { ⌜ count ≡ names (now store) ⌝ }
-    requires { ⌜ Blank 64 (now parents) ⌝ }
+    requires { ⌜ Blank mostObjects (now parents) ⌝ }
     requires { ⌜ Blank 256 (now head) ⌝ }
-    requires { ⌜ Blank 128 (now next) ⌝ }
+    requires { ⌜ Blank mostNameRecords (now next) ⌝ }
     requires { ⌜ Inside (now inside) ⌝ }
     ensures { λ r. ⌜ Told r (now (store .entry)) (NamesPass (now (store .entry)) count (now (parents .exit)) (now (head .exit)) (now (next .exit))) ⌝ }
 {
     let mut n = 0;
     while n < count {
-        if !name_passes(store, inside, p, n, parents, head, next) {
+        if !name_passes(store, inside, p, NameNumber(n), parents, head, next) {
             return false;
         }
         n += 1;

@@ -1,10 +1,9 @@
 // One name record by itself.
 ghost use mathlib.Core.Path.{_≡_};
-ghost use Prim.Native.Nat.{_+_, _*_, _≤_, _<_};
+ghost use Prim.Native.Nat.{_+_, _≤_, _<_};
 ghost use lib.ListN.{length};
-ghost use Rattle.kinds.specs.Layout.{namesHead, objectLength, nameRecordLength};
+ghost use Rattle.kinds.specs.Layout.{lengthOffset, nameRecordLength};
 ghost use Rattle.spec.specs.Image.{objects, names, nameAt, nameLength};
-ghost use Rattle.spec.specs.Room.{isDirectory, isLive};
 ghost use Rattle.spec.specs.Bytes.{part, beAt};
 ghost use Rattle.spec.specs.Check.{isZero, goodUsed, goodNameRecord};
 ghost use Rattle.laws.proofs.Valid.{Shaped};
@@ -12,102 +11,91 @@ ghost use Rattle.fsck_objects.specs.Objects.{Inside};
 ghost use Rattle.fsck_names.specs.Record.{isDirectoryIn, isLiveIn};
 use crate::text::good_text;
 use fsck_objects::zero::is_zero;
-use kinds::layout::Image;
 use kinds::layout::NameRecord;
-use kinds::layout::ObjectRecord;
 use kinds::numbers::Kind;
 use kinds::numbers::Limit;
+use kinds::numbers::NameNumber;
 use kinds::numbers::ObjectNumber;
+use store_places::name_place;
 use store_records::object::kind_of;
 
-// Where name record n starts, in a store of p objects.
-pub fn name_start(p: usize, n: usize) -> usize
-    requires { ⌜ p ≤ 64 ⌝ }
-    requires { ⌜ n ≤ 128 ⌝ }
-    ensures { λ r. ⌜ r ≡ namesHead + objectLength * p + nameRecordLength * n ⌝ }
-{
-    Image::NAMES_HEAD + ObjectRecord::BYTES * p + NameRecord::BYTES * n
-}
-
 // Whether o is the number of a directory.
-fn is_directory(store: &[u8], p: usize, o: usize) -> bool
+fn is_directory(store: &[u8], p: usize, o: ObjectNumber) -> bool
     requires { ⌜ Shaped (now store) ⌝ }
     requires { ⌜ p ≡ objects (now store) ⌝ }
-    ensures { λ r. ⌜ r ≡ isDirectoryIn (now (store .entry)) o ⌝ }
+    ensures { λ r. ⌜ r ≡ isDirectoryIn (now (store .entry)) (o .0) ⌝ }
 {
-    o < p && kind_of(store, ObjectNumber(o)) == Kind::DIRECTORY
+    o.0 < p && kind_of(store, o) == Kind::DIRECTORY
 }
 
 // Whether o is the number of a live object.
-fn is_live(store: &[u8], p: usize, o: usize) -> bool
+fn is_live(store: &[u8], p: usize, o: ObjectNumber) -> bool
     requires { ⌜ Shaped (now store) ⌝ }
     requires { ⌜ p ≡ objects (now store) ⌝ }
-    ensures { λ r. ⌜ r ≡ isLiveIn (now (store .entry)) o ⌝ }
+    ensures { λ r. ⌜ r ≡ isLiveIn (now (store .entry)) (o .0) ⌝ }
 {
-    o < p && kind_of(store, ObjectNumber(o)) != Kind::FREE
+    o.0 < p && kind_of(store, o) != Kind::FREE
 }
 
 // Whether name record n, of a length other than 0, passes by itself.
-fn good_used(store: &[u8], inside: &[u8; 64], p: usize, n: usize, len: usize) -> bool
+fn good_used(store: &[u8], inside: &[u8; 64], p: usize, n: NameNumber, len: usize) -> bool
     requires { ⌜ Shaped (now store) ⌝ }
     requires { ⌜ p ≡ objects (now store) ⌝ }
-    requires { ⌜ n < names (now store) ⌝ }
-    requires { ⌜ len ≡ nameLength (now store) n ⌝ }
+    requires { ⌜ n .0 < names (now store) ⌝ }
+    requires { ⌜ len ≡ nameLength (now store) (n .0) ⌝ }
     requires { ⌜ 1 ≤ len ⌝ }
     requires { ⌜ Inside (now inside) ⌝ }
-    ensures { λ r. ⌜ r ≡ goodUsed (now (store .entry)) n ⌝ }
+    ensures { λ r. ⌜ r ≡ goodUsed (now (store .entry)) (n .0) ⌝ }
 {
-    let at = name_start(p, n);
+    let at = name_place(p, n);
     if len > Limit::MOST_NAME_BYTES {
         return false;
     }
     if !good_text(store, inside, at + NameRecord::TEXT, len) {
         return false;
     }
-    if !is_directory(store, p, wire::get_u32(store, at) as usize) {
+    let directory = ObjectNumber(wire::get_u32(store, at) as usize);
+    if !is_directory(store, p, directory) {
         return false;
     }
-    is_live(
-        store,
-        p,
-        wire::get_u32(store, at + NameRecord::CHILD) as usize,
-    )
+    let child = ObjectNumber(wire::get_u32(store, at + NameRecord::CHILD) as usize);
+    is_live(store, p, child)
 }
 
 // The length that name record n states; 0 where it is free.
-pub fn length_of(store: &[u8], p: usize, n: usize) -> usize
+pub fn length_of(store: &[u8], p: usize, n: NameNumber) -> usize
     requires { ⌜ Shaped (now store) ⌝ }
     requires { ⌜ p ≡ objects (now store) ⌝ }
-    requires { ⌜ n < names (now store) ⌝ }
-    ensures { λ r. ⌜ r ≡ nameLength (now (store .entry)) n ⌝ }
+    requires { ⌜ n .0 < names (now store) ⌝ }
+    ensures { λ r. ⌜ r ≡ nameLength (now (store .entry)) (n .0) ⌝ }
 {
-    wire::get_u32(store, name_start(p, n) + NameRecord::LENGTH) as usize
+    wire::get_u32(store, name_place(p, n) + NameRecord::LENGTH) as usize
 }
 
 // The directory of name record n.
-pub fn directory_of(store: &[u8], p: usize, n: usize) -> usize
+pub fn directory_of(store: &[u8], p: usize, n: NameNumber) -> ObjectNumber
     requires { ⌜ Shaped (now store) ⌝ }
     requires { ⌜ p ≡ objects (now store) ⌝ }
-    requires { ⌜ n < names (now store) ⌝ }
-    ensures { λ r. ⌜ r ≡ nameAt (now (store .entry)) n .directory ⌝ }
+    requires { ⌜ n .0 < names (now store) ⌝ }
+    ensures { λ r. ⌜ r .0 ≡ nameAt (now (store .entry)) (n .0) .directory ⌝ }
 {
-    wire::get_u32(store, name_start(p, n)) as usize
+    ObjectNumber(wire::get_u32(store, name_place(p, n)) as usize)
 }
 
 // The object that name record n names.
-pub fn child_of(store: &[u8], p: usize, n: usize) -> usize
+pub fn child_of(store: &[u8], p: usize, n: NameNumber) -> ObjectNumber
     requires { ⌜ Shaped (now store) ⌝ }
     requires { ⌜ p ≡ objects (now store) ⌝ }
-    requires { ⌜ n < names (now store) ⌝ }
-    ensures { λ r. ⌜ r ≡ nameAt (now (store .entry)) n .child ⌝ }
+    requires { ⌜ n .0 < names (now store) ⌝ }
+    ensures { λ r. ⌜ r .0 ≡ nameAt (now (store .entry)) (n .0) .child ⌝ }
 {
-    wire::get_u32(store, name_start(p, n) + NameRecord::CHILD) as usize
+    ObjectNumber(wire::get_u32(store, name_place(p, n) + NameRecord::CHILD) as usize)
 }
 
 // Whether the name record from `at`, whose length is 0, is zero.
 fn is_free(store: &[u8], at: usize) -> bool
     requires { ⌜ at + nameRecordLength ≤ length (now store) ⌝ }
-    requires { ⌜ beAt (now store) (at + 8) 4 ≡ 0 ⌝ }
+    requires { ⌜ beAt (now store) (at + lengthOffset) 4 ≡ 0 ⌝ }
     ensures { λ r. ⌜ r ≡ isZero (part (now (store .entry)) at nameRecordLength) ⌝ }
 {
     if wire::get_u64(store, at) != 0 {
@@ -117,16 +105,16 @@ fn is_free(store: &[u8], at: usize) -> bool
 }
 
 // Whether name record n, which states the length `len`, passes by itself.
-pub fn record_passes(store: &[u8], inside: &[u8; 64], p: usize, n: usize, len: usize) -> bool
+pub fn record_passes(store: &[u8], inside: &[u8; 64], p: usize, n: NameNumber, len: usize) -> bool
     requires { ⌜ Shaped (now store) ⌝ }
     requires { ⌜ p ≡ objects (now store) ⌝ }
-    requires { ⌜ n < names (now store) ⌝ }
-    requires { ⌜ len ≡ nameLength (now store) n ⌝ }
+    requires { ⌜ n .0 < names (now store) ⌝ }
+    requires { ⌜ len ≡ nameLength (now store) (n .0) ⌝ }
     requires { ⌜ Inside (now inside) ⌝ }
-    ensures { λ r. ⌜ r ≡ goodNameRecord (now (store .entry)) n ⌝ }
+    ensures { λ r. ⌜ r ≡ goodNameRecord (now (store .entry)) (n .0) ⌝ }
 {
     if len == 0 {
-        return is_free(store, name_start(p, n));
+        return is_free(store, name_place(p, n));
     }
     good_used(store, inside, p, n, len)
 }

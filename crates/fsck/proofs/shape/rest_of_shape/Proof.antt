@@ -89,7 +89,14 @@ returns-5 c =
     let r : c .before .before .get-u322 .result ≡ blocks s = c .before .before .get-u322 .ensures ∙ blocks-are s (st .args .objects)
     (c .before .before .before .before .before .get-u32 .result) _ (st .pre .count) q (omega arith) in
     shape-counts s (st .args .objects) (c .before .before .before .before .before .get-u32 .result) (c .before .before .get-u322 .result) (st .pre .count) q r
-    (record { volume = st .pre .one; some-object = omega arith; few-objects = omega arith; few-names = omega arith; few-blocks = omega arith; exact = omega arith })
+    (record {
+      volume = st .pre .one;
+      some-object = omega arith;
+      few-objects = omega arith;
+      few-names = omega arith;
+      few-blocks = omega arith;
+      exact = omega arith;
+    })
 
 pub rest-of-shape-spec : {M : Type 1} → statement M
 rest-of-shape-spec =

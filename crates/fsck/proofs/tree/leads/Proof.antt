@@ -25,7 +25,7 @@ element-copy-out-index-2 c =
     let a = st .args in
     let s = a .store .now in
     let m = parents-by s (a .p) (a .parents .now) (st .pre .0) (st .pre .1 .0) (st .pre .1 .1 .0) in
-    omega (arith, m .range (a .o), m .most, c .before .index .ensures .0, positive _ (c .if1 .taken))
+    omega (arith, m .range (a .o .0), m .most, c .before .index .ensures .0, positive _ (c .if1 .taken))
 
 index-requires-2 : tie.Need-index-requires-2
 index-requires-2 c κs = search needs
@@ -50,20 +50,20 @@ returns c =
     let a = st .args in
     let s = a .store .now in
     let m = parents-by s (a .p) (a .parents .now) (st .pre .0) (st .pre .1 .0) (st .pre .1 .1 .0) in
-    let h = below-p (a .o) (a .p) _ (st .pre .1 .0) (st .pre .1 .1 .1 .1) in
+    let h = below-p (a .o .0) (a .p) _ (st .pre .1 .0) (st .pre .1 .1 .1 .1) in
     let mark = c .before .before .before .before .before .index .ensures .0 in
-    let z = marked-other s (a .p) (a .parents .now) m (a .o) (c .before .before .before .before .before .index .result) mark
+    let z = marked-other s (a .p) (a .parents .now) m (a .o .0) (c .before .before .before .before .before .index .result) mark
     (c .before .before .before .before .if1 .taken) in
-    let d = depth-next s (a .p) (a .parents .now) m (a .depths .now) (st .pre .1 .1 .1 .0) (a .o)
+    let d = depth-next s (a .p) (a .parents .now) m (a .depths .now) (st .pre .1 .1 .1 .0) (a .o .0)
     (c .before .before .before .before .before .index .result) (c .before .before .index2 .result) (st .pre .1 .1 .1 .1) mark
     (c .before .before .before .before .if1 .taken) (c .before .before .index2 .ensures .0) (c .before .if2 .taken) in
-    let e = depth-most s (a .p) (a .parents .now) m (a .o) (c .before .before .index2 .result) d
+    let e = depth-most s (a .p) (a .parents .now) m (a .o .0) (c .before .before .index2 .result) d
     (leb-true (c .before .before .index2 .result) (a .p) (c .if3 .taken)) in
     told-true (record {
-      known = known-set s (a .p) (a .parents .now) m (a .depths .now) (st .pre .1 .1 .1 .0) (a .o) (c .before .before .index2 .result)
+      known = known-set s (a .p) (a .parents .now) m (a .depths .now) (st .pre .1 .1 .1 .0) (a .o .0) (c .before .before .index2 .result)
           (st .pre .1 .1 .1 .1) z d;
-      named = named-live s (st .pre .0) (a .parents .now) (st .pre .1 .1 .0) (a .o) h z (λ q. c .before .before .before .before .if1 .taken (mark ∙ q));
-      leads = leads-yes s (a .o) (ap (λ (n : ℕ). above s n (a .o)) (sym (st .pre .1 .0)) ∙ e);
+      named = named-live s (st .pre .0) (a .parents .now) (st .pre .1 .1 .0) (a .o .0) h z (λ q. c .before .before .before .before .if1 .taken (mark ∙ q));
+      leads = leads-yes s (a .o .0) (ap (λ (n : ℕ). above s n (a .o .0)) (sym (st .pre .1 .0)) ∙ e);
     })
 
 leads-by-steps-requires : tie.Need-leads-by-steps-requires

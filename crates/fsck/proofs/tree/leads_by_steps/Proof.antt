@@ -17,7 +17,7 @@ returns c =
     let a = st .args in
     let s = a .store .now in
     let m = parents-by s (a .p) (a .parents .now) (st .pre .0) (st .pre .1 .0) (st .pre .1 .1 .0) in
-    let h = below-p (a .o) (a .p) _ (st .pre .1 .0) (st .pre .1 .1 .1 .1) in
+    let h = below-p (a .o .0) (a .p) _ (st .pre .1 .0) (st .pre .1 .1 .1 .1) in
     told-true (record {
       known = st .pre .1 .1 .1 .0;
       named = rw (c .if1 .taken) (root-named s (st .pre .0) (a .parents .now) (st .pre .1 .1 .0));
@@ -35,18 +35,18 @@ returns-2 c =
     let st = c .before .before .before .before .before in
     let a = st .args in
     let s = a .store .now in
-    let h = below-p (a .o) (a .p) _ (st .pre .1 .0) (st .pre .1 .1 .1 .1) in
+    let h = below-p (a .o .0) (a .p) _ (st .pre .1 .0) (st .pre .1 .1 .1 .1) in
     let z = c .before .before .before .if1 .left in
     let k = c .kind-of .ensures in
     record {
-      yes = λ e. let f = live-no s (a .o) (sym k ∙ eqb-true _ 0 e) in
+      yes = λ e. let f = live-no s (a .o .0) (sym k ∙ eqb-true _ 0 e) in
           record {
             known = st .pre .1 .1 .1 .0;
-            named = named-free s (st .pre .0) (a .parents .now) (st .pre .1 .1 .0) (a .o) z f;
-            leads = leads-free s (a .o) f;
+            named = named-free s (st .pre .0) (a .parents .now) (st .pre .1 .1 .0) (a .o .0) z f;
+            leads = leads-free s (a .o .0) f;
           };
-      no = λ e. unnamed-fails s (st .pre .0) (a .parents .now) (st .pre .1 .1 .0) (a .o) h z
-          (live-yes s (a .o) (λ q. true-false (sym (eq-eqb _ 0 (k ∙ q)) ∙ e))) (c .before .if2 .taken);
+      no = λ e. unnamed-fails s (st .pre .0) (a .parents .now) (st .pre .1 .1 .0) (a .o .0) h z
+          (live-yes s (a .o .0) (λ q. true-false (sym (eq-eqb _ 0 (k ∙ q)) ∙ e))) (c .before .if2 .taken);
     }
 
 steps-requires : tie.Need-steps-requires
@@ -62,11 +62,11 @@ returns-3 c =
     let st = c .before .before .before .before .before .before .before in
     let a = st .args in
     let s = a .store .now in
-    let h = below-p (a .o) (a .p) _ (st .pre .1 .0) (st .pre .1 .1 .1 .1) in
-    told-false (by-bool (isLive s (a .o))
-    (λ v. fails-leads s (a .o) h (leads-no s (a .o) v
-    (λ e. c .before .steps .ensures .lost (c .if3 .taken) (ap (λ (n : ℕ). above s n (a .o)) (st .pre .1 .0) ∙ e))))
-    (marked-free-fails s (st .pre .0) (a .parents .now) (st .pre .1 .1 .0) (a .o) h (c .before .before .before .if2 .left)))
+    let h = below-p (a .o .0) (a .p) _ (st .pre .1 .0) (st .pre .1 .1 .1 .1) in
+    told-false (by-bool (isLive s (a .o .0))
+    (λ v. fails-leads s (a .o .0) h (leads-no s (a .o .0) v
+    (λ e. c .before .steps .ensures .lost (c .if3 .taken) (ap (λ (n : ℕ). above s n (a .o .0)) (st .pre .1 .0) ∙ e))))
+    (marked-free-fails s (st .pre .0) (a .parents .now) (st .pre .1 .1 .0) (a .o .0) h (c .before .before .before .if2 .left)))
 
 note-steps-requires : tie.Need-note-steps-requires
 note-steps-requires c κs =
@@ -82,14 +82,14 @@ returns-4 c =
     let a = st .args in
     let s = a .store .now in
     let m = parents-by s (a .p) (a .parents .now) (st .pre .0) (st .pre .1 .0) (st .pre .1 .1 .0) in
-    let h = below-p (a .o) (a .p) _ (st .pre .1 .0) (st .pre .1 .1 .1 .1) in
+    let h = below-p (a .o .0) (a .p) _ (st .pre .1 .0) (st .pre .1 .1 .1 .1) in
     let d = c .before .before .before .steps .ensures .found (c .before .before .if3 .left) in
-    let e = depth-most s (a .p) (a .parents .now) m (a .o) (c .before .before .before .steps .result) d (c .before .before .if3 .left) in
+    let e = depth-most s (a .p) (a .parents .now) m (a .o .0) (c .before .before .before .steps .result) d (c .before .before .if3 .left) in
     told-true (record {
       known = c .note-steps .ensures;
-      named = named-live s (st .pre .0) (a .parents .now) (st .pre .1 .1 .0) (a .o) h
+      named = named-live s (st .pre .0) (a .parents .now) (st .pre .1 .1 .0) (a .o .0) h
           (c .before .before .before .before .before .before .before .if1 .left) (c .before .before .before .before .before .if2 .left);
-      leads = leads-yes s (a .o) (ap (λ (n : ℕ). above s n (a .o)) (sym (st .pre .1 .0)) ∙ e);
+      leads = leads-yes s (a .o .0) (ap (λ (n : ℕ). above s n (a .o .0)) (sym (st .pre .1 .0)) ∙ e);
     })
 
 pub leads-by-steps-spec : {M : Type 1} → statement M

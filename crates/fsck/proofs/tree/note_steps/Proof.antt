@@ -5,10 +5,10 @@ use Rattle.fsck.proofs.tree.note_steps.Statement.{statement}
 use Rattle.fsck.proofs.tree.note_steps.Tie as tie
 
 abbrev Inv-loop : tie.InvT-loop
-Inv-loop store p parents depths₀ o count at₀ d₀ depths at d = Noted store p depths at d
+Inv-loop store p parents depths₀ count at₀ d₀ depths at d = Noted store p depths at d
 
 abbrev μ-loop : tie.MeasureT-loop
-μ-loop store p parents depths₀ o count at₀ d₀ depths at d = d
+μ-loop store p parents depths₀ count at₀ d₀ depths at d = d
 
 loop-holds : tie.Need-loop-holds Inv-loop μ-loop
 loop-holds c =
@@ -53,7 +53,7 @@ loop-again c =
     let l = c .before .before .before in
     let st = c .before .before .before .before .before in
     let a = st .args in
-    note-more (a .store .now) (a .p) (a .parents .now) (st .pre .0) (l .loop .depths) (l .loop .at) (l .loop .d) (c .parent-of .result)
+    note-more (a .store .now) (a .p) (a .parents .now) (st .pre .0) (l .loop .depths) (l .loop .at) (l .loop .d) (c .parent-of .result .0)
     (l .loop .inv) (c .before .if1 .taken) (c .parent-of .ensures)
 
 returns : tie.Need-returns Inv-loop μ-loop

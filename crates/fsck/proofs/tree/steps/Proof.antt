@@ -7,13 +7,13 @@ use Rattle.fsck.proofs.tree.steps.Statement.{statement}
 use Rattle.fsck.proofs.tree.steps.Tie as tie
 
 abbrev Inv-loop : tie.InvT-loop
-Inv-loop store p parents depths o at₀ k₀ at k = Climbed store p o at k
+Inv-loop store p parents depths at₀ k₀ at k = Climbed store p at₀ at k
 
 abbrev μ-loop : tie.MeasureT-loop
-μ-loop store p parents depths o at₀ k₀ at k = p + 1 - k
+μ-loop store p parents depths at₀ k₀ at k = p + 1 - k
 
 loop-holds : tie.Need-loop-holds Inv-loop μ-loop
-loop-holds c = let st = c .before in let a = st .args in climb-start (a .store .now) (a .p) (a .parents .now) (st .pre .0) (a .o) (st .pre .1 .1)
+loop-holds c = let st = c .before in let a = st .args in climb-start (a .store .now) (a .p) (a .parents .now) (st .pre .0) (a .o .0) (st .pre .1 .1)
 
 element-copy-out-index : tie.Need-element-copy-out-index Inv-loop μ-loop
 element-copy-out-index c = search needs
@@ -32,7 +32,7 @@ returns c =
     let l = c .before .before .before .before in
     let st = c .before .before .before .before .before .before in
     let a = st .args in
-    climb-found (a .store .now) (a .p) (a .parents .now) (st .pre .0) (a .depths .now) (st .pre .1 .0) (a .o) (l .loop .at) (l .loop .k)
+    climb-found (a .store .now) (a .p) (a .parents .now) (st .pre .0) (a .depths .now) (st .pre .1 .0) (a .o .0) (l .loop .at) (l .loop .k)
     (c .before .index .result) (l .loop .inv) (c .before .index .ensures .0) (c .if1 .taken)
 
 parent-of-requires : tie.Need-parent-of-requires Inv-loop μ-loop
@@ -49,8 +49,8 @@ loop-again c =
     let l = c .before .before .before .before .before in
     let st = c .before .before .before .before .before .before .before in
     let a = st .args in
-    climb-more (a .store .now) (a .p) (a .parents .now) (st .pre .0) (a .depths .now) (st .pre .1 .0) (a .o) (l .loop .at) (l .loop .k)
-    (c .parent-of .result) (omega arith) (l .loop .inv) (sym (c .before .before .index .ensures .0) ∙ c .before .if1 .left)
+    climb-more (a .store .now) (a .p) (a .parents .now) (st .pre .0) (a .depths .now) (st .pre .1 .0) (a .o .0) (l .loop .at) (l .loop .k)
+    (c .parent-of .result .0) (omega arith) (l .loop .inv) (sym (c .before .before .index .ensures .0) ∙ c .before .if1 .left)
     (c .parent-of .ensures)
 
 returns-2 : tie.Need-returns-2 Inv-loop μ-loop
@@ -58,7 +58,7 @@ returns-2 c =
     let l = c .before in
     let st = c .before .before .before in
     let a = st .args in
-    climb-lost (a .store .now) (a .p) (a .parents .now) (st .pre .0) (a .o) (l .loop .at) (l .loop .k) (l .loop .inv) (omega arith)
+    climb-lost (a .store .now) (a .p) (a .parents .now) (st .pre .0) (a .o .0) (l .loop .at) (l .loop .k) (l .loop .inv) (omega arith)
 
 pub steps-spec : {M : Type 1} → statement M
 steps-spec =

@@ -1,14 +1,13 @@
 use Rattle.fsck_names.proofs.Chained.{Walked, walk-start, walk-step, walk-less, used-before}
 use borrow.Author.Needs.{needs}
 use native.Mathlib.Omega.{arith}
-use mathlib.Core.Bool.{Bool, _||_}
-use mathlib.Core.Path.{ap, sym, _∙_}
+use mathlib.Core.Path.{_∙_}
 use Prim.Native.Nat.{_-_}
 use Rattle.fsck_names.proofs.distinct.is_new.Statement.{statement}
 use Rattle.fsck_names.proofs.distinct.is_new.Tie as tie
 
 abbrev Inv-loop : tie.InvT-loop
-Inv-loop store p n h head next found₀ k₀ found k = Walked store n h found k
+Inv-loop store p n h head next found₀ k₀ found k = Walked store (n .0) h found k
 
 abbrev μ-loop : tie.MeasureT-loop
 μ-loop store p n h head next found₀ k₀ found k = k
@@ -22,11 +21,11 @@ index-requires c κs = search needs
 loop-holds : tie.Need-loop-holds Inv-loop μ-loop
 loop-holds c =
     let st = c .before .before .before in
-    walk-start (st .args .store .now) (st .pre .0) (st .args .n) (st .args .h) (st .pre .1 .1 .0) (c .index .result)
+    walk-start (st .args .store .now) (st .pre .0) (st .args .n .0) (st .args .h) (st .pre .1 .1 .0) (c .index .result)
     (c .index .ensures .0 ∙ st .pre .1 .1 .1 .heads (st .args .h) (st .pre .1 .1 .0 .small))
 
-sub-same-name : tie.Need-sub-same-name Inv-loop μ-loop
-sub-same-name c = search needs
+sub-index : tie.Need-sub-index Inv-loop μ-loop
+sub-index c = search needs
 
 same-name-requires : tie.Need-same-name-requires Inv-loop μ-loop
 same-name-requires c κs =
@@ -37,15 +36,21 @@ same-name-requires c κs =
       (
         st .pre .1 .0,
         (
-          used-before (st .args .store .now) (st .pre .0) (st .args .n) (st .args .h) w (l .loop .k - 1)
-              (omega (arith, l .loop .inv .most)) (l .loop .inv .at (c .loop-test .taken) .0),
-          w .itself,
+          omega (arith, l .loop .inv .most, w .below),
+          (
+            w .below,
+            (
+              used-before (st .args .store .now) (st .pre .0) (st .args .n .0) (st .args .h) w (l .loop .k - 1)
+                  (omega (arith, l .loop .inv .most)) (l .loop .inv .at (c .loop-test .taken) .0),
+              w .itself,
+            ),
+          ),
         ),
       ),
     )
 
-sub-index : tie.Need-sub-index Inv-loop μ-loop
-sub-index c = search needs
+sub-index-2 : tie.Need-sub-index-2 Inv-loop μ-loop
+sub-index-2 c = search needs
 
 element-copy-out-index-2 : tie.Need-element-copy-out-index-2 Inv-loop μ-loop
 element-copy-out-index-2 c = search needs
@@ -57,7 +62,7 @@ loop-less : tie.Need-loop-less Inv-loop μ-loop
 loop-less c =
     let l = c .before .before .before .before in
     let st = c .before .before .before .before .before .before .before .before in
-    walk-less (st .args .store .now) (st .pre .0) (st .args .n) (st .args .h) (st .pre .1 .1 .0) (l .loop .k) (c .index2 .result)
+    walk-less (st .args .store .now) (st .pre .0) (st .args .n .0) (st .args .h) (st .pre .1 .1 .0) (l .loop .k) (c .index2 .result)
     (c .before .before .before .loop-test .taken)
     (c .index2 .ensures .0 ∙ st .pre .1 .1 .1 .nexts (l .loop .k - 1) (omega (arith, l .loop .inv .most))
     (l .loop .inv .at (c .before .before .before .loop-test .taken) .0))
@@ -67,7 +72,7 @@ loop-again c =
     let l = c .before .before .before .before in
     let st = c .before .before .before .before .before .before .before .before in
     rw (c .before .before .same-name .ensures)
-    (walk-step (st .args .store .now) (st .pre .0) (st .args .n) (st .args .h) (st .pre .1 .1 .0) (l .loop .k) (c .index2 .result) (l .loop .found)
+    (walk-step (st .args .store .now) (st .pre .0) (st .args .n .0) (st .args .h) (st .pre .1 .1 .0) (l .loop .k) (c .index2 .result) (l .loop .found)
     (c .before .before .before .loop-test .taken) (l .loop .inv)
     (c .index2 .ensures .0 ∙ st .pre .1 .1 .1 .nexts (l .loop .k - 1) (omega (arith, l .loop .inv .most))
     (l .loop .inv .at (c .before .before .before .loop-test .taken) .0)))
@@ -86,9 +91,9 @@ is-new-spec =
     element-copy-out-index
     index-requires
     loop-holds
-    sub-same-name
-    same-name-requires
     sub-index
+    same-name-requires
+    sub-index-2
     element-copy-out-index-2
     index-requires-2
     loop-less

@@ -2,8 +2,9 @@ use mathlib.Core.Path.{sym, _∙_}
 use native.Mathlib.Omega.{arith}
 use borrow.Author.Tests.{not-true, not-false}
 use Rattle.fsck_objects.proofs.Passes.{told-true, told-false, fails-name}
+use Rattle.laws.proofs.Valid.{true-used, false-used}
 use Rattle.fsck_names.specs.Distinct.{New}
-use Rattle.fsck_names.proofs.Joins.{used-yes, used-no, record-used}
+use Rattle.fsck_names.proofs.Joins.{used-passes}
 use Rattle.fsck_names.proofs.Chained.{chains-used}
 use Rattle.fsck_names.proofs.Whole.{names-free, names-used}
 use borrow.Author.Needs.{needs}
@@ -21,7 +22,7 @@ record-passes-requires c κs =
 returns : tie.Need-returns
 returns c =
     let st = c .before .before .before .before in
-    told-false (fails-name (st .args .store .now) (st .args .n) (st .pre .1 .1 .0) (sym (c .before .record-passes .ensures) ∙ not-true _ (c .if1 .taken)))
+    told-false (fails-name (st .args .store .now) (st .args .n .0) (st .pre .1 .1 .0) (sym (c .before .record-passes .ensures) ∙ not-true _ (c .if1 .taken)))
 
 returns-2 : tie.Need-returns-2
 returns-2 c =
@@ -29,8 +30,8 @@ returns-2 c =
     let a = st .args in
     let s = a .store .now in
     let g = sym (c .before .before .record-passes .ensures) ∙ not-false _ (c .before .if1 .left) in
-    told-true (names-free s (a .n) (a .parents .now) (a .head .now) (a .next .now) (st .pre .1 .1 .1 .0) g
-    (used-no s (a .n) (sym (c .before .before .before .length-of .ensures) ∙ c .if2 .taken)))
+    told-true (names-free s (a .n .0) (a .parents .now) (a .head .now) (a .next .now) (st .pre .1 .1 .1 .0) g
+    (false-used s (a .n .0) (sym (c .before .before .before .length-of .ensures) ∙ c .if2 .taken)))
 
 mark-child-requires : tie.Need-mark-child-requires
 mark-child-requires c κs =
@@ -38,8 +39,12 @@ mark-child-requires c κs =
     let a = st .args in
     let s = a .store .now in
     let g = sym (c .before .before .before .before .record-passes .ensures) ∙ not-false _ (c .before .before .before .if1 .left) in
-    let u = used-yes s (a .n) (λ e. c .before .before .if2 .left (c .before .before .before .before .before .length-of .ensures ∙ e)) in
-    (st .pre .0, (st .pre .1 .0, (st .pre .1 .1 .0, (u, (record-used s (a .n) u g, st .pre .1 .1 .1 .0 .named)))))
+    let u = true-used s (a .n .0) (omega (
+      arith,
+      c .before .before .if2 .left,
+      c .before .before .before .before .before .length-of .ensures,
+    )) in
+    (st .pre .0, (st .pre .1 .0, (st .pre .1 .1 .0, (used-passes s (a .n .0) (st .pre .0) (st .pre .1 .1 .0) u g, st .pre .1 .1 .1 .0 .named))))
 
 returns-3 : tie.Need-returns-3
 returns-3 c = told-false (c .before .mark-child .ensures .no (not-true _ (c .if3 .taken)))
@@ -54,10 +59,14 @@ is-new-requires c κs =
     let s = a .store .now in
     let g = sym (c .before .before .before .before .before .before .before .before .record-passes .ensures) ∙ not-false _
     (c .before .before .before .before .before .before .before .if1 .left) in
-    let u = used-yes s (a .n) (λ e. c .before .before .before .before .before .before .if2 .left
-    (c .before .before .before .before .before .before .before .before .before .length-of .ensures ∙ e)) in
-    let w : New s (a .n) (c .before .before .before .before .before .hash-of .result) = record {
-      itself = record { below = st .pre .1 .1 .0; used = u; good = g };
+    let u = true-used s (a .n .0) (omega (
+      arith,
+      c .before .before .before .before .before .before .if2 .left,
+      c .before .before .before .before .before .before .before .before .before .length-of .ensures,
+    )) in
+    let w : New s (a .n .0) (c .before .before .before .before .before .hash-of .result) = record {
+      below = st .pre .1 .1 .0;
+      itself = used-passes s (a .n .0) (st .pre .0) (st .pre .1 .1 .0) u g;
       before = st .pre .1 .1 .1 .0 .good;
       hashed = c .before .before .before .before .before .hash-of .ensures .0;
       small = c .before .before .before .before .before .hash-of .ensures .1;
@@ -77,16 +86,19 @@ returns-5 c =
     let s = a .store .now in
     let g = sym (c .before .before .before .before .before .before .before .before .before .before .before .before .before .record-passes .ensures) ∙
     not-false _ (c .before .before .before .before .before .before .before .before .before .before .before .before .if1 .left) in
-    let u = used-yes s (a .n) (λ e. c .before .before .before .before .before .before .before .before .before .before .before .if2 .left
-    (c .before .before .before .before .before .before .before .before .before .before .before .before .before .before .length-of .ensures ∙ e))
+    let u = true-used s (a .n .0) (omega (
+      arith,
+      c .before .before .before .before .before .before .before .before .before .before .before .if2 .left,
+      c .before .before .before .before .before .before .before .before .before .before .before .before .before .before .length-of .ensures,
+    ))
     in
     let h = c .before .before .before .before .before .before .before .before .before .before .hash-of in
     let m = c .before .before .before .before .before .before .before .before .mark-child .ensures .yes
     (not-false _ (c .before .before .before .before .before .before .before .if3 .left)) in
     let f = c .before .before .before .before .is-new .ensures .yes (not-false _ (c .before .before .before .if4 .left)) in
-    let k = chains-used s (a .n) (a .head .now) (a .next .now) (st .pre .1 .1 .1 .0 .chains) (h .result) (h .ensures .0) (h .ensures .1)
+    let k = chains-used s (a .n .0) (a .head .now) (a .next .now) (st .pre .1 .1 .1 .0 .chains) (h .result) (h .ensures .0) (h .ensures .1)
     (omega (arith, st .pre .0 .few-names, st .pre .1 .1 .0)) u in
-    told-true (names-used s (a .n) (a .parents .now) (a .head .now) (a .next .now) _ _ _ (st .pre .1 .1 .1 .0) g f
+    told-true (names-used s (a .n .0) (a .parents .now) (a .head .now) (a .next .now) _ _ _ (st .pre .1 .1 .1 .0) g f
     (rw (c .put-first .ensures .0, c .put-first .ensures .1) k) m)
 
 pub name-passes-spec : {M : Type 1} → statement M

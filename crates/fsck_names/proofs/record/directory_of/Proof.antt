@@ -3,18 +3,18 @@ use borrow.Author.Needs.{needs}
 use Rattle.fsck_names.proofs.record.directory_of.Statement.{statement}
 use Rattle.fsck_names.proofs.record.directory_of.Tie as tie
 
-name-start-requires : tie.Need-name-start-requires
-name-start-requires c κs = search needs
+name-place-requires : tie.Need-name-place-requires
+name-place-requires c κs = search needs
 
 get-u32-requires : tie.Need-get-u32-requires
 get-u32-requires c κs = search needs
 
-cast-result : tie.Need-cast-result
-cast-result c = search needs
+cast-t6 : tie.Need-cast-t6
+cast-t6 c = search needs
 
 returns : tie.Need-returns
 unfolding nameAt nameFrom nameLength
 returns c = cc
 
 pub directory-of-spec : {M : Type 1} → statement M
-directory-of-spec = tie.close (tie.spec name-start-requires get-u32-requires cast-result returns)
+directory-of-spec = tie.close (tie.spec name-place-requires get-u32-requires cast-t6 returns)

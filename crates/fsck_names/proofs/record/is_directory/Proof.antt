@@ -10,11 +10,11 @@ kind-of-requires c κs = search needs
 
 returns : tie.Need-returns
 unfolding isDirectoryIn isDirectory
-returns c = rw (← c .before .before .before .pre .1, lt-ltb _ _ (c .before .if1 .taken), c .kind-of .ensures)
+returns c = rw (← c .before .before .before .before .pre .1, lt-ltb _ _ (c .before .if1 .taken), c .kind-of .ensures)
 
 returns-2 : tie.Need-returns-2
 unfolding isDirectoryIn
-returns-2 c = rw (← c .before .before .pre .1, le-ltb _ _ (c .if1 .left))
+returns-2 c = rw (← c .before .before .before .pre .1, le-ltb _ _ (c .if1 .left))
 
 pub is-directory-spec : {M : Type 1} → statement M
 is-directory-spec = tie.close (tie.spec kind-of-requires returns returns-2)

@@ -10,11 +10,11 @@ kind-of-requires c κs = search needs
 
 returns : tie.Need-returns
 unfolding isLiveIn isLive
-returns c = rw (← c .before .before .before .pre .1, lt-ltb _ _ (c .before .if1 .taken), c .kind-of .ensures)
+returns c = rw (← c .before .before .before .before .pre .1, lt-ltb _ _ (c .before .if1 .taken), c .kind-of .ensures)
 
 returns-2 : tie.Need-returns-2
 unfolding isLiveIn
-returns-2 c = rw (← c .before .before .pre .1, le-ltb _ _ (c .if1 .left))
+returns-2 c = rw (← c .before .before .before .pre .1, le-ltb _ _ (c .if1 .left))
 
 pub is-live-spec : {M : Type 1} → statement M
 is-live-spec = tie.close (tie.spec kind-of-requires returns returns-2)

@@ -3,6 +3,7 @@ use mathlib.Core.Bool.{Bool, _&&_, not}
 use mathlib.Core.Path.{_≡_, refl, sym, ap, _∙_}
 use lib.ListN.{getD}
 use Prim.Native.Nat.{_+_, _-_, _≤_, zero-le}
+use Rattle.kinds.specs.Numbers.{mostNameBytes}
 use Rattle.spec.specs.Count.{every}
 use Rattle.fsck_names.specs.Record.{isText}
 use Rattle.fsck_objects.proofs.Zeros.{every-next}
@@ -12,10 +13,10 @@ use Rattle.fsck_names.proofs.text.text_passes.Statement.{statement}
 use Rattle.fsck_names.proofs.text.text_passes.Tie as tie
 
 abbrev Inv-loop : tie.InvT-loop
-Inv-loop s inside at n from other₀ i₀ other i = (i ≤ 32) × (from ≡ 32 - n) × (not other ≡ every i (isText s at n))
+Inv-loop s inside at n from other₀ i₀ other i = (i ≤ mostNameBytes) × (from ≡ mostNameBytes - n) × (not other ≡ every i (isText s at n))
 
 abbrev μ-loop : tie.MeasureT-loop
-μ-loop s inside at n from other₀ i₀ other i = 32 - i
+μ-loop s inside at n from other₀ i₀ other i = mostNameBytes - i
 
 sub-from : tie.Need-sub-from Inv-loop μ-loop
 sub-from c = search needs
@@ -57,7 +58,7 @@ loop-again c =
 
 returns : tie.Need-returns Inv-loop μ-loop
 returns c =
-    let e : c .before .loop .i ≡ 32 = omega arith in
+    let e : c .before .loop .i ≡ mostNameBytes = omega arith in
     let st = c .before .before in
     let a = st .args in
     (rw e at (c .before .loop .inv .2)) ∙ text-is (a .s .now) (a .at) (a .n) (st .pre .0) (st .pre .1 .0)
