@@ -52,17 +52,16 @@ pub record MarkedBy (s : Store) (o : ℕ) (used : List ℕ) : Type 0 where
   pub long : length used ≡ mostBlocks
   pub marks : (r : ℕ) → r < blocks s → getD used r 0 ≡ markFor (usesBelow s o r)
 
--- the same after the first k blocks of object o, which are in range, so that k places are theirs
+-- the same after the first k blocks of object o, which are in range
 pub record MarkedTo (s : Store) (o k : ℕ) (used : List ℕ) : Type 0 where
   pub long : length used ≡ mostBlocks
   pub marks : (r : ℕ) → r < blocks s → getD used r 0 ≡ markFor (usesBelow s o r + times r (take k (objectAt s o .blocks)))
-  pub places : sum (blocks s) (λ r. times r (take k (objectAt s o .blocks))) ≡ k
   pub good : every k (goodBlock (blocks s) (objectAt s o)) ≡ true
 
 -- object o passes and has n blocks, and the map holds them and those of the objects below it
 pub record ObjectPasses (s : Store) (o : ℕ) (used : List ℕ) (n : ℕ) : Type 0 where
   pub map : MarkedBy s (o + 1) used
-  pub places : sum (blocks s) (λ r. times r (held s o)) ≡ n
+  pub has : n ≡ length (held s o)
   pub few : n ≤ fileBlocks
   pub good : goodObject s o ≡ true
 

@@ -60,7 +60,7 @@ unfolding goodFree
 returns-2 c =
     let st = c .before .before .before .before .before .before in
     let a = st .args in
-    counted-blocks 0 (free-passes (a .store .now) (a .o .0) (a .used .now)
+    counted-blocks 0 (free-passes (a .store .now) (a .o .0) (a .used .now) (omega (arith, st .pre .0 .exact))
     (live-no _ _ (sym (c .before .before .before .before .kind-of .ensures) ∙ c .before .before .before .if1 .taken))
     (sym (rw (c .before .before .object-start .ensures) at (c .before .is-zero .ensures)) ∙ not-false _ (c .if2 .left)) (st .pre .1 .1 .1 .1))
 
