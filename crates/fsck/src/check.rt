@@ -10,8 +10,9 @@ use crate::shape::shape;
 use crate::tree::tree_passes;
 use fsck_blocks::objects::objects_pass;
 use fsck_names::names::names_pass;
-use fsck_objects::object::kind_of;
 use kinds::numbers::Kind;
+use kinds::numbers::ObjectNumber;
+use store_records::object::kind_of;
 
 // The map of 32 ones and then zeros.
 fn inside_map() -> [u8; 64]
@@ -64,7 +65,7 @@ pub fn check_store(store: &[u8], used: &mut [u8; 1024], parents: &mut [u8; 64]) 
     let p = counts.objects;
     let q = counts.names;
     let r = counts.blocks;
-    if kind_of(store, 0) != Kind::DIRECTORY {
+    if kind_of(store, ObjectNumber(0)) != Kind::DIRECTORY {
         return Found::Bad;
     }
     let inside = inside_map();

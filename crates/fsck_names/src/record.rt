@@ -10,7 +10,6 @@ ghost use Rattle.laws.proofs.Valid.{Shaped};
 ghost use Rattle.fsck_objects.specs.Objects.{Inside};
 ghost use Rattle.fsck_names.specs.Record.{isDirectoryIn, isLiveIn};
 use crate::text::good_text;
-use fsck_objects::object::kind_of;
 use fsck_objects::zero::is_zero;
 use kinds::layout::NameRecord;
 use kinds::numbers::Kind;
@@ -18,6 +17,7 @@ use kinds::numbers::Limit;
 use kinds::numbers::NameNumber;
 use kinds::numbers::ObjectNumber;
 use store_places::name_place;
+use store_records::object::kind_of;
 
 // Whether o is the number of a directory.
 fn is_directory(store: &[u8], p: usize, o: ObjectNumber) -> bool
@@ -25,7 +25,7 @@ fn is_directory(store: &[u8], p: usize, o: ObjectNumber) -> bool
     requires { ⌜ p ≡ objects (now store) ⌝ }
     ensures { λ r. ⌜ r ≡ isDirectoryIn (now (store .entry)) (o .0) ⌝ }
 {
-    o.0 < p && kind_of(store, o.0) == Kind::DIRECTORY
+    o.0 < p && kind_of(store, o) == Kind::DIRECTORY
 }
 
 // Whether o is the number of a live object.
@@ -34,7 +34,7 @@ fn is_live(store: &[u8], p: usize, o: ObjectNumber) -> bool
     requires { ⌜ p ≡ objects (now store) ⌝ }
     ensures { λ r. ⌜ r ≡ isLiveIn (now (store .entry)) (o .0) ⌝ }
 {
-    o.0 < p && kind_of(store, o.0) != Kind::FREE
+    o.0 < p && kind_of(store, o) != Kind::FREE
 }
 
 // Whether name record n, of a length other than 0, passes by itself.
