@@ -6,7 +6,8 @@ use lib.ListN.{length}
 use Rattle.kinds.specs.declared.call.Arguments.{Arguments}
 use Rattle.kinds.specs.declared.call.Cursor.{Cursor}
 use Rattle.spec.specs.Arguments.{arguments}
-use Rattle.laws.proofs.Arguments.{Within, arguments-within}
+use Rattle.laws.proofs.Arguments.{Within}
+use Rattle.laws.proofs.ArgumentRange.{arguments-within}
 use Rattle.call_end.specs.declared.reading.ArgumentsRead.{ArgumentsRead}
 use Rattle.call_end.specs.declared.reading.ArgumentsRead.the-variants as ArgumentsRead
 use Rattle.call_arguments.specs.Reading.{argumentsOf}

@@ -1,7 +1,7 @@
 // The arguments of a call (RFC 1813), by the number of its procedure.
 ghost use mathlib.Core.Path.{_≡_};
 ghost use Rattle.kinds.specs.Reading.{got};
-ghost use Rattle.spec.specs.Arguments.{arguments, whole};
+ghost use Rattle.spec.specs.Arguments.{form, arguments, whole};
 ghost use Rattle.spec.specs.Xdr.{done};
 ghost use Rattle.call_arguments.specs.First.{Begins};
 ghost use Rattle.call_arguments.specs.Reading.{argumentsOf};
@@ -41,7 +41,7 @@ fn unserved(c: Cursor) -> ArgumentsRead
 
 // What the arguments of a procedure begin with.
 fn first_of(procedure: u32) -> First
-    ensures { λ r. ⌜ Begins procedure r ⌝ }
+    ensures { λ r. ⌜ Begins (form procedure) r ⌝ }
 {
     match procedure {
         Procedure::NULL => First::Nothing,

@@ -1,8 +1,8 @@
 // The arguments of the procedures whose first argument is a handle.
 ghost use mathlib.Core.Path.{_≡_};
-ghost use Rattle.spec.specs.Arguments.{whole};
+ghost use Rattle.spec.specs.Arguments.{setattrArguments, accessArguments, readArguments, writeArguments, readdirArguments, commitArguments, whole, arguments};
 ghost use Rattle.call_end.specs.Reading.{argumentsOf};
-ghost use Rattle.call_by_handle.specs.After.{setattrAfter, accessAfter, readAfter, writeAfter, readdirAfter, commitAfter, alone, ofHandle};
+ghost use Rattle.call_by_handle.specs.First.{HandleFirst};
 use call_end::finish;
 use call_end::reading::ArgumentsRead;
 use call_types::reading::GuardRead;
@@ -24,7 +24,7 @@ use xdr::read::word;
 
 // SETATTR3args behind the handle.
 fn setattr(s: &[u8], c: Cursor, object: Part) -> ArgumentsRead
-    ensures { λ r. ⌜ argumentsOf r ≡ whole (setattrAfter object) (now (s .entry)) (c .at) ⌝ }
+    ensures { λ r. ⌜ argumentsOf r ≡ whole (setattrArguments object) (now (s .entry)) (c .at) ⌝ }
 {
     let answer = settable(s, c);
     let SettableRead::Got(attributes, c1) = answer else {
@@ -39,7 +39,7 @@ fn setattr(s: &[u8], c: Cursor, object: Part) -> ArgumentsRead
 
 // ACCESS3args behind the handle.
 fn access(s: &[u8], c: Cursor, object: Part) -> ArgumentsRead
-    ensures { λ r. ⌜ argumentsOf r ≡ whole (accessAfter object) (now (s .entry)) (c .at) ⌝ }
+    ensures { λ r. ⌜ argumentsOf r ≡ whole (accessArguments object) (now (s .entry)) (c .at) ⌝ }
 {
     let answer = word(s, c);
     let WordRead::Got(bits, c1) = answer else {
@@ -50,7 +50,7 @@ fn access(s: &[u8], c: Cursor, object: Part) -> ArgumentsRead
 
 // READ3args behind the handle.
 fn read(s: &[u8], c: Cursor, file: Part) -> ArgumentsRead
-    ensures { λ r. ⌜ argumentsOf r ≡ whole (readAfter file) (now (s .entry)) (c .at) ⌝ }
+    ensures { λ r. ⌜ argumentsOf r ≡ whole (readArguments file) (now (s .entry)) (c .at) ⌝ }
 {
     let answer = long(s, c);
     let LongRead::Got(offset, c1) = answer else {
@@ -65,7 +65,7 @@ fn read(s: &[u8], c: Cursor, file: Part) -> ArgumentsRead
 
 // WRITE3args behind the handle.
 fn write(s: &[u8], c: Cursor, file: Part) -> ArgumentsRead
-    ensures { λ r. ⌜ argumentsOf r ≡ whole (writeAfter file) (now (s .entry)) (c .at) ⌝ }
+    ensures { λ r. ⌜ argumentsOf r ≡ whole (writeArguments file) (now (s .entry)) (c .at) ⌝ }
 {
     let answer = long(s, c);
     let LongRead::Got(offset, c1) = answer else {
@@ -88,7 +88,7 @@ fn write(s: &[u8], c: Cursor, file: Part) -> ArgumentsRead
 
 // READDIR3args behind the handle.
 fn readdir(s: &[u8], c: Cursor, directory: Part) -> ArgumentsRead
-    ensures { λ r. ⌜ argumentsOf r ≡ whole (readdirAfter directory) (now (s .entry)) (c .at) ⌝ }
+    ensures { λ r. ⌜ argumentsOf r ≡ whole (readdirArguments directory) (now (s .entry)) (c .at) ⌝ }
 {
     let answer = long(s, c);
     let LongRead::Got(cookie, c1) = answer else {
@@ -111,7 +111,7 @@ fn readdir(s: &[u8], c: Cursor, directory: Part) -> ArgumentsRead
 
 // COMMIT3args behind the handle.
 fn commit(s: &[u8], c: Cursor, file: Part) -> ArgumentsRead
-    ensures { λ r. ⌜ argumentsOf r ≡ whole (commitAfter file) (now (s .entry)) (c .at) ⌝ }
+    ensures { λ r. ⌜ argumentsOf r ≡ whole (commitArguments file) (now (s .entry)) (c .at) ⌝ }
 {
     let answer = long(s, c);
     let LongRead::Got(_, c1) = answer else {
@@ -124,33 +124,25 @@ fn commit(s: &[u8], c: Cursor, file: Part) -> ArgumentsRead
     finish(s, c2, Arguments::Commit(file))
 }
 
-// GETATTR3args, FSSTAT3args, FSINFO3args and PATHCONF3args, which are the handle alone.
-fn alone(object: Part, procedure: u32) -> Arguments
-    ensures { λ r. ⌜ r ≡ alone procedure object ⌝ }
-{
-    match procedure {
-        Procedure::GETATTR => Arguments::Getattr(object),
-        Procedure::FSSTAT => Arguments::Fsstat(object),
-        Procedure::FSINFO => Arguments::Fsinfo(object),
-        _ => Arguments::Pathconf(object),
-    }
-}
-
 // The arguments of GETATTR, SETATTR, ACCESS, READ, WRITE, READDIR, FSSTAT, FSINFO, PATHCONF or COMMIT, which end the call.
 pub fn of_handle(s: &[u8], c: Cursor, procedure: u32) -> ArgumentsRead
-    ensures { λ r. ⌜ argumentsOf r ≡ ofHandle procedure (now (s .entry)) (c .at) ⌝ }
+    requires { ⌜ HandleFirst procedure ⌝ }
+    ensures { λ r. ⌜ argumentsOf r ≡ arguments procedure (now (s .entry)) (c .at) ⌝ }
 {
     let answer = handle(s, c);
     let PartRead::Got(object, c1) = answer else {
         return ArgumentsRead::Bad(answer.place());
     };
     match procedure {
+        Procedure::GETATTR => finish(s, c1, Arguments::Getattr(object)),
         Procedure::SETATTR => setattr(s, c1, object),
         Procedure::ACCESS => access(s, c1, object),
         Procedure::READ => read(s, c1, object),
         Procedure::WRITE => write(s, c1, object),
         Procedure::READDIR => readdir(s, c1, object),
-        Procedure::COMMIT => commit(s, c1, object),
-        _ => finish(s, c1, alone(object, procedure)),
+        Procedure::FSSTAT => finish(s, c1, Arguments::Fsstat(object)),
+        Procedure::FSINFO => finish(s, c1, Arguments::Fsinfo(object)),
+        Procedure::PATHCONF => finish(s, c1, Arguments::Pathconf(object)),
+        _ => commit(s, c1, object),
     }
 }

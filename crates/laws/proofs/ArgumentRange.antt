@@ -1,11 +1,14 @@
--- That the numbers read from a call of bytes fit their places. Assumes nothing.
+-- That what is read from a call lies within it, and that numbers read from a call of bytes fit their places. Assumes nothing.
 use mathlib.Core.Path.{_≡_, subst}
 use mathlib.Core.Bool.{Bool, true, false, cond}
 use mathlib.Core.List.{List}
 use Prim.Native.Nat.{ℕ, _+_, _^_, _<_}
 use lib.Dec.{eqb, leb}
 use lib.ListN.{length}
+use Rattle.kinds.specs.Numbers.{mostHandleBytes}
 use Rattle.kinds.specs.Reading.{Read, got}
+use Rattle.kinds.specs.declared.call.Part.{Part}
+use Rattle.kinds.specs.declared.call.NameIn.{NameIn}
 use Rattle.kinds.specs.declared.call.SetNumber.{SetNumber}
 use Rattle.kinds.specs.declared.call.SetNumber.the-variants as SetNumber
 use Rattle.kinds.specs.declared.call.SetTime.{SetTime}
@@ -15,15 +18,15 @@ use Rattle.kinds.specs.declared.call.How.{How}
 use Rattle.kinds.specs.declared.call.How.the-variants as How
 use Rattle.kinds.specs.declared.call.Arguments.{Arguments}
 use Rattle.kinds.specs.declared.call.Arguments.the-variants as Call
-use Rattle.spec.specs.Arguments.{handle, unbounded, nameIn, time, setNumber, setSize, setTime, settable, guard, how, setattrArguments}
-use Rattle.spec.specs.Arguments.{accessArguments, readArguments, writeArguments, createArguments, mkdirArguments, renameArguments, readdirArguments}
-use Rattle.spec.specs.Arguments.{commitArguments, whole, only, arguments}
+use Rattle.spec.specs.Arguments.{handle, unbounded, nameIn, time, setNumber, setSize, setTime, settable, guard, how, Form, none, handleThen, nameThen}
+use Rattle.spec.specs.Arguments.{unread, form, formed, whole, arguments}
 use Rattle.spec.specs.Bytes.{beAt}
 use Rattle.spec.specs.Xdr.{Reader, _>>=_, done, number, word, long, flag, choice, end}
+use Rattle.laws.proofs.Arguments.{PartWithin, NameWithin, Within, by-procedure}
 use Rattle.laws.proofs.Range.{Below, be-below}
 use Rattle.laws.proofs.Records.{FitsTime}
 use Rattle.laws.proofs.SetAttributes.{FitsNumber, FitsSetTime, FitsSettable}
-use Rattle.laws.proofs.Xdr.{bind-got, only-if-got}
+use Rattle.laws.proofs.Xdr.{bind-got, only-if-got, opaque-within}
 
 -- whatever a reader gives for a call of bytes is P
 abbrev pub Gives : {A : Type 0} → (A → Type 0) → Reader A → Type 0
@@ -144,102 +147,96 @@ FitsArguments (Call.Pathconf h) = Unit {0}
 FitsArguments (Call.Commit h) = Unit {0}
 FitsArguments Call.Unserved = Unit {0}
 
-setattr-fits : Gives FitsArguments setattrArguments
-unfolding setattrArguments
-setattr-fits call b at x next e =
-    bind-got (handle call at) _ x next e (λ h n₁ e₁ f₁.
-    bind-got (settable call n₁) _ x next f₁ (λ a n₂ e₂ f₂.
-    bind-got (guard call n₂) _ x next f₂ (λ g n₃ e₃ f₃.
-    subst FitsArguments (same-got (Call.Setattr h a g) x n₃ next f₃) (settable-fits call b n₁ a n₂ e₂))))
+-- ---- what is known of arguments: their parts lie within the call, and their numbers fit where the call is bytes
+abbrev Known : List ℕ → Arguments → Type 0
+Known s a = Within (length s) a × (Below 256 s → FitsArguments a)
 
-create-fits : Gives FitsArguments createArguments
-unfolding createArguments
-create-fits call b at x next e =
-    bind-got (nameIn call at) _ x next e (λ p n₁ e₁ f₁.
-    bind-got (how call n₁) _ x next f₁ (λ m n₂ e₂ f₂.
-    subst FitsArguments (same-got (Call.Create p m) x n₂ next f₂) (how-fits call b n₁ m n₂ e₂)))
+handle-within : (s : List ℕ) (at : ℕ) (a : Part) (q : ℕ) → handle s at ≡ got a q → PartWithin (length s) a
+unfolding handle
+handle-within s at a q e = opaque-within mostHandleBytes s at a q e .0
 
-mkdir-fits : Gives FitsArguments mkdirArguments
-unfolding mkdirArguments
-mkdir-fits call b at x next e =
-    bind-got (nameIn call at) _ x next e (λ p n₁ e₁ f₁.
-    bind-got (settable call n₁) _ x next f₁ (λ a n₂ e₂ f₂.
-    subst FitsArguments (same-got (Call.Mkdir p a) x n₂ next f₂) (settable-fits call b n₁ a n₂ e₂)))
+unbounded-within : (s : List ℕ) (at : ℕ) (a : Part) (q : ℕ) → unbounded s at ≡ got a q → PartWithin (length s) a
+unfolding unbounded
+unbounded-within s at a q e = opaque-within 4294967295 s at a q e .0
 
-access-fits : Gives FitsArguments accessArguments
-unfolding accessArguments
-access-fits call b at x next e =
-    bind-got (handle call at) _ x next e (λ h n₁ e₁ f₁.
-    bind-got (word call n₁) _ x next f₁ (λ bits n₂ e₂ f₂. subst FitsArguments (same-got (Call.Access h bits) x n₂ next f₂) tt))
+name-within : (s : List ℕ) (at : ℕ) (a : NameIn) (q : ℕ) → nameIn s at ≡ got a q → NameWithin (length s) a
+unfolding nameIn
+name-within s at a q e =
+    bind-got (handle s at) _ a q e (λ directory p₁ e₁ f₁.
+    bind-got (unbounded s p₁) _ a q f₁ (λ name p₂ e₂ f₂.
+    subst (NameWithin (length s)) (same-got (record { directory = directory; name = name }) a p₂ q f₂)
+    (handle-within s at directory p₁ e₁, unbounded-within s p₁ name p₂ e₂)))
 
-read-fits : Gives FitsArguments readArguments
-unfolding readArguments
-read-fits call b at x next e =
-    bind-got (handle call at) _ x next e (λ h n₁ e₁ f₁.
-    bind-got (long call n₁) _ x next f₁ (λ offset n₂ e₂ f₂.
-    bind-got (word call n₂) _ x next f₂ (λ count n₃ e₃ f₃. subst FitsArguments (same-got (Call.Read h offset count) x n₃ next f₃) tt)))
+-- of a form: its rest gives such arguments, whatever its first field was, as long as that lies within the call
+abbrev Gained : ℕ → Form → Type 0
+Gained p none = Unit {0}
+Gained p (handleThen rest) = (s : List ℕ) (object : Part) → PartWithin (length s) object → (at : ℕ) (a : Arguments) (q : ℕ)
+    → rest object s at ≡ got a q → Known s a
+Gained p (nameThen rest) = (s : List ℕ) (place : NameIn) → NameWithin (length s) place → (at : ℕ) (a : Arguments) (q : ℕ)
+    → rest place s at ≡ got a q → Known s a
+Gained p unread = Unit {0}
 
-write-fits : Gives FitsArguments writeArguments
-unfolding writeArguments
-write-fits call b at x next e =
-    bind-got (handle call at) _ x next e (λ h n₁ e₁ f₁.
-    bind-got (long call n₁) _ x next f₁ (λ offset n₂ e₂ f₂.
-    bind-got (word call n₂) _ x next f₂ (λ count n₃ e₃ f₃.
-    bind-got (choice 2 call n₃) _ x next f₃ (λ stable n₄ e₄ f₄.
-    bind-got (unbounded call n₄) _ x next f₄ (λ bytes n₅ e₅ f₅. subst FitsArguments (same-got (Call.Write h offset count bytes) x n₅ next f₅) tt)))))
-
-rename-fits : Gives FitsArguments renameArguments
-unfolding renameArguments
-rename-fits call b at x next e =
-    bind-got (nameIn call at) _ x next e (λ p n₁ e₁ f₁.
-    bind-got (nameIn call n₁) _ x next f₁ (λ q n₂ e₂ f₂. subst FitsArguments (same-got (Call.Rename p q) x n₂ next f₂) tt))
-
-readdir-fits : Gives FitsArguments readdirArguments
-unfolding readdirArguments
-readdir-fits call b at x next e =
-    bind-got (handle call at) _ x next e (λ h n₁ e₁ f₁.
-    bind-got (long call n₁) _ x next f₁ (λ cookie n₂ e₂ f₂.
-    bind-got (long call n₂) _ x next f₂ (λ verifier n₃ e₃ f₃.
-    bind-got (word call n₃) _ x next f₃ (λ count n₄ e₄ f₄. subst FitsArguments (same-got (Call.Readdir h cookie verifier count) x n₄ next f₄) tt))))
-
-commit-fits : Gives FitsArguments commitArguments
-unfolding commitArguments
-commit-fits call b at x next e =
-    bind-got (handle call at) _ x next e (λ h n₁ e₁ f₁.
-    bind-got (long call n₁) _ x next f₁ (λ offset n₂ e₂ f₂.
-    bind-got (word call n₂) _ x next f₂ (λ count n₃ e₃ f₃. subst FitsArguments (same-got (Call.Commit h) x n₃ next f₃) tt)))
-
-whole-fits : (r : Reader Arguments) → Gives FitsArguments r → Gives FitsArguments (whole r)
-whole-fits r f call b at x next e =
-    bind-got (r call at) _ x next e (λ a n₁ e₁ f₁.
-    bind-got (end call n₁) _ x next f₁ (λ u n₂ e₂ f₂. subst FitsArguments (same-got a x n₂ next f₂) (f call b at a n₁ e₁)))
-
-only-fits : {A : Type 0} (w : A → Arguments) (r : Reader A) → ((a : A) → FitsArguments (w a)) → Gives FitsArguments (only w r)
-only-fits w r f call b at x next e =
-    bind-got (r call at) _ x next e (λ a n₁ e₁ f₁. subst FitsArguments (same-got (w a) x n₁ next f₁) (f a))
-
--- the arguments of any procedure
-pub arguments-fit : (p : ℕ) → Gives FitsArguments (arguments p)
-unfolding arguments
-arguments-fit p =
-    pick (eqb p 0) (whole-fits (done Call.Null) (gives-done FitsArguments Call.Null tt))
-    (pick (eqb p 1) (whole-fits (only Call.Getattr handle) (only-fits Call.Getattr handle (λ _. tt)))
-    (pick (eqb p 2) (whole-fits setattrArguments setattr-fits)
-    (pick (eqb p 3) (whole-fits (only Call.Lookup nameIn) (only-fits Call.Lookup nameIn (λ _. tt)))
-    (pick (eqb p 4) (whole-fits accessArguments access-fits)
-    (pick (eqb p 6) (whole-fits readArguments read-fits)
-    (pick (eqb p 7) (whole-fits writeArguments write-fits)
-    (pick (eqb p 8) (whole-fits createArguments create-fits)
-    (pick (eqb p 9) (whole-fits mkdirArguments mkdir-fits)
-    (pick (eqb p 12) (whole-fits (only Call.Remove nameIn) (only-fits Call.Remove nameIn (λ _. tt)))
-    (pick (eqb p 13) (whole-fits (only Call.Rmdir nameIn) (only-fits Call.Rmdir nameIn (λ _. tt)))
-    (pick (eqb p 14) (whole-fits renameArguments rename-fits)
-    (pick (eqb p 16) (whole-fits readdirArguments readdir-fits)
-    (pick (eqb p 18) (whole-fits (only Call.Fsstat handle) (only-fits Call.Fsstat handle (λ _. tt)))
-    (pick (eqb p 19) (whole-fits (only Call.Fsinfo handle) (only-fits Call.Fsinfo handle (λ _. tt)))
-    (pick (eqb p 20) (whole-fits (only Call.Pathconf handle) (only-fits Call.Pathconf handle (λ _. tt)))
-    (pick (eqb p 21) (whole-fits commitArguments commit-fits)
-    (gives-done FitsArguments Call.Unserved tt)))))))))))))))))
+gained : (p : ℕ) → Gained p (form p)
+gained = by-procedure Gained (record {
+  null = tt;
+  getattr = λ s h w at a q e. ends s (Call.Getattr h) at a q e (w, λ _. tt);
+  setattr = λ s h w at a q e.
+      bind-got (settable s at) _ a q e (λ x n₁ e₁ f₁.
+      bind-got (guard s n₁) _ a q f₁ (λ g n₂ e₂ f₂. ends s (Call.Setattr h x g) n₂ a q f₂ (w, λ b. settable-fits s b at x n₁ e₁)));
+  lookup = λ s x w at a q e. ends s (Call.Lookup x) at a q e (w, λ _. tt);
+  access = λ s h w at a q e. bind-got (word s at) _ a q e (λ bits n₁ e₁ f₁. ends s (Call.Access h bits) n₁ a q f₁ (w, λ _. tt));
+  read = λ s h w at a q e.
+      bind-got (long s at) _ a q e (λ offset n₁ e₁ f₁.
+      bind-got (word s n₁) _ a q f₁ (λ count n₂ e₂ f₂. ends s (Call.Read h offset count) n₂ a q f₂ (w, λ _. tt)));
+  write = λ s h w at a q e.
+      bind-got (long s at) _ a q e (λ offset n₁ e₁ f₁.
+      bind-got (word s n₁) _ a q f₁ (λ count n₂ e₂ f₂.
+      bind-got (choice 2 s n₂) _ a q f₂ (λ stable n₃ e₃ f₃.
+      bind-got (unbounded s n₃) _ a q f₃ (λ bytes n₄ e₄ f₄.
+      ends s (Call.Write h offset count bytes) n₄ a q f₄ ((w, unbounded-within s n₃ bytes n₄ e₄), λ _. tt)))));
+  create = λ s x w at a q e. bind-got (how s at) _ a q e (λ m n₁ e₁ f₁. ends s (Call.Create x m) n₁ a q f₁ (w, λ b. how-fits s b at m n₁ e₁));
+  mkdir = λ s x w at a q e. bind-got (settable s at) _ a q e (λ y n₁ e₁ f₁. ends s (Call.Mkdir x y) n₁ a q f₁ (w, λ b. settable-fits s b at y n₁ e₁));
+  remove = λ s x w at a q e. ends s (Call.Remove x) at a q e (w, λ _. tt);
+  rmdir = λ s x w at a q e. ends s (Call.Rmdir x) at a q e (w, λ _. tt);
+  rename = λ s x w at a q e. bind-got (nameIn s at) _ a q e (λ y n₁ e₁ f₁. ends s (Call.Rename x y) n₁ a q f₁ ((w, name-within s at y n₁ e₁), λ _. tt));
+  readdir = λ s h w at a q e.
+      bind-got (long s at) _ a q e (λ cookie n₁ e₁ f₁.
+      bind-got (long s n₁) _ a q f₁ (λ verifier n₂ e₂ f₂.
+      bind-got (word s n₂) _ a q f₂ (λ count n₃ e₃ f₃. ends s (Call.Readdir h cookie verifier count) n₃ a q f₃ (w, λ _. tt))));
+  fsstat = λ s h w at a q e. ends s (Call.Fsstat h) at a q e (w, λ _. tt);
+  fsinfo = λ s h w at a q e. ends s (Call.Fsinfo h) at a q e (w, λ _. tt);
+  pathconf = λ s h w at a q e. ends s (Call.Pathconf h) at a q e (w, λ _. tt);
+  commit = λ s h w at a q e.
+      bind-got (long s at) _ a q e (λ offset n₁ e₁ f₁.
+      bind-got (word s n₁) _ a q f₁ (λ count n₂ e₂ f₂. ends s (Call.Commit h) n₂ a q f₂ (w, λ _. tt)));
+  others = λ p. tt;
+})
   where
-    pick : (t : Bool) {r q : Reader Arguments} → Gives FitsArguments r → Gives FitsArguments q → Gives FitsArguments (cond t r q)
-    pick t {r} {q} f g = gives-cond FitsArguments t r q f g
+    -- the value at the end is what was read
+    ends : (s : List ℕ) (x : Arguments) (n : ℕ) (a : Arguments) (q : ℕ) → got x n ≡ got a q → Known s x → Known s a
+    ends s x n a q f h = subst (Known s) (same-got x a n q f) h
+
+-- behind the arguments the call ends
+whole-known : (r : Reader Arguments) (s : List ℕ) (at : ℕ) → ((a : Arguments) (q : ℕ) → r s at ≡ got a q → Known s a) → (a : Arguments) (q : ℕ)
+    → whole r s at ≡ got a q → Known s a
+whole-known r s at f a q e =
+    bind-got (r s at) _ a q e (λ x n₁ e₁ f₁.
+    bind-got (end s n₁) _ a q f₁ (λ u n₂ e₂ f₂. subst (Known s) (same-got x a n₂ q f₂) (f x n₁ e₁)))
+
+formed-known : (p : ℕ) (f : Form) → Gained p f → (s : List ℕ) (at : ℕ) (a : Arguments) (q : ℕ) → formed f s at ≡ got a q → Known s a
+formed-known p none g s at = whole-known (done Call.Null) s at (λ a q e. subst (Known s) (same-got Call.Null a at q e) (tt, λ _. tt))
+formed-known p (handleThen rest) g s at = whole-known (handle >>= rest) s at (λ a q e.
+    bind-got (handle s at) _ a q e (λ object n e₁ f₁. g s object (handle-within s at object n e₁) n a q f₁))
+formed-known p (nameThen rest) g s at = whole-known (nameIn >>= rest) s at (λ a q e.
+    bind-got (nameIn s at) _ a q e (λ place n e₁ f₁. g s place (name-within s at place n e₁) n a q f₁))
+formed-known p unread g s at = λ a q e. subst (Known s) (same-got Call.Unserved a at q e) (tt, λ _. tt)
+
+arguments-known : (p : ℕ) (s : List ℕ) (at : ℕ) (a : Arguments) (q : ℕ) → arguments p s at ≡ got a q → Known s a
+unfolding arguments
+arguments-known p = formed-known p (form p) (gained p)
+
+pub arguments-within : (p : ℕ) (s : List ℕ) (at : ℕ) (a : Arguments) (q : ℕ) → arguments p s at ≡ got a q → Within (length s) a
+arguments-within p s at a q e = arguments-known p s at a q e .0
+
+pub arguments-fit : (p : ℕ) → Gives FitsArguments (arguments p)
+arguments-fit p s b at a q e = arguments-known p s at a q e .1 b

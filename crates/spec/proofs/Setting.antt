@@ -3,9 +3,7 @@ use Prim.Native.Nat.{ℕ, _+_, _-_, _*_}
 use lib.ListN.{length, replicate}
 use mathlib.Core.List.{List, [], _∷_, _++_}
 use Rattle.kinds.specs.declared.object.Context.{Context}
-use Rattle.spec.specs.Arguments.{handle, unbounded, nameIn, time, setNumber, setSize, setTime, settable, guard, how, setattrArguments}
-use Rattle.spec.specs.Arguments.{accessArguments, readArguments, writeArguments, createArguments, mkdirArguments, renameArguments}
-use Rattle.spec.specs.Arguments.{readdirArguments, commitArguments, arguments}
+use Rattle.spec.specs.Arguments.{handle, unbounded, nameIn, time, setNumber, setSize, setTime, settable, guard, how, form, arguments}
 use Rattle.spec.specs.Bytes.{part, overlay, zeros, digits, beOf, bytesOf, beAt, words, opaqueBytes, sameBytes, allBytes}
 use Rattle.spec.specs.Check.{isZero, goodCounts, goodShape, goodTime, goodBlock, goodSize, goodLive, goodFree, goodObject, goodRoot, goodUsed}
 use Rattle.spec.specs.Check.{goodNameRecord, isDistinct, isNamedOnce, isUsedOnce, leadsToRoot, passes}
@@ -181,8 +179,7 @@ later = record { clock = record { seconds = 7; nanoseconds = 8 }; verifier = 8 }
 
 -- what computing an entry unfolds: naming `computing` on an `unfolding` line unfolds all of these
 unfoldable pub computing : ℕ
-unfolding handle unbounded nameIn time setNumber setSize setTime settable guard how setattrArguments accessArguments readArguments writeArguments
-    createArguments mkdirArguments renameArguments readdirArguments commitArguments arguments part overlay digits beOf bytesOf beAt words
+unfolding handle unbounded nameIn time setNumber setSize setTime settable guard how form arguments part overlay digits beOf bytesOf beAt words
     opaqueBytes sameBytes allBytes isZero goodCounts goodShape goodTime goodBlock goodSize goodLive goodFree goodObject goodRoot goodUsed
     goodNameRecord isDistinct isNamedOnce isUsedOnce leadsToRoot passes sum every some-below passing lowest times iterate withAttributes
     setAttributes clearBlocks clearTail blockNumbers withSize resize withGeneration createObject removeObject moveName writeThrough readThrough
@@ -195,6 +192,5 @@ unfolding handle unbounded nameIn time setNumber setSize setTime settable guard 
     checkRmdir removeFrom remove rmdir isWithin checkMove checkRename renameEdit failRenaming rename fsstat fsinfo pathconf fattr3 postOp preOp
     wccData entryBytes entriesBytes resultBytes failShowing failChanging isLive isRegular isDirectory sizeOf held uses isFreeBlock freeBlocks
     freeBlockCount isAvailable availableCount availableObject isUsedName availableName freeNameCount isNaming namings isIn isNamed findName
-    subdirectories parent above byteAt denied accepted judge mismatch serve check formatted format number word long choice flag bytes pad opaque
-    end
+    subdirectories parent above byteAt denied accepted judge mismatch serve check formatted format number word long choice flag bytes pad opaque end
 computing = 0

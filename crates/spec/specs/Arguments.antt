@@ -101,33 +101,30 @@ how = do
       attributes ← settable
       done (cond (eqb mode 0) (How.Unchecked attributes) (How.Guarded attributes)))
 
+-- ---- the argument types: what follows their first field, which is an nfs_fh3 or a diropargs3 and has been read
 -- SETATTR3args: object, new_attributes, guard
-unfoldable pub setattrArguments : Reader Arguments
-setattrArguments = do
-  object ← handle
+abbrev pub setattrArguments : Part → Reader Arguments
+setattrArguments object = do
   attributes ← settable
   given ← guard
   done (Call.Setattr object attributes given)
 
 -- ACCESS3args: object, access
-unfoldable pub accessArguments : Reader Arguments
-accessArguments = do
-  object ← handle
+abbrev pub accessArguments : Part → Reader Arguments
+accessArguments object = do
   bits ← word
   done (Call.Access object bits)
 
 -- READ3args: file, offset, count
-unfoldable pub readArguments : Reader Arguments
-readArguments = do
-  file ← handle
+abbrev pub readArguments : Part → Reader Arguments
+readArguments file = do
   offset ← long
   count ← word
   done (Call.Read file offset count)
 
 -- WRITE3args: file, offset, count, stable (UNSTABLE 0, DATA_SYNC 1, FILE_SYNC 2), data
-unfoldable pub writeArguments : Reader Arguments
-writeArguments = do
-  file ← handle
+abbrev pub writeArguments : Part → Reader Arguments
+writeArguments file = do
   offset ← long
   count ← word
   stable ← choice 2
@@ -135,42 +132,71 @@ writeArguments = do
   done (Call.Write file offset count bytes)
 
 -- CREATE3args: where, how
-unfoldable pub createArguments : Reader Arguments
-createArguments = do
-  place ← nameIn
+abbrev pub createArguments : NameIn → Reader Arguments
+createArguments place = do
   manner ← how
   done (Call.Create place manner)
 
 -- MKDIR3args: where, attributes
-unfoldable pub mkdirArguments : Reader Arguments
-mkdirArguments = do
-  place ← nameIn
+abbrev pub mkdirArguments : NameIn → Reader Arguments
+mkdirArguments place = do
   attributes ← settable
   done (Call.Mkdir place attributes)
 
 -- RENAME3args: from, to
-unfoldable pub renameArguments : Reader Arguments
-renameArguments = do
-  old ← nameIn
+abbrev pub renameArguments : NameIn → Reader Arguments
+renameArguments old = do
   new ← nameIn
   done (Call.Rename old new)
 
 -- READDIR3args: dir, cookie, cookieverf, count
-unfoldable pub readdirArguments : Reader Arguments
-readdirArguments = do
-  directory ← handle
+abbrev pub readdirArguments : Part → Reader Arguments
+readdirArguments directory = do
   cookie ← long
   verifier ← long
   count ← word
   done (Call.Readdir directory cookie verifier count)
 
 -- COMMIT3args: file, offset, count
-unfoldable pub commitArguments : Reader Arguments
-commitArguments = do
-  file ← handle
+abbrev pub commitArguments : Part → Reader Arguments
+commitArguments file = do
   offset ← long
   count ← word
   done (Call.Commit file)
+
+-- GETATTR3args and the others with one field
+abbrev pub alone : {A : Type 0} → (A → Arguments) → A → Reader Arguments
+alone f a = done (f a)
+
+-- ---- the arguments of a procedure
+-- there are none; a handle comes first, or a name in a directory, and then this; they stay unread
+pub data Form : Type 0 where
+  none : Form
+  handleThen : (Part → Reader Arguments) → Form
+  nameThen : (NameIn → Reader Arguments) → Form
+  unread : Form
+
+-- the procedures 0 to 21; "The other five answer NOTSUPP with their arguments unread."
+unfoldable pub form : ℕ → Form
+form p =
+    cond (eqb p 0) none
+    (cond (eqb p 1) (handleThen (alone Call.Getattr))
+    (cond (eqb p 2) (handleThen setattrArguments)
+    (cond (eqb p 3) (nameThen (alone Call.Lookup))
+    (cond (eqb p 4) (handleThen accessArguments)
+    (cond (eqb p 6) (handleThen readArguments)
+    (cond (eqb p 7) (handleThen writeArguments)
+    (cond (eqb p 8) (nameThen createArguments)
+    (cond (eqb p 9) (nameThen mkdirArguments)
+    (cond (eqb p 12) (nameThen (alone Call.Remove))
+    (cond (eqb p 13) (nameThen (alone Call.Rmdir))
+    (cond (eqb p 14) (nameThen renameArguments)
+    (cond (eqb p 16) (handleThen readdirArguments)
+    (cond (eqb p 18) (handleThen (alone Call.Fsstat))
+    (cond (eqb p 19) (handleThen (alone Call.Fsinfo))
+    (cond (eqb p 20) (handleThen (alone Call.Pathconf))
+    (cond (eqb p 21) (handleThen commitArguments)
+    unread))))))))))))))))
 
 -- "arguments not exactly the XDR type": a type of RFC 1813, and then the end of the call
 abbrev pub whole : Reader Arguments → Reader Arguments
@@ -179,29 +205,15 @@ whole p = do
   end
   done a
 
-abbrev pub only : {A : Type 0} → (A → Arguments) → Reader A → Reader Arguments
-only f p = do
-  a ← p
-  done (f a)
+abbrev pub formed : Form → Reader Arguments
+formed none = whole (done Call.Null)
+formed (handleThen rest) = whole (do
+  object ← handle
+  rest object)
+formed (nameThen rest) = whole (do
+  place ← nameIn
+  rest place)
+formed unread = done Call.Unserved
 
--- the arguments of a procedure, 0 to 21; "The other five answer NOTSUPP with their arguments unread."
 unfoldable pub arguments : ℕ → Reader Arguments
-arguments p =
-    cond (eqb p 0) (whole (done Call.Null))
-    (cond (eqb p 1) (whole (only Call.Getattr handle))
-    (cond (eqb p 2) (whole setattrArguments)
-    (cond (eqb p 3) (whole (only Call.Lookup nameIn))
-    (cond (eqb p 4) (whole accessArguments)
-    (cond (eqb p 6) (whole readArguments)
-    (cond (eqb p 7) (whole writeArguments)
-    (cond (eqb p 8) (whole createArguments)
-    (cond (eqb p 9) (whole mkdirArguments)
-    (cond (eqb p 12) (whole (only Call.Remove nameIn))
-    (cond (eqb p 13) (whole (only Call.Rmdir nameIn))
-    (cond (eqb p 14) (whole renameArguments)
-    (cond (eqb p 16) (whole readdirArguments)
-    (cond (eqb p 18) (whole (only Call.Fsstat handle))
-    (cond (eqb p 19) (whole (only Call.Fsinfo handle))
-    (cond (eqb p 20) (whole (only Call.Pathconf handle))
-    (cond (eqb p 21) (whole commitArguments)
-    (done Call.Unserved)))))))))))))))))
+arguments p = formed (form p)

@@ -1,4 +1,7 @@
+use mathlib.Core.Path.{subst}
 use borrow.Author.Needs.{needs}
+use Rattle.spec.specs.Arguments.{arguments}
+use Rattle.call_arguments.specs.First.{Begins}
 use Rattle.call_arguments.proofs.arguments_at.Statement.{statement}
 use Rattle.call_arguments.proofs.arguments_at.Tie as tie
 
@@ -15,13 +18,13 @@ enum-told-2 : tie.Need-enum-told-2
 enum-told-2 c = search needs
 
 of-handle-requires : tie.Need-of-handle-requires
-of-handle-requires c κs = search needs
+of-handle-requires c κs = subst (Begins _) (c .enum-told2 .given .1) (c .before .before .first-of .ensures)
 
 enum-told-3 : tie.Need-enum-told-3
 enum-told-3 c = search needs
 
 of-name-requires : tie.Need-of-name-requires
-of-name-requires c κs = search needs
+of-name-requires c κs = subst (Begins _) (c .enum-told3 .given .1) (c .before .before .first-of .ensures)
 
 enum-told-4 : tie.Need-enum-told-4
 enum-told-4 c = search needs
@@ -30,16 +33,22 @@ unserved-requires : tie.Need-unserved-requires
 unserved-requires c κs = search needs
 
 returns : tie.Need-returns
-returns c = rw (c .null .ensures, c .before .before .before .first-of .ensures, c .before .enum-told .given .1)
+unfolding arguments
+returns c =
+    let begins = c .before .before .before .first-of .ensures in
+    rw (c .null .ensures, subst (Begins _) (c .before .enum-told .given .1) begins)
 
 returns-2 : tie.Need-returns-2
-returns-2 c = rw (c .of-handle .ensures, c .before .before .before .first-of .ensures, c .before .enum-told2 .given .1)
+returns-2 c = c .of-handle .ensures
 
 returns-3 : tie.Need-returns-3
-returns-3 c = rw (c .of-name .ensures, c .before .before .before .first-of .ensures, c .before .enum-told3 .given .1)
+returns-3 c = c .of-name .ensures
 
 returns-4 : tie.Need-returns-4
-returns-4 c = rw (c .unserved .ensures, c .before .before .before .first-of .ensures, c .before .enum-told4 .given .1)
+unfolding arguments
+returns-4 c =
+    let begins = c .before .before .before .first-of .ensures in
+    rw (c .unserved .ensures, subst (Begins _) (c .before .enum-told4 .given .1) begins)
 
 pub arguments-at-spec : {M : Type 1} → statement M
 arguments-at-spec =

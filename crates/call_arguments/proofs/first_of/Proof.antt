@@ -1,82 +1,79 @@
 use borrow.Author.Tests.{ne-eqb}
-use Rattle.spec.specs.Arguments.{arguments, setattrArguments, accessArguments, readArguments, writeArguments, createArguments, mkdirArguments}
-use Rattle.spec.specs.Arguments.{renameArguments, readdirArguments, commitArguments}
-use Rattle.call_by_handle.specs.After as handled
-use Rattle.call_by_name.specs.After as named
+use Rattle.spec.specs.Arguments.{form}
 use Rattle.call_arguments.proofs.first_of.Statement.{statement}
 use Rattle.call_arguments.proofs.first_of.Tie as tie
 
 returns : tie.Need-returns
-unfolding arguments
-returns c s at = rw (c .match .keys1)
+unfolding form
+returns c = rw (c .match .keys1)
 
 returns-2 : tie.Need-returns-2
-unfolding arguments handled.after handled.alone
-returns-2 c s at = rw (c .match .keys2)
+unfolding form
+returns-2 c = rw (c .match .keys2) tt
 
 returns-3 : tie.Need-returns-3
-unfolding arguments setattrArguments handled.after
-returns-3 c s at = rw (c .match .keys3)
+unfolding form
+returns-3 c = rw (c .match .keys3) tt
 
 returns-4 : tie.Need-returns-4
-unfolding arguments named.after named.alone
-returns-4 c s at = rw (c .match .keys4)
+unfolding form
+returns-4 c = rw (c .match .keys4) tt
 
 returns-5 : tie.Need-returns-5
-unfolding arguments accessArguments handled.after
-returns-5 c s at = rw (c .match .keys5)
+unfolding form
+returns-5 c = rw (c .match .keys5) tt
 
 returns-6 : tie.Need-returns-6
-unfolding arguments readArguments handled.after
-returns-6 c s at = rw (c .match .keys6)
+unfolding form
+returns-6 c = rw (c .match .keys6) tt
 
 returns-7 : tie.Need-returns-7
-unfolding arguments writeArguments handled.after
-returns-7 c s at = rw (c .match .keys7)
+unfolding form
+returns-7 c = rw (c .match .keys7) tt
 
 returns-8 : tie.Need-returns-8
-unfolding arguments createArguments named.after
-returns-8 c s at = rw (c .match .keys8)
+unfolding form
+returns-8 c = rw (c .match .keys8) tt
 
 returns-9 : tie.Need-returns-9
-unfolding arguments mkdirArguments named.after
-returns-9 c s at = rw (c .match .keys9)
+unfolding form
+returns-9 c = rw (c .match .keys9) tt
 
 returns-10 : tie.Need-returns-10
-unfolding arguments named.after named.alone
-returns-10 c s at = rw (c .match .keys10)
+unfolding form
+returns-10 c = rw (c .match .keys10) tt
 
 returns-11 : tie.Need-returns-11
-unfolding arguments named.after named.alone
-returns-11 c s at = rw (c .match .keys11)
+unfolding form
+returns-11 c = rw (c .match .keys11) tt
 
 returns-12 : tie.Need-returns-12
-unfolding arguments renameArguments named.after
-returns-12 c s at = rw (c .match .keys12)
+unfolding form
+returns-12 c = rw (c .match .keys12) tt
 
 returns-13 : tie.Need-returns-13
-unfolding arguments readdirArguments handled.after
-returns-13 c s at = rw (c .match .keys13)
+unfolding form
+returns-13 c = rw (c .match .keys13) tt
 
 returns-14 : tie.Need-returns-14
-unfolding arguments handled.after handled.alone
-returns-14 c s at = rw (c .match .keys14)
+unfolding form
+returns-14 c = rw (c .match .keys14) tt
 
 returns-15 : tie.Need-returns-15
-unfolding arguments handled.after handled.alone
-returns-15 c s at = rw (c .match .keys15)
+unfolding form
+returns-15 c = rw (c .match .keys15) tt
 
 returns-16 : tie.Need-returns-16
-unfolding arguments handled.after handled.alone
-returns-16 c s at = rw (c .match .keys16)
+unfolding form
+returns-16 c = rw (c .match .keys16) tt
 
 returns-17 : tie.Need-returns-17
-unfolding arguments commitArguments handled.after
-returns-17 c s at = rw (c .match .keys17)
+unfolding form
+returns-17 c = rw (c .match .keys17) tt
 
 returns-18 : tie.Need-returns-18
-unfolding arguments
-returns-18 c s at =
+unfolding form
+returns-18 c =
     rw (
       ne-eqb _ _ (c .match .rest .0 .0 .0 .0 .0 .0 .0 .0 .0 .0 .0 .0 .0 .0 .0 .0 .1),
       ne-eqb _ _ (c .match .rest .0 .0 .0 .0 .0 .0 .0 .0 .0 .0 .0 .0 .0 .0 .0 .1),
