@@ -14,7 +14,6 @@ ghost use Rattle.act_change.specs.Makable.{Sizable};
 use crate::setting::check_setattr;
 use check_handles::failure::fail_changing;
 use check_handles::handle::Reached;
-use check_make::answers::reached_status;
 use check_settable::is_given;
 use edit_attributes::set_attributes;
 use edit_size::size::resize;
@@ -113,8 +112,9 @@ pub fn setattr(
     ensures { λ r. ⌜ Does (setattr (now (store .entry)) context (cut (now (call .entry)) h) a g) r (now (store .exit)) ⌝ }
 {
     let answer = check_setattr(store, used, call, h, a, g);
-    let Reached::At(o) = answer else {
-        return fail_changing(store, call, h, reached_status(answer));
+    let o = match answer {
+        Reached::At(o) => o,
+        Reached::Refused(status) => return fail_changing(store, call, h, status),
     };
     let earlier = before(store, o);
     setattr_edit(store, used, context, o, a);

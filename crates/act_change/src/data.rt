@@ -9,7 +9,6 @@ use crate::setting::check_write;
 use act_write::write_checked;
 use check_handles::failure::fail_changing;
 use check_handles::handle::Reached;
-use check_make::answers::reached_status;
 use kinds::call::Part;
 use kinds::object::Context;
 use results::Reply;
@@ -31,8 +30,8 @@ pub fn write(
     ensures { λ r. ⌜ Does (write (now (store .entry)) context (cut (now (call .entry)) h) offset count (cut (now (call .entry)) bytes)) r (now (store .exit)) ⌝ }
 {
     let answer = check_write(store, used, call, h, offset, count, bytes);
-    let Reached::At(o) = answer else {
-        return fail_changing(store, call, h, reached_status(answer));
-    };
-    write_checked(store, used, context, o, offset, call, count, bytes)
+    match answer {
+        Reached::At(o) => write_checked(store, used, context, o, offset, call, count, bytes),
+        Reached::Refused(status) => fail_changing(store, call, h, status),
+    }
 }

@@ -15,9 +15,7 @@ ghost use Rattle.act_change.specs.Makable.{Sizable, Makable};
 use crate::attributes::resize_to;
 use check_create::CreateChecked;
 use check_create::check_create;
-use check_create::create_status;
 use check_handles::failure::fail_changing;
-use check_make::answers::mkdir_status;
 use check_make::checks::MkdirChecked;
 use check_make::checks::Target;
 use check_make::checks::check_mkdir;
@@ -152,24 +150,24 @@ pub fn mkdir(
     requires { ⌜ place .name .start + place .name .length ≤ length (now call) ⌝ }
     ensures { λ r. ⌜ Does (mkdir (now (store .entry)) context (cut (now (call .entry)) (place .directory)) (cut (now (call .entry)) (place .name)) a) r (now (store .exit)) ⌝ }
 {
-    let answer = check_mkdir(store, used, call, place, a);
-    let MkdirChecked::At(d, o, n) = answer else {
-        let directory = place.directory;
-        return fail_changing(store, call, directory, mkdir_status(answer));
-    };
+    let directory = place.directory;
     let name = place.name;
-    make_new(
-        store,
-        used,
-        context,
-        Kind::DIRECTORY,
-        o,
-        n,
-        d,
-        call,
-        name,
-        a,
-    )
+    let answer = check_mkdir(store, used, call, place, a);
+    match answer {
+        MkdirChecked::At(d, o, n) => make_new(
+            store,
+            used,
+            context,
+            Kind::DIRECTORY,
+            o,
+            n,
+            d,
+            call,
+            name,
+            a,
+        ),
+        MkdirChecked::Refused(status) => fail_changing(store, call, directory, status),
+    }
 }
 
 // Gives the file that has the name the size, where one is given, and shows it.
@@ -223,16 +221,18 @@ pub fn create(
     requires { ⌜ place .name .start + place .name .length ≤ length (now call) ⌝ }
     ensures { λ r. ⌜ Does (create (now (store .entry)) context (cut (now (call .entry)) (place .directory)) (cut (now (call .entry)) (place .name)) manner) r (now (store .exit)) ⌝ }
 {
+    let directory = place.directory;
     let answer = check_create(store, used, call, place, manner);
-    let CreateChecked::At(d, t) = answer else {
-        let directory = place.directory;
-        return fail_changing(store, call, directory, create_status(answer));
-    };
     let a = settable_of(manner);
     let name = place.name;
     let size = a.size;
-    match t {
-        Target::New(o, n) => make_new(store, used, context, Kind::REGULAR, o, n, d, call, name, a),
-        Target::Existing(o) => obey_size(store, used, context, d, o, size),
+    match answer {
+        CreateChecked::At(d, t) => match t {
+            Target::New(o, n) => {
+                make_new(store, used, context, Kind::REGULAR, o, n, d, call, name, a)
+            }
+            Target::Existing(o) => obey_size(store, used, context, d, o, size),
+        },
+        CreateChecked::Refused(status) => fail_changing(store, call, directory, status),
     }
 }

@@ -6,12 +6,10 @@ ghost use Rattle.spec.specs.Procedures.{cut};
 ghost use Rattle.spec.specs.Procedures.Names.{checkHow, checkCreate};
 ghost use Rattle.laws.proofs.GoodRecords.{GoodRecords};
 ghost use Rattle.store_blocks.specs.Blocks.{UsedMap};
-ghost use Rattle.check_make.specs.Meaning.{targetOf, statusOf};
+ghost use Rattle.check_make.specs.Meaning.{targetOf};
 ghost use Rattle.check_create.specs.Meaning.{createOf};
 use check_handles::handle::Reached;
 use check_handles::handle::reach_directory;
-use check_make::answers::reached_status;
-use check_make::answers::target_status;
 use check_make::checks::Target;
 use check_make::checks::TargetChecked;
 use check_make::checks::check_attributed;
@@ -64,23 +62,14 @@ pub fn check_create(
 {
     let directory = place.directory;
     let reached = reach_directory(store, call, directory);
-    let Reached::At(d) = reached else {
-        return CreateChecked::Refused(reached_status(reached));
+    let d = match reached {
+        Reached::At(d) => d,
+        Reached::Refused(status) => return CreateChecked::Refused(status),
     };
     let name = place.name;
-    let answer = check_how(store, used, d, call, name, manner);
-    let TargetChecked::At(t) = answer else {
-        return CreateChecked::Refused(target_status(answer));
-    };
-    CreateChecked::At(d, t)
-}
-
-// The status of a refusal.
-pub fn create_status(answer: CreateChecked) -> Status
-    ensures { λ r. ⌜ r .0 ≡ statusOf (createOf answer) ⌝ }
-{
-    match answer {
-        CreateChecked::At(_, _) => Status::OK,
-        CreateChecked::Refused(status) => status,
+    let checked = check_how(store, used, d, call, name, manner);
+    match checked {
+        TargetChecked::At(t) => CreateChecked::At(d, t),
+        TargetChecked::Refused(status) => CreateChecked::Refused(status),
     }
 }

@@ -27,11 +27,6 @@ abbrev pub mkdirOf : MkdirChecked → Checked (ℕ × ℕ × ℕ)
 mkdirOf (MkdirChecked.At d o n) = passed (d .0, o .0, n .0)
 mkdirOf (MkdirChecked.Refused status) = refused (status .0)
 
--- the status of a refusal; 0 where the checks passed
-abbrev pub statusOf : {A : Type 0} → Checked A → ℕ
-statusOf (refused status) = status
-statusOf (passed a) = 0
-
 -- the checks of a name to be made, which ask neither the store nor the directory
 abbrev pub NewName : List ℕ → Bool → Checked (Unit {0}) → Type 0
 NewName text invalid c = (s : Store) (d : ℕ) → c ≡ names.checkNew s d text invalid

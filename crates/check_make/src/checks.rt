@@ -13,9 +13,6 @@ ghost use Rattle.laws.proofs.GoodRecords.{GoodRecords};
 ghost use Rattle.store_blocks.specs.Blocks.{UsedMap};
 ghost use Rattle.check_handles.specs.Meaning.{textOf};
 ghost use Rattle.check_make.specs.Meaning.{NewName, targetOf, mkdirOf};
-use crate::answers::reached_status;
-use crate::answers::room_status;
-use crate::answers::text_status;
 use check_handles::handle::Reached;
 use check_handles::handle::reach_directory;
 use check_handles::text::TextChecked;
@@ -81,11 +78,11 @@ fn check_absent(store: &[u8], used: &[u8; 1024], a: Settable) -> TargetChecked
     ensures { λ r. ⌜ targetOf r ≡ isNew (roomForNew (now (store .entry)) (sizeSet (a .size) 0)) ⌝ }
 {
     let size = a.size;
-    let answer = room_for_new(store, used, size_set(size, 0) as usize);
-    let RoomChecked::At(o, n) = answer else {
-        return TargetChecked::Refused(room_status(answer));
-    };
-    TargetChecked::At(Target::New(o, n))
+    let room = room_for_new(store, used, size_set(size, 0) as usize);
+    match room {
+        RoomChecked::At(o, n) => TargetChecked::At(Target::New(o, n)),
+        RoomChecked::Refused(status) => TargetChecked::Refused(status),
+    }
 }
 
 // An object that has the name: EXIST, but for UNCHECKED on a regular file, which obeys the size.
@@ -155,10 +152,10 @@ pub fn check_attributed(
     ensures { λ r. ⌜ targetOf r ≡ checkAttributed (now (store .entry)) (d .0) (cut (now (call .entry)) name) unchecked a ⌝ }
 {
     let invalid = bad_attributes(a);
-    let answer = check_new(call, name, invalid);
-    let TextChecked::Good = answer else {
-        return TargetChecked::Refused(text_status(answer));
-    };
+    let checked = check_new(call, name, invalid);
+    if let TextChecked::Refused(status) = checked {
+        return TargetChecked::Refused(status);
+    }
     check_target(store, used, d, call, name, unchecked, a)
 }
 
@@ -189,22 +186,22 @@ pub fn check_mkdir(
 {
     let directory = place.directory;
     let reached = reach_directory(store, call, directory);
-    let Reached::At(d) = reached else {
-        return MkdirChecked::Refused(reached_status(reached));
+    let d = match reached {
+        Reached::At(d) => d,
+        Reached::Refused(status) => return MkdirChecked::Refused(status),
     };
     let name = place.name;
     let invalid = bad_for_directory(a);
-    let answer = check_new(call, name, invalid);
-    let TextChecked::Good = answer else {
-        return MkdirChecked::Refused(text_status(answer));
-    };
-    let found = find_name(store, d, call, name);
-    let FoundName::Nothing = found else {
+    let checked = check_new(call, name, invalid);
+    if let TextChecked::Refused(status) = checked {
+        return MkdirChecked::Refused(status);
+    }
+    if let FoundName::At(other) = find_name(store, d, call, name) {
         return MkdirChecked::Refused(Status::EXIST);
-    };
+    }
     let room = room_for_new(store, used, 0);
-    let RoomChecked::At(o, n) = room else {
-        return MkdirChecked::Refused(room_status(room));
-    };
-    MkdirChecked::At(d, o, n)
+    match room {
+        RoomChecked::At(o, n) => MkdirChecked::At(d, o, n),
+        RoomChecked::Refused(status) => MkdirChecked::Refused(status),
+    }
 }

@@ -9,42 +9,34 @@ reach-directory-requires c κs = search needs
 enum-known-reached : tie.Need-enum-known-reached
 enum-known-reached c = search needs
 
-enum-told : tie.Need-enum-told
-enum-told c = search needs
-
-reached-status-requires : tie.Need-reached-status-requires
-reached-status-requires c κs = search needs
+enum-known-reached-2 : tie.Need-enum-known-reached-2
+enum-known-reached-2 c = search needs
 
 returns : tie.Need-returns
 unfolding checkCreate
 returns c =
     rw (
-      c .reached-status .ensures,
       ← c .before .before .before .reach-directory .ensures,
-      c .before .enum-told .given .1,
+      c .before .reached2 .given .1,
     )
 
 check-how-requires : tie.Need-check-how-requires
 check-how-requires c κs = search needs
 
-enum-known-answer : tie.Need-enum-known-answer
-enum-known-answer c = search needs
+enum-known-checked : tie.Need-enum-known-checked
+enum-known-checked c = search needs
 
-enum-told-2 : tie.Need-enum-told-2
-enum-told-2 c = search needs
-
-target-status-requires : tie.Need-target-status-requires
-target-status-requires c κs = search needs
+enum-known-checked-2 : tie.Need-enum-known-checked-2
+enum-known-checked-2 c = search needs
 
 returns-2 : tie.Need-returns-2
 unfolding checkCreate
 returns-2 c =
     rw (
-      c .target-status .ensures,
       ← c .before .before .before .before .before .before .before .before .reach-directory .ensures,
       c .before .before .before .before .before .before .reached .given .1,
       ← c .before .before .before .check-how .ensures,
-      c .before .enum-told2 .given .1,
+      c .before .checked .given .1,
     )
 
 returns-3 : tie.Need-returns-3
@@ -54,7 +46,7 @@ returns-3 c =
       ← c .before .before .before .before .before .before .before .before .reach-directory .ensures,
       c .before .before .before .before .before .before .reached .given .1,
       ← c .before .before .before .check-how .ensures,
-      c .before .answer .given .1,
+      c .before .checked2 .given .1,
     )
 
 pub check-create-spec : {M : Type 1} → statement M
@@ -63,12 +55,10 @@ check-create-spec =
     (tie.spec
     reach-directory-requires
     enum-known-reached
-    enum-told
-    reached-status-requires
+    enum-known-reached-2
     returns
     check-how-requires
-    enum-known-answer
-    enum-told-2
-    target-status-requires
+    enum-known-checked
+    enum-known-checked-2
     returns-2
     returns-3)

@@ -20,11 +20,8 @@ check-setattr-requires c κs =
 enum-known-answer : tie.Need-enum-known-answer
 enum-known-answer c = search needs
 
-enum-told : tie.Need-enum-told
-enum-told c = search needs
-
-reached-status-requires : tie.Need-reached-status-requires
-reached-status-requires c κs = search needs
+enum-known-answer-2 : tie.Need-enum-known-answer-2
+enum-known-answer-2 c = search needs
 
 fail-changing-requires : tie.Need-fail-changing-requires
 fail-changing-requires c κs =
@@ -38,13 +35,8 @@ same-length c = search needs
 returns : tie.Need-returns
 unfolding setattr
 returns c =
-    rw (← c .before .before .before .before .before .check-setattr .ensures, c .before .before .before .enum-told .given .1)
-    (record {
-      result = rw (c .fail-changing .ensures .0, c .before .reached-status .ensures, c .before .before .before .enum-told .given .1);
-      store =
-          refl;
-      writable = c .fail-changing .ensures .1;
-    })
+    rw (← c .before .before .before .before .before .check-setattr .ensures, c .before .before .before .answer2 .given .1)
+    (record { result = c .fail-changing .ensures .0; store = refl; writable = c .fail-changing .ensures .1 })
 
 before-requires : tie.Need-before-requires
 before-requires c κs =
@@ -93,8 +85,7 @@ setattr-spec =
     (tie.spec
     check-setattr-requires
     enum-known-answer
-    enum-told
-    reached-status-requires
+    enum-known-answer-2
     fail-changing-requires
     same-length
     returns

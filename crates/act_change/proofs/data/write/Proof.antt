@@ -18,32 +18,6 @@ check-write-requires c κs =
 enum-known-answer : tie.Need-enum-known-answer
 enum-known-answer c = search needs
 
-enum-told : tie.Need-enum-told
-enum-told c = search needs
-
-reached-status-requires : tie.Need-reached-status-requires
-reached-status-requires c κs = search needs
-
-fail-changing-requires : tie.Need-fail-changing-requires
-fail-changing-requires c κs =
-    let st = c .before .before .before .before .before .before .before .before in
-    let g = valid-records (st .args .store .now) (st .pre .0 .valid) (st .pre .0 .bytes) in
-    (g, st .pre .1 .0)
-
-same-length : tie.Need-same-length
-same-length c = search needs
-
-returns : tie.Need-returns
-unfolding write
-returns c =
-    rw (← c .before .before .before .before .before .check-write .ensures, c .before .before .before .enum-told .given .1)
-    (record {
-      result = rw (c .fail-changing .ensures .0, c .before .reached-status .ensures, c .before .before .before .enum-told .given .1);
-      store =
-          refl;
-      writable = c .fail-changing .ensures .1;
-    })
-
 write-checked-requires : tie.Need-write-checked-requires
 write-checked-requires c κs =
     let st = c .before .before .before .before .before .before .before .before in
@@ -73,15 +47,33 @@ write-checked-requires c κs =
       ),
     )
 
+enum-known-answer-2 : tie.Need-enum-known-answer-2
+enum-known-answer-2 c = search needs
+
+fail-changing-requires : tie.Need-fail-changing-requires
+fail-changing-requires c κs =
+    let st = c .before .before .before .before .before .before .before .before in
+    let g = valid-records (st .args .store .now) (st .pre .0 .valid) (st .pre .0 .bytes) in
+    (g, st .pre .1 .0)
+
+same-length : tie.Need-same-length
+same-length c = search needs
+
+returns : tie.Need-returns
+unfolding write
+returns c = rw (
+  ← c .before .before .before .before .before .before .before .check-write .ensures,
+  c .before .before .before .before .before .answer .given .1,
+) (c .before .before .write-checked .ensures)
+
 same-length-2 : tie.Need-same-length-2
 same-length-2 c = search needs
 
 returns-2 : tie.Need-returns-2
 unfolding write
-returns-2 c = rw (
-  ← c .before .before .before .before .before .before .before .check-write .ensures,
-  c .before .before .before .before .before .answer .given .1,
-) (c .before .before .write-checked .ensures)
+returns-2 c =
+    rw (← c .before .before .before .before .before .check-write .ensures, c .before .before .before .answer2 .given .1)
+    (record { result = c .fail-changing .ensures .0; store = refl; writable = c .fail-changing .ensures .1 })
 
 pub write-spec : {M : Type 1} → statement M
 write-spec =
@@ -89,11 +81,10 @@ write-spec =
     (tie.spec
     check-write-requires
     enum-known-answer
-    enum-told
-    reached-status-requires
+    write-checked-requires
+    enum-known-answer-2
     fail-changing-requires
     same-length
     returns
-    write-checked-requires
     same-length-2
     returns-2)

@@ -11,50 +11,26 @@ use Rattle.act_change.proofs.names.create.Tie as tie
 
 check-create-requires : tie.Need-check-create-requires
 check-create-requires c κs =
-    let st = c .before .before .before in
+    let st = c .before .before .before .before in
     let g = valid-records (st .args .store .now) (st .pre .0 .valid) (st .pre .0 .bytes) in
     (g, (st .pre .0 .map, (st .pre .1 .1 .0, st .pre .1 .1 .1)))
 
-enum-known-answer : tie.Need-enum-known-answer
-enum-known-answer c = search needs
-
-enum-told : tie.Need-enum-told
-enum-told c = search needs
-
-create-status-requires : tie.Need-create-status-requires
-create-status-requires c κs = search needs
-
-fail-changing-requires : tie.Need-fail-changing-requires
-fail-changing-requires c κs =
-    let st = c .before .before .before .before .before .before .before .before .before in
-    let g = valid-records (st .args .store .now) (st .pre .0 .valid) (st .pre .0 .bytes) in
-    (g, st .pre .1 .1 .0)
-
-same-length : tie.Need-same-length
-same-length c = search needs
-
-returns : tie.Need-returns
-unfolding create
-returns c =
-    rw (← c .before .before .before .before .before .before .check-create .ensures, c .before .before .before .before .enum-told .given .1)
-    (record {
-      result = rw (c .fail-changing .ensures .0, c .before .create-status .ensures, c .before .before .before .before .enum-told .given .1);
-      store = refl;
-      writable = c .fail-changing .ensures .1;
-    })
-
 settable-of-requires : tie.Need-settable-of-requires
 settable-of-requires c κs = search needs
+
+enum-known-answer : tie.Need-enum-known-answer
+enum-known-answer c = search needs
 
 enum-known-t : tie.Need-enum-known-t
 enum-known-t c = search needs
 
 make-new-requires : tie.Need-make-new-requires
 make-new-requires c κs =
-    let st = c .before .before .before .before .before .before .before .before .before .before .before .before .before in
+    let st = c .before .before .before .before .before .before .before .before .before .before .before .before .before .before in
+    let w = c .before .before .before .before .before .before .before .before .settable-of in
     let g = valid-records (st .args .store .now) (st .pre .0 .valid) (st .pre .0 .bytes) in
     let e = sym (c .before .before .before .before .before .before .before .before .before .check-create .ensures) ∙ ap createOf
-    (c .before .before .before .before .before .before .before .answer .given .1) in
+    (c .before .before .before .before .before .answer .given .1) in
     let p = create-passed (st .args .store .now) (cut (st .args .call .now) (st .args .place .directory))
     (cut (st .args .call .now) (st .args .place .name)) (st .args .manner) _ e in (
       g,
@@ -63,8 +39,8 @@ make-new-requires c κs =
         (
           st .pre .1 .1 .1,
           create-makable (st .args .store .now) (cut (st .args .call .now) (st .args .place .directory))
-              (cut (st .args .call .now) (st .args .place .name)) (st .args .manner) (c .before .before .before .before .before .settable-of .result) _ _ p
-              (c .before .before .before .before .before .settable-of .ensures) (st .args .context) _ _ (c .before .before .t .given .1)
+              (cut (st .args .call .now) (st .args .place .name)) (st .args .manner) (w .result) _ _ p
+              (w .ensures) (st .args .context) _ _ (c .before .before .t .given .1)
               (st .pre .0 .clock) (st .pre .1 .0),
         ),
       ),
@@ -75,10 +51,11 @@ enum-known-t-2 c = search needs
 
 obey-size-requires : tie.Need-obey-size-requires
 obey-size-requires c κs =
-    let st = c .before .before .before .before .before .before .before .before .before .before .before .before .before in
+    let st = c .before .before .before .before .before .before .before .before .before .before .before .before .before .before in
+    let w = c .before .before .before .before .before .before .before .before .settable-of in
     let g = valid-records (st .args .store .now) (st .pre .0 .valid) (st .pre .0 .bytes) in
     let e = sym (c .before .before .before .before .before .before .before .before .before .check-create .ensures) ∙ ap createOf
-    (c .before .before .before .before .before .before .before .answer .given .1) in
+    (c .before .before .before .before .before .answer .given .1) in
     let p = create-passed (st .args .store .now) (cut (st .args .call .now) (st .args .place .directory))
     (cut (st .args .call .now) (st .args .place .name)) (st .args .manner) _ e in (
       g,
@@ -89,12 +66,35 @@ obey-size-requires c κs =
           (
             p .reached .below,
             create-sizable (st .args .store .now) (cut (st .args .call .now) (st .args .place .directory))
-                (cut (st .args .call .now) (st .args .place .name)) (st .args .manner) (c .before .before .before .before .before .settable-of .result) _ _ p
-                (c .before .before .before .before .before .settable-of .ensures) _ (c .before .before .t2 .given .1) g,
+                (cut (st .args .call .now) (st .args .place .name)) (st .args .manner) (w .result) _ _ p
+                (w .ensures) _ (c .before .before .t2 .given .1) g,
           ),
         ),
       ),
     )
+
+enum-known-answer-2 : tie.Need-enum-known-answer-2
+enum-known-answer-2 c = search needs
+
+fail-changing-requires : tie.Need-fail-changing-requires
+fail-changing-requires c κs =
+    let st = c .before .before .before .before .before .before .before .before .before .before .before in
+    let g = valid-records (st .args .store .now) (st .pre .0 .valid) (st .pre .0 .bytes) in
+    (g, st .pre .1 .1 .0)
+
+same-length : tie.Need-same-length
+same-length c = search needs
+
+returns : tie.Need-returns
+unfolding create
+returns c =
+    rw (
+      ← c .before .before .before .before .before .before .before .before .before .before .before .before .check-create .ensures,
+      c .before .before .before .before .before .before .before .before .answer .given .1,
+      c .before .before .before .before .before .t .given .1,
+      ← c .before .before .before .before .before .before .before .before .before .before .before .settable-of .ensures,
+    )
+    (c .before .before .make-new .ensures)
 
 same-length-2 : tie.Need-same-length-2
 same-length-2 c = search needs
@@ -104,11 +104,11 @@ unfolding create
 returns-2 c =
     rw (
       ← c .before .before .before .before .before .before .before .before .before .before .before .before .check-create .ensures,
-      c .before .before .before .before .before .before .before .before .before .before .answer .given .1,
-      c .before .before .before .before .before .t .given .1,
-      ← c .before .before .before .before .before .before .before .before .settable-of .ensures,
+      c .before .before .before .before .before .before .before .before .answer .given .1,
+      c .before .before .before .before .before .t2 .given .1,
+      ← c .before .before .before .before .before .before .before .before .before .before .before .settable-of .ensures,
     )
-    (c .before .before .make-new .ensures)
+    (c .before .before .obey-size .ensures)
 
 same-length-3 : tie.Need-same-length-3
 same-length-3 c = search needs
@@ -116,30 +116,24 @@ same-length-3 c = search needs
 returns-3 : tie.Need-returns-3
 unfolding create
 returns-3 c =
-    rw (
-      ← c .before .before .before .before .before .before .before .before .before .before .before .before .check-create .ensures,
-      c .before .before .before .before .before .before .before .before .before .before .answer .given .1,
-      c .before .before .before .before .before .t2 .given .1,
-      ← c .before .before .before .before .before .before .before .before .settable-of .ensures,
-    )
-    (c .before .before .obey-size .ensures)
+    rw (← c .before .before .before .before .before .before .before .check-create .ensures, c .before .before .before .answer2 .given .1)
+    (record { result = c .fail-changing .ensures .0; store = refl; writable = c .fail-changing .ensures .1 })
 
 pub create-spec : {M : Type 1} → statement M
 create-spec =
     tie.close
     (tie.spec
     check-create-requires
-    enum-known-answer
-    enum-told
-    create-status-requires
-    fail-changing-requires
-    same-length
-    returns
     settable-of-requires
+    enum-known-answer
     enum-known-t
     make-new-requires
     enum-known-t-2
     obey-size-requires
+    enum-known-answer-2
+    fail-changing-requires
+    same-length
+    returns
     same-length-2
     returns-2
     same-length-3

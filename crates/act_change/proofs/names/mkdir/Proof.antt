@@ -11,43 +11,18 @@ use Rattle.act_change.proofs.names.mkdir.Tie as tie
 
 check-mkdir-requires : tie.Need-check-mkdir-requires
 check-mkdir-requires c κs =
-    let st = c .before .before .before in
+    let st = c .before .before .before .before .before in
     let g = valid-records (st .args .store .now) (st .pre .0 .valid) (st .pre .0 .bytes) in
     (g, (st .pre .0 .map, (st .pre .1 .1 .0, st .pre .1 .1 .1)))
 
 enum-known-answer : tie.Need-enum-known-answer
 enum-known-answer c = search needs
 
-enum-told : tie.Need-enum-told
-enum-told c = search needs
-
-mkdir-status-requires : tie.Need-mkdir-status-requires
-mkdir-status-requires c κs = search needs
-
-fail-changing-requires : tie.Need-fail-changing-requires
-fail-changing-requires c κs =
-    let st = c .before .before .before .before .before .before .before .before .before in
-    let g = valid-records (st .args .store .now) (st .pre .0 .valid) (st .pre .0 .bytes) in
-    (g, st .pre .1 .1 .0)
-
-same-length : tie.Need-same-length
-same-length c = search needs
-
-returns : tie.Need-returns
-unfolding mkdir
-returns c =
-    rw (← c .before .before .before .before .before .before .check-mkdir .ensures, c .before .before .before .before .enum-told .given .1)
-    (record {
-      result = rw (c .fail-changing .ensures .0, c .before .mkdir-status .ensures, c .before .before .before .before .enum-told .given .1);
-      store = refl;
-      writable = c .fail-changing .ensures .1;
-    })
-
 make-new-requires : tie.Need-make-new-requires
 make-new-requires c κs =
-    let st = c .before .before .before .before .before .before .before .before .before in
+    let st = c .before .before .before .before .before .before .before .before .before .before in
     let g = valid-records (st .args .store .now) (st .pre .0 .valid) (st .pre .0 .bytes) in
-    let e = sym (c .before .before .before .before .before .check-mkdir .ensures) ∙ ap mkdirOf (c .before .before .before .answer .given .1) in
+    let e = sym (c .before .before .before .before .check-mkdir .ensures) ∙ ap mkdirOf (c .before .before .answer .given .1) in
     let p = mkdir-passed (st .args .store .now) (cut (st .args .call .now) (st .args .place .directory))
     (cut (st .args .call .now) (st .args .place .name)) (st .args .a) _ e in (
       g,
@@ -62,17 +37,35 @@ make-new-requires c κs =
       ),
     )
 
+enum-known-answer-2 : tie.Need-enum-known-answer-2
+enum-known-answer-2 c = search needs
+
+fail-changing-requires : tie.Need-fail-changing-requires
+fail-changing-requires c κs =
+    let st = c .before .before .before .before .before .before .before .before .before .before in
+    let g = valid-records (st .args .store .now) (st .pre .0 .valid) (st .pre .0 .bytes) in
+    (g, st .pre .1 .1 .0)
+
+same-length : tie.Need-same-length
+same-length c = search needs
+
+returns : tie.Need-returns
+unfolding mkdir
+returns c =
+    rw (
+      ← c .before .before .before .before .before .before .before .check-mkdir .ensures,
+      c .before .before .before .before .before .answer .given .1,
+    )
+    (c .before .before .make-new .ensures)
+
 same-length-2 : tie.Need-same-length-2
 same-length-2 c = search needs
 
 returns-2 : tie.Need-returns-2
 unfolding mkdir
 returns-2 c =
-    rw (
-      ← c .before .before .before .before .before .before .before .before .check-mkdir .ensures,
-      c .before .before .before .before .before .before .answer .given .1,
-    )
-    (c .before .before .make-new .ensures)
+    rw (← c .before .before .before .before .before .check-mkdir .ensures, c .before .before .before .answer2 .given .1)
+    (record { result = c .fail-changing .ensures .0; store = refl; writable = c .fail-changing .ensures .1 })
 
 pub mkdir-spec : {M : Type 1} → statement M
 mkdir-spec =
@@ -80,11 +73,10 @@ mkdir-spec =
     (tie.spec
     check-mkdir-requires
     enum-known-answer
-    enum-told
-    mkdir-status-requires
+    make-new-requires
+    enum-known-answer-2
     fail-changing-requires
     same-length
     returns
-    make-new-requires
     same-length-2
     returns-2)

@@ -8,22 +8,18 @@ size-set-requires c κs = search needs
 room-for-new-requires : tie.Need-room-for-new-requires
 room-for-new-requires c κs = search needs
 
-enum-known-answer : tie.Need-enum-known-answer
-enum-known-answer c = search needs
+enum-known-room : tie.Need-enum-known-room
+enum-known-room c = search needs
 
-enum-told : tie.Need-enum-told
-enum-told c = search needs
-
-room-status-requires : tie.Need-room-status-requires
-room-status-requires c κs = search needs
+enum-known-room-2 : tie.Need-enum-known-room-2
+enum-known-room-2 c = search needs
 
 returns : tie.Need-returns
 returns c =
     rw (
-      c .room-status .ensures,
       ← c .before .before .before .before .size-set .ensures,
       ← c .before .before .before .room-for-new .ensures,
-      c .before .enum-told .given .1,
+      c .before .room .given .1,
     )
 
 returns-2 : tie.Need-returns-2
@@ -31,7 +27,7 @@ returns-2 c =
     rw (
       ← c .before .before .before .before .size-set .ensures,
       ← c .before .before .before .room-for-new .ensures,
-      c .before .answer .given .1,
+      c .before .room2 .given .1,
     )
 
 pub check-absent-spec : {M : Type 1} → statement M
@@ -40,8 +36,7 @@ check-absent-spec =
     (tie.spec
     size-set-requires
     room-for-new-requires
-    enum-known-answer
-    enum-told
-    room-status-requires
+    enum-known-room
+    enum-known-room-2
     returns
     returns-2)

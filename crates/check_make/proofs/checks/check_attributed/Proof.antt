@@ -13,24 +13,20 @@ bad-attributes-requires c κs = search needs
 check-new-requires : tie.Need-check-new-requires
 check-new-requires c κs = search needs
 
-enum-told : tie.Need-enum-told
-enum-told c = search needs
-
-enum-told-2 : tie.Need-enum-told-2
-enum-told-2 c = search needs
-
-text-status-requires : tie.Need-text-status-requires
-text-status-requires c κs = search needs
+enum-known-checked : tie.Need-enum-known-checked
+enum-known-checked c = search needs
 
 returns : tie.Need-returns
 unfolding checkAttributed
 returns c =
     rw (
-      c .text-status .ensures,
       ← c .before .before .before .before .bad-attributes .ensures,
       ← c .before .before .before .check-new .ensures,
-      c .before .enum-told2 .given .1,
+      c .before .checked .given .1,
     )
+
+enum-told : tie.Need-enum-told
+enum-told c = search needs
 
 check-target-requires : tie.Need-check-target-requires
 check-target-requires c κs =
@@ -56,9 +52,8 @@ check-attributed-spec =
     (tie.spec
     bad-attributes-requires
     check-new-requires
-    enum-told
-    enum-told-2
-    text-status-requires
+    enum-known-checked
     returns
+    enum-told
     check-target-requires
     returns-2)
