@@ -8,13 +8,17 @@ use native.Mathlib.Nat.{not-suc-le-zero, add-zero, add-suc}
 use native.Mathlib.Decide.{ℕ-discrete}
 use native.Mathlib.Omega.{arith}
 use lib.Dec.{eqb}
-use lib.ListN.{getD}
+use lib.ListN.{length, getD}
 use borrow.Author.Tests.{le-leb, leb-true, eqb-true, eqb-false}
+use Rattle.kinds.specs.Numbers.{mostBlocks}
 use Rattle.spec.specs.Count.{sum, every, times}
 use Rattle.spec.specs.Image.{Store, objects, blocks}
 use Rattle.spec.specs.Room.{held, uses}
 use Rattle.spec.specs.Check.{goodObject, isUsedOnce, passes}
-use Rattle.laws.proofs.Count.{by-bool, sum-ext, sum-add, sum-zero, sum-more, every-at, every-all}
+use Rattle.laws.proofs.Count.{by-bool, sum-ext, every-at, every-all}
+use Rattle.laws.proofs.FreeCount.{uses-total}
+use Rattle.laws.proofs.FreeRoom.{good-range}
+use Rattle.laws.proofs.Valid.{Shaped, object-good}
 use Rattle.fsck_objects.specs.Told.{Told}
 use Rattle.fsck_objects.specs.Objects.{markFor, usesBelow, Blank, UsedBy, MarkedBy, AreMarks, ObjectsPass}
 use Rattle.fsck_objects.proofs.Passes.{fails, told-true, told-false}
@@ -56,38 +60,23 @@ mark-same zero h = refl
 mark-same (suc n) h = omega arith
 
 -- the map before the first object
-pub mark-none : (s : Store) (used : List ℕ) → Blank 1024 used → MarkedBy s 0 used
+pub mark-none : (s : Store) (used : List ℕ) → Blank mostBlocks used → MarkedBy s 0 used
 unfolding sum
 mark-none s used z = record { long = z .long; marks = λ r h. z .zero r }
 
--- ---- the places of the objects below o in all
-pub placesBelow : Store → ℕ → ℕ
-placesBelow s o = sum (blocks s) (usesBelow s o)
-
-pub places-none : (s : Store) → placesBelow s 0 ≡ 0
-unfolding placesBelow sum
-places-none s = sum-zero (blocks s) (λ r. 0) (λ r h. refl)
-
-pub places-next : (s : Store) (o n : ℕ) → sum (blocks s) (λ r. times r (held s o)) ≡ n → placesBelow s (o + 1) ≡ placesBelow s o + n
-unfolding placesBelow
-places-next s o n e =
-    let f = sum-ext (blocks s) (usesBelow s (o + 1)) (λ r. times r (held s o) + usesBelow s o r) (λ r h. sum-more o (λ i. times r (held s i))) in
-    let g = sum-add (blocks s) (λ r. times r (held s o)) (usesBelow s o) in
-    omega arith
-
 -- as many blocks are marked as there are places: no block is used twice
-pub marks-all : (s : Store) (used : List ℕ) → MarkedBy s (objects s) used → placesBelow s (objects s) ≡ sum (blocks s) (λ r. getD used r 0)
+pub marks-all : (s : Store) (used : List ℕ) → MarkedBy s (objects s) used → sum (blocks s) (uses s) ≡ sum (blocks s) (λ r. getD used r 0)
     → UsedBy s (objects s) used
-unfolding placesBelow
+unfolding uses
 marks-all s used m e =
     let f = sum-same (blocks s) (λ r. getD used r 0) (usesBelow s (objects s))
     (λ r h. let a = m .marks r h in let b = mark-most (usesBelow s (objects s) r) in omega arith) (sym e) in
     record { long = m .long; uses = f; once = λ r h. let a = m .marks r h in let b = mark-small (usesBelow s (objects s) r) in omega arith }
 
 -- fewer: one is
-pub marks-few : (s : Store) (used : List ℕ) → MarkedBy s (objects s) used → (placesBelow s (objects s) ≡ sum (blocks s) (λ r. getD used r 0) → ⊥)
+pub marks-few : (s : Store) (used : List ℕ) → MarkedBy s (objects s) used → (sum (blocks s) (uses s) ≡ sum (blocks s) (λ r. getD used r 0) → ⊥)
     → passes s ≡ false
-unfolding placesBelow isUsedOnce uses
+unfolding isUsedOnce uses
 marks-few s used m f =
     fails s (λ d. f (sum-ext (blocks s) (usesBelow s (objects s)) (λ r. getD used r 0) (λ r h.
     let l = leb-true (usesBelow s (objects s) r) 1 (every-at (isUsedOnce s) (blocks s) r (d .used) h) in
@@ -115,14 +104,20 @@ used-once s used m =
     every-all (isUsedOnce s) (blocks s) (λ r h. let u = m .uses r h in let w = m .once r h in le-leb (sum (objects s) (λ i. times r (held s i))) 1
     (omega arith))
 
+-- the blocks of all objects are the uses of all blocks
+pub uses-are : (s : Store) → Shaped s → every (objects s) (goodObject s) ≡ true → sum (objects s) (λ o. length (held s o)) ≡ sum (blocks s) (uses s)
+uses-are s t g =
+    sym (uses-total s (λ o h. good-range s o (object-good s o (omega (arith, t .exact)) (every-at (goodObject s) (objects s) o g h))))
+
 -- all objects pass: no block is used twice where as many are marked as there are places
-pub told-all : (s : Store) (used : List ℕ) (total marked count limit : ℕ) → count ≡ objects s → limit ≡ blocks s → total ≡ placesBelow s count
-    → MarkedBy s count used → every count (goodObject s) ≡ true → marked ≡ sum limit (λ i. getD used i 0)
+pub told-all : (s : Store) (used : List ℕ) (total marked count limit : ℕ) → Shaped s → count ≡ objects s → limit ≡ blocks s
+    → total ≡ sum count (λ o. length (held s o)) → MarkedBy s count used → every count (goodObject s) ≡ true → marked ≡ sum limit (λ i. getD used i 0)
     → Told (eqb total marked) s (ObjectsPass s count used)
-told-all s used total marked count limit e f p m g q =
+told-all s used total marked count limit t e f p m g q =
+    let u = rw e at p ∙ uses-are s t (rw e at g) in
     by-bool (eqb total marked)
-    (λ t. rw t (told-true (record {
-      map = rw (← e) at (marks-all s used (rw e at m) (rw (e, f) at (sym p ∙ eqb-true total marked t ∙ q)));
+    (λ b. rw b (told-true (record {
+      map = rw (← e) at (marks-all s used (rw e at m) (rw f at (sym u ∙ eqb-true total marked b ∙ q)));
       good = g;
     })))
-    (λ t. rw t (told-false (marks-few s used (rw e at m) (λ w. eqb-false total marked t (p ∙ rw (e, f) (w) ∙ sym q)))))
+    (λ b. rw b (told-false (marks-few s used (rw e at m) (λ w. eqb-false total marked b (u ∙ rw f w ∙ sym q)))))

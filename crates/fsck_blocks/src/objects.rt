@@ -2,6 +2,7 @@
 ghost use mathlib.Core.Path.{_≡_};
 ghost use Prim.Native.Nat.{_+_, _≤_};
 ghost use lib.ListN.{getD};
+ghost use Rattle.kinds.specs.Numbers.{mostBlocks};
 ghost use Rattle.spec.specs.Count.{sum};
 ghost use Rattle.spec.specs.Image.{blocks, objects};
 ghost use Rattle.laws.proofs.Valid.{Shaped};
@@ -9,10 +10,11 @@ ghost use Rattle.fsck_objects.specs.Told.{Told};
 ghost use Rattle.fsck_objects.specs.Objects.{Blank, Inside, AreMarks, ObjectsPass};
 use fsck_objects::object::Uses;
 use fsck_objects::object::object_uses;
+use kinds::numbers::ObjectNumber;
 
 // The sum of n bytes of a map from `from` on, which are 0 or 1.
 fn sum_part(used: &[u8; 1024], from: usize, n: usize) -> u8
-    requires { ⌜ from + n ≤ 1024 ⌝ }
+    requires { ⌜ from + n ≤ mostBlocks ⌝ }
     requires { ⌜ n ≤ 128 ⌝ }
     requires { ⌜ AreMarks (now used) from n ⌝ }
     ensures { λ r. ⌜ r ≡ sum n (λ i. getD (now (used .entry)) (from + i) 0) ⌝ }
@@ -28,7 +30,7 @@ fn sum_part(used: &[u8; 1024], from: usize, n: usize) -> u8
 
 // How many of the first `limit` blocks are marked: the sum of their bytes, 128 at a time.
 fn marked(used: &[u8; 1024], limit: usize) -> usize
-    requires { ⌜ limit ≤ 1024 ⌝ }
+    requires { ⌜ limit ≤ mostBlocks ⌝ }
     requires { ⌜ AreMarks (now used) 0 limit ⌝ }
     ensures { λ r. ⌜ r ≡ sum limit (λ i. getD (now (used .entry)) i 0) ⌝ }
 {
@@ -54,13 +56,13 @@ pub fn objects_pass(
     requires { ⌜ Inside (now inside) ⌝ }
     requires { ⌜ count ≡ objects (now store) ⌝ }
     requires { ⌜ limit ≡ blocks (now store) ⌝ }
-    requires { ⌜ Blank 1024 (now used) ⌝ }
+    requires { ⌜ Blank mostBlocks (now used) ⌝ }
     ensures { λ r. ⌜ Told r (now (store .entry)) (ObjectsPass (now (store .entry)) count (now (used .exit))) ⌝ }
 {
     let mut total = 0;
     let mut o = 0;
     while o < count {
-        let found = object_uses(store, inside, o, limit, used);
+        let found = object_uses(store, inside, ObjectNumber(o), limit, used);
         let Uses::Blocks(n) = found else {
             return false;
         };

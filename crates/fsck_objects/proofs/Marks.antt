@@ -9,20 +9,22 @@ use native.Mathlib.Decide.{ℕ-discrete, le-ind}
 use native.Mathlib.Numerals.{add-one}
 use native.Mathlib.Omega.{arith}
 use lib.Dec.{eqb, ltb}
-use lib.ListN.{length, take, getD, set, length-set}
+use lib.ListN.{length, take, getD, set, length-set, length-take}
 use lib.Seq.{take-suc, getD-set-same, getD-set-other}
-use borrow.Author.Tests.{ltb-true, ltb-false, lt-ltb, le-ltb, eq-eqb, ne-eqb, eqb-true}
-use Rattle.kinds.specs.Layout.{objectLength}
+use borrow.Author.Tests.{lt-ltb, le-ltb, eq-eqb, ne-eqb, eqb-true}
+use Rattle.kinds.specs.Layout.{blocksOffset, objectLength}
+use Rattle.kinds.specs.Numbers.{fileBlocks, unusedBlock}
+use Rattle.kinds.specs.declared.object.Object.{Object}
 use Rattle.spec.specs.Count.{bit, sum, every, times}
 use Rattle.spec.specs.Image.{Store, blocks, objectStart, objectFrom, objectAt}
-use Rattle.spec.specs.Room.{need, sizeOf, held}
+use Rattle.spec.specs.Room.{isLive, need, sizeOf, held}
 use Rattle.spec.specs.Check.{goodBlock, goodFree, goodLive, goodObject, passes}
 use Rattle.laws.proofs.Bytes.{lt-or-le, be-2}
-use Rattle.laws.proofs.Count.{true-false, by-bool, and-both, sum-ext, sum-add, sum-zero, sum-more, times-append, every-more, every-fails, every-at, every-all}
+use Rattle.laws.proofs.Count.{sum-more, times-append, every-more, every-fails, every-at, every-all}
 use Rattle.laws.proofs.Records.{halves-count, half-read}
-use Rattle.laws.proofs.Valid.{Shaped}
+use Rattle.laws.proofs.CreateObject.{no-blocks}
+use Rattle.laws.proofs.Valid.{Shaped, free-object}
 use Rattle.fsck_objects.specs.Objects.{goodFields, isUnused, markFor, LiveAt, usesBelow, MarkedBy, MarkedTo, Inside}
-use Rattle.fsck_objects.proofs.Zeros.{zero-within, zero-be}
 use Rattle.fsck_objects.proofs.Passes.{or-false, fails-object}
 
 -- ---- sums and counts
@@ -38,25 +40,15 @@ times-one r x = omega arith
 times-next : (xs : List ℕ) (r k : ℕ) → k < length xs → times r (take (k + 1) xs) ≡ times r (take k xs) + bit (eqb (getD xs k 0) r)
 times-next xs r k h = rw (add-one, take-suc xs k 0 h, times-append, times-one)
 
--- a number below n is equal to one number below n
-sum-one : (x n : ℕ) → x < n → sum n (λ r. bit (eqb x r)) ≡ 1
-unfolding sum
-sum-one x zero h = absurd (not-suc-le-zero h)
-sum-one x (suc n) h =
-    by-cases (ℕ-discrete x n)
-    (λ (e : x ≡ n). let a = sum-zero n (λ r. bit (eqb x r)) (λ i l. ap bit (ne-eqb x i (λ q. absurd (omega arith)))) in
-    let b = ap bit (eq-eqb x n e) in omega arith)
-    (λ (d : x ≢ n). let a = sum-one x n (omega arith) in let b = ap bit (ne-eqb x n d) in omega arith)
-
 -- ---- marks
 mark-one : (n : ℕ) → 1 ≤ n → markFor n ≡ 1
 mark-one zero h = absurd (not-suc-le-zero h)
 mark-one (suc n) h = refl
 
--- ---- an object has 16 block numbers
-pub blocks-length : (s : Store) (o : ℕ) → length (objectAt s o .blocks) ≡ 16
+-- ---- the block numbers of an object
+blocks-length : (s : Store) (o : ℕ) → length (objectAt s o .blocks) ≡ fileBlocks
 unfolding objectAt objectFrom
-blocks-length s o = halves-count s (objectStart o + 48) 16
+blocks-length s o = halves-count s (objectStart o + blocksOffset) fileBlocks
 
 held-is : (s : Store) (o : ℕ) → held s o ≡ take (need (objectAt s o .size)) (objectAt s o .blocks)
 unfolding held sizeOf
@@ -74,7 +66,6 @@ mark-start s o used m =
       long = m .long;
       marks = λ r h. let b = times-none r in
           let e : usesBelow s o r ≡ usesBelow s o r + times r (take 0 (objectAt s o .blocks)) = omega arith in m .marks r h ∙ ap markFor e;
-      places = sum-zero (blocks s) (λ r. times r []) (λ r h. times-none r);
       good = refl;
     }
 
@@ -85,16 +76,6 @@ module _ (s : Store) (o count k : ℕ) (t : Shaped s) (a : LiveAt s o count) (h 
   good-now : getD (objectAt s o .blocks) k 0 < blocks s → goodBlock (blocks s) (objectAt s o) k ≡ true
   unfolding goodBlock
   good-now l = rw (lt-ltb k (need (objectAt s o .size)) (omega (arith, a .needs)), lt-ltb _ _ l)
-
-  places-more : getD (objectAt s o .blocks) k 0 < blocks s → sum (blocks s) (λ r. times r (take (k + 1) (objectAt s o .blocks)))
-      ≡ sum (blocks s) (λ r. times r (take k (objectAt s o .blocks))) + 1
-  places-more l =
-      let x = getD (objectAt s o .blocks) k 0 in
-      let e = sum-ext (blocks s) (λ r. times r (take (k + 1) (objectAt s o .blocks))) (λ r. times r (take k (objectAt s o .blocks)) + bit (eqb x r))
-      (λ r q. times-next (objectAt s o .blocks) r k short) in
-      let f = sum-add (blocks s) (λ r. times r (take k (objectAt s o .blocks))) (λ r. bit (eqb x r)) in
-      let g = sum-one x (blocks s) l in
-      omega arith
 
   pub mark-more : (used : List ℕ) (m : MarkedTo s o k used) (b : ℕ) → b ≡ getD (objectAt s o .blocks) k 0 → b < blocks s
       → MarkedTo s o (k + 1) (set used b 1)
@@ -111,7 +92,6 @@ module _ (s : Store) (o count k : ℕ) (t : Shaped s) (a : LiveAt s o count) (h 
             let g = ap bit (ne-eqb (getD (objectAt s o .blocks) k 0) r (λ x. w (sym (e ∙ x)))) in
             let z : usesBelow s o r + times r (take k (objectAt s o .blocks)) ≡ usesBelow s o r + times r (take (k + 1) (objectAt s o .blocks)) = omega arith in
             getD-set-other used b r 1 0 w ∙ m .marks r q ∙ ap markFor z);
-        places = let p = places-more (rw e at l) in omega (arith, m .places);
         good = every-more (goodBlock (blocks s) (objectAt s o)) k (m .good) (good-now (rw e at l));
       }
 
@@ -120,54 +100,29 @@ module _ (s : Store) (o count k : ℕ) (t : Shaped s) (a : LiveAt s o count) (h 
   unfolding goodObject goodLive goodBlock goodFields
   mark-out l =
       let g : goodBlock (blocks s) (objectAt s o) k ≡ false = rw (lt-ltb k (need (objectAt s o .size)) (omega (arith, a .needs)), le-ltb _ _ l) in
-      fails-object s o (a .below) (rw (a .live, every-fails (goodBlock (blocks s) (objectAt s o)) k 16 g (omega (arith, a .most)))
+      fails-object s o (a .below) (rw (a .live, every-fails (goodBlock (blocks s) (objectAt s o)) k fileBlocks g (omega (arith, a .most)))
       (and-false (goodFields (objectAt s o))))
 
--- four numbers are below a bound
-pub record InRange (l x y z w : ℕ) : Type 0 where
-  pub first : x < l
-  pub second : y < l
-  pub third : z < l
-  pub fourth : w < l
-
-pub in-all : (l x y z w : ℕ) → (ltb x l && ltb y l) && (ltb z l && ltb w l) ≡ true → InRange l x y z w
-in-all l x y z w e =
-    let a = and-both (ltb x l && ltb y l) (ltb z l && ltb w l) e in
-    let b = and-both (ltb x l) (ltb y l) (a .0) in
-    let d = and-both (ltb z l) (ltb w l) (a .1) in
-    record { first = ltb-true x l (b .0); second = ltb-true y l (b .1); third = ltb-true z l (d .0); fourth = ltb-true w l (d .1) }
-
 -- four blocks at once
-module _ (s : Store) (o count k : ℕ) (t : Shaped s) (a : LiveAt s o count) (h : k + 4 ≤ count) (l : ℕ) (q : l ≡ blocks s) (x y z w : ℕ)
-    (ex : x ≡ getD (objectAt s o .blocks) k 0) (ey : y ≡ getD (objectAt s o .blocks) (k + 1) 0) (ez : z ≡ getD (objectAt s o .blocks) (k + 2) 0)
-    (ew : w ≡ getD (objectAt s o .blocks) (k + 3) 0) where
-  pub mark-four : (used : List ℕ) → MarkedTo s o k used → InRange l x y z w → MarkedTo s o (k + 4) (set (set (set (set used x 1) y 1) z 1) w 1)
-  mark-four used m r =
-      let two : k + 1 + 1 ≡ k + 2 = omega arith in
-      let three : k + 2 + 1 ≡ k + 3 = omega arith in
-      let four : k + 3 + 1 ≡ k + 4 = omega arith in
-      let m1 = mark-more s o count k t a (omega arith) used m x ex (omega (arith, r .first)) in
-      let m2 = rw two at (mark-more s o count (k + 1) t a (omega arith) (set used x 1) m1 y ey (omega (arith, r .second))) in
-      let m3 = rw three at (mark-more s o count (k + 2) t a (omega arith) (set (set used x 1) y 1) m2 z ez (omega (arith, r .third))) in
-      rw four at (mark-more s o count (k + 3) t a (omega arith) (set (set (set used x 1) y 1) z 1) m3 w ew (omega (arith, r .fourth)))
-
-  pub mark-four-out : (ltb x l && ltb y l) && (ltb z l && ltb w l) ≡ false → passes s ≡ false
-  mark-four-out e =
-      by-bool (ltb x l)
-      (λ bx. by-bool (ltb y l)
-      (λ by. by-bool (ltb z l)
-      (λ bz. by-bool (ltb w l) (λ bw. true-false (sym (rw (bx, by, bz, bw)) ∙ e))
-      (λ bw. mark-out s o count (k + 3) t a (omega arith) (omega (arith, ltb-false w l bw))))
-      (λ bz. mark-out s o count (k + 2) t a (omega arith) (omega (arith, ltb-false z l bz))))
-      (λ by. mark-out s o count (k + 1) t a (omega arith) (omega (arith, ltb-false y l by))))
-      (λ bx. mark-out s o count k t a (omega arith) (omega (arith, ltb-false x l bx)))
+pub mark-four : (s : Store) (o count k : ℕ) → Shaped s → LiveAt s o count → k + 4 ≤ count → (used : List ℕ) → MarkedTo s o k used → (x y z w : ℕ)
+    → x ≡ getD (objectAt s o .blocks) k 0 → x < blocks s → y ≡ getD (objectAt s o .blocks) (k + 1) 0 → y < blocks s
+    → z ≡ getD (objectAt s o .blocks) (k + 2) 0 → z < blocks s → w ≡ getD (objectAt s o .blocks) (k + 3) 0 → w < blocks s
+    → MarkedTo s o (k + 4) (set (set (set (set used x 1) y 1) z 1) w 1)
+mark-four s o count k t a h used m x y z w ex lx ey ly ez lz ew lw =
+    let two : k + 1 + 1 ≡ k + 2 = omega arith in
+    let three : k + 2 + 1 ≡ k + 3 = omega arith in
+    let four : k + 3 + 1 ≡ k + 4 = omega arith in
+    let m1 = mark-more s o count k t a (omega arith) used m x ex lx in
+    let m2 = rw two at (mark-more s o count (k + 1) t a (omega arith) (set used x 1) m1 y ey ly) in
+    let m3 = rw three at (mark-more s o count (k + 2) t a (omega arith) (set (set used x 1) y 1) m2 z ez lz) in
+    rw four at (mark-more s o count (k + 3) t a (omega arith) (set (set (set used x 1) y 1) z 1) m3 w ew lw)
 
 -- the blocks of a live object
 held-count : (s : Store) (o count : ℕ) → LiveAt s o count → held s o ≡ take count (objectAt s o .blocks)
 held-count s o count a = rw (held-is s o, a .needs)
 
-pub places-end : (s : Store) (o count : ℕ) (used : List ℕ) → LiveAt s o count → MarkedTo s o count used → sum (blocks s) (λ r. times r (held s o)) ≡ count
-places-end s o count used a m = ap (λ (xs : List ℕ). sum (blocks s) (λ r. times r xs)) (held-count s o count a) ∙ m .places
+pub held-end : (s : Store) (o count : ℕ) → LiveAt s o count → count ≡ length (held s o)
+held-end s o count a = rw (held-count s o count a, length-take, blocks-length) (omega (arith, a .most))
 
 -- the map after the object
 pub mark-end : (s : Store) (o count : ℕ) (used : List ℕ) → LiveAt s o count → MarkedTo s o count used → MarkedBy s (o + 1) used
@@ -181,39 +136,30 @@ mark-end s o count used a m =
           m .marks r h ∙ ap markFor e;
     }
 
--- a free object holds no block
-free-size : (s : Store) (o : ℕ) → goodFree s o ≡ true → objectAt s o .size ≡ 0
-unfolding goodFree objectAt objectFrom
-free-size s o e =
-    let q : objectStart o + 20 ≡ objectStart o + 8 + 12 = omega arith in
-    rw q (zero-be s (objectStart o + 8 + 12) 4 (zero-within s (objectStart o + 8) (objectLength - 8) 12 4 (omega arith) e))
+-- a free object has no block
+pub free-held : (s : Store) (o : ℕ) → objectStart o + objectLength ≤ length s → isLive s o ≡ false → goodFree s o ≡ true → held s o ≡ []
+free-held s o h l e = no-blocks s o (ap (λ (v : Object). v .size) (free-object s o h l e))
 
-free-held : (s : Store) (o : ℕ) → goodFree s o ≡ true → held s o ≡ []
-free-held s o e = rw (held-is s o, free-size s o e)
-
-pub places-free : (s : Store) (o : ℕ) → goodFree s o ≡ true → sum (blocks s) (λ r. times r (held s o)) ≡ 0
-places-free s o e = sum-zero (blocks s) (λ r. times r (held s o)) (λ r h. ap (times r) (free-held s o e) ∙ times-none r)
-
-pub mark-free : (s : Store) (o : ℕ) (used : List ℕ) → goodFree s o ≡ true → MarkedBy s o used → MarkedBy s (o + 1) used
+pub mark-free : (s : Store) (o : ℕ) (used : List ℕ) → held s o ≡ [] → MarkedBy s o used → MarkedBy s (o + 1) used
 mark-free s o used e m =
     record {
       long = m .long;
       marks = λ r h.
           let f = sum-more o (λ i. times r (held s i)) in
-          let v = ap (times r) (free-held s o e) ∙ times-none r in
+          let v = ap (times r) e ∙ times-none r in
           let q : usesBelow s o r ≡ usesBelow s (o + 1) r = omega arith in
           m .marks r h ∙ ap markFor q;
     }
 
 -- ---- the block numbers past those that the size needs
 module _ (s : Store) (o k : ℕ) (h : need (objectAt s o .size) ≤ k) where
-  unused-good : getD (objectAt s o .blocks) k 0 ≡ 65535 → goodBlock (blocks s) (objectAt s o) k ≡ true
+  unused-good : getD (objectAt s o .blocks) k 0 ≡ unusedBlock → goodBlock (blocks s) (objectAt s o) k ≡ true
   unfolding goodBlock
-  unused-good e = rw (le-ltb k (need (objectAt s o .size)) h, eq-eqb (getD (objectAt s o .blocks) k 0) 65535 e)
+  unused-good e = rw (le-ltb k (need (objectAt s o .size)) h, eq-eqb (getD (objectAt s o .blocks) k 0) unusedBlock e)
 
-  unused-is : goodBlock (blocks s) (objectAt s o) k ≡ true → getD (objectAt s o .blocks) k 0 ≡ 65535
+  unused-is : goodBlock (blocks s) (objectAt s o) k ≡ true → getD (objectAt s o .blocks) k 0 ≡ unusedBlock
   unfolding goodBlock
-  unused-is e = eqb-true (getD (objectAt s o .blocks) k 0) 65535 (rw (le-ltb k (need (objectAt s o .size)) h) at e)
+  unused-is e = eqb-true (getD (objectAt s o .blocks) k 0) unusedBlock (rw (le-ltb k (need (objectAt s o .size)) h) at e)
 
 -- byte i of 32 is past the first n, as the map tells
 pub outside : (inside : List ℕ) → Inside inside → (n i : ℕ) → n ≤ 32 → i < 32 → eqb (getD inside (32 - n + i) 0) 0 ≡ not (ltb i n)
@@ -235,42 +181,42 @@ same-tests true u f g = sym (f refl)
 same-tests false true f g = g refl
 same-tests false false f g = refl
 
-module _ (s : Store) (o count : ℕ) (fits : objectStart o + objectLength ≤ length s) (bytes : (i : ℕ) → getD s i 0 < 256) (most : count ≤ 16)
+module _ (s : Store) (o count : ℕ) (fits : objectStart o + objectLength ≤ length s) (bytes : (i : ℕ) → getD s i 0 < 256) (most : count ≤ fileBlocks)
     (needs : count ≡ need (objectAt s o .size)) where
   -- block number k is its two bytes
-  number : (k : ℕ) → k < 16 → getD (objectAt s o .blocks) k 0 ≡ getD s (objectStart o + 48 + 2 * k) 0 * 256 + getD s (objectStart o + 48 + 2 * k + 1) 0
+  number : (k : ℕ) → k < fileBlocks → getD (objectAt s o .blocks) k 0 ≡ getD s (objectStart o + blocksOffset + 2 * k) 0 * 256 + getD s (objectStart o + blocksOffset + 2 * k + 1) 0
   unfolding objectAt objectFrom
-  number k h = half-read s (objectStart o + 48) 16 k h ∙ sym (be-2 s (objectStart o + 48 + 2 * k) (omega arith))
+  number k h = half-read s (objectStart o + blocksOffset) fileBlocks k h ∙ sym (be-2 s (objectStart o + blocksOffset + 2 * k) (omega arith))
 
-  past : (i : ℕ) → every 32 (isUnused s (objectStart o + 48) (2 * count)) ≡ true → i < 32 → 2 * count ≤ i → getD s (objectStart o + 48 + i) 0 ≡ 255
+  past : (i : ℕ) → every 32 (isUnused s (objectStart o + blocksOffset) (2 * count)) ≡ true → i < 32 → 2 * count ≤ i → getD s (objectStart o + blocksOffset + i) 0 ≡ 255
   past i e h l =
-      let q = every-at (isUnused s (objectStart o + 48) (2 * count)) 32 i e h in
-      eqb-true (getD s (objectStart o + 48 + i) 0) 255 (sym (or-false (eqb (getD s (objectStart o + 48 + i) 0) 255)) ∙ (rw (le-ltb i (2 * count) l) at q))
+      let q = every-at (isUnused s (objectStart o + blocksOffset) (2 * count)) 32 i e h in
+      eqb-true (getD s (objectStart o + blocksOffset + i) 0) 255 (sym (or-false (eqb (getD s (objectStart o + blocksOffset + i) 0) 255)) ∙ (rw (le-ltb i (2 * count) l) at q))
 
   pub rest-is : every count (goodBlock (blocks s) (objectAt s o)) ≡ true
-      → every 32 (isUnused s (objectStart o + 48) (2 * count)) ≡ every 16 (goodBlock (blocks s) (objectAt s o))
+      → every 32 (isUnused s (objectStart o + blocksOffset) (2 * count)) ≡ every fileBlocks (goodBlock (blocks s) (objectAt s o))
   rest-is g =
       same-tests _ _
-      (λ e. every-all (goodBlock (blocks s) (objectAt s o)) 16 (λ k h. ⊎-elim
+      (λ e. every-all (goodBlock (blocks s) (objectAt s o)) fileBlocks (λ k h. ⊎-elim
       (λ (l : k < count). every-at (goodBlock (blocks s) (objectAt s o)) count k g l)
       (λ (l : count ≤ k). let x = past (2 * k) e (omega arith) (omega arith) in let y = past (2 * k + 1) e (omega arith) (omega arith) in
-      let w : objectStart o + 48 + (2 * k + 1) ≡ objectStart o + 48 + 2 * k + 1 = omega arith in
+      let w : objectStart o + blocksOffset + (2 * k + 1) ≡ objectStart o + blocksOffset + 2 * k + 1 = omega arith in
       let z = rw w at y in
       let n = number k h in
       unused-good s o k (omega arith) (omega arith))
       (lt-or-le k count)))
-      (λ e. every-all (isUnused s (objectStart o + 48) (2 * count)) 32 (λ i h. ⊎-elim
-      (λ (l : i < 2 * count). rw (lt-ltb i (2 * count) l) (or-true (eqb (getD s (objectStart o + 48 + i) 0) 255)))
-      (λ (l : 2 * count ≤ i). rw (eq-eqb (getD s (objectStart o + 48 + i) 0) 255 (byte e i h l)))
+      (λ e. every-all (isUnused s (objectStart o + blocksOffset) (2 * count)) 32 (λ i h. ⊎-elim
+      (λ (l : i < 2 * count). rw (lt-ltb i (2 * count) l) (or-true (eqb (getD s (objectStart o + blocksOffset + i) 0) 255)))
+      (λ (l : 2 * count ≤ i). rw (eq-eqb (getD s (objectStart o + blocksOffset + i) 0) 255 (byte e i h l)))
       (lt-or-le i (2 * count))))
     where
-      byte : every 16 (goodBlock (blocks s) (objectAt s o)) ≡ true → (i : ℕ) → i < 32 → 2 * count ≤ i → getD s (objectStart o + 48 + i) 0 ≡ 255
+      byte : every fileBlocks (goodBlock (blocks s) (objectAt s o)) ≡ true → (i : ℕ) → i < 32 → 2 * count ≤ i → getD s (objectStart o + blocksOffset + i) 0 ≡ 255
       byte e i h l =
           let k = i / 2 in
-          let q = unused-is s o (i / 2) (omega arith) (every-at (goodBlock (blocks s) (objectAt s o)) 16 (i / 2) e (omega arith)) in
+          let q = unused-is s o (i / 2) (omega arith) (every-at (goodBlock (blocks s) (objectAt s o)) fileBlocks (i / 2) e (omega arith)) in
           let n = number (i / 2) (omega arith) in
-          let x = bytes (objectStart o + 48 + 2 * (i / 2)) in
-          let y = bytes (objectStart o + 48 + 2 * (i / 2) + 1) in
+          let x = bytes (objectStart o + blocksOffset + 2 * (i / 2)) in
+          let y = bytes (objectStart o + blocksOffset + 2 * (i / 2) + 1) in
           by-cases (ℕ-discrete (i % 2) 0)
-          (λ (z : i % 2 ≡ 0). let w : objectStart o + 48 + i ≡ objectStart o + 48 + 2 * (i / 2) = omega arith in rw w (omega arith))
-          (λ (z : i % 2 ≢ 0). let w : objectStart o + 48 + i ≡ objectStart o + 48 + 2 * (i / 2) + 1 = omega arith in rw w (omega arith))
+          (λ (z : i % 2 ≡ 0). let w : objectStart o + blocksOffset + i ≡ objectStart o + blocksOffset + 2 * (i / 2) = omega arith in rw w (omega arith))
+          (λ (z : i % 2 ≢ 0). let w : objectStart o + blocksOffset + i ≡ objectStart o + blocksOffset + 2 * (i / 2) + 1 = omega arith in rw w (omega arith))

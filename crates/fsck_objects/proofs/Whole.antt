@@ -1,15 +1,17 @@
 -- A whole object record: free or live, it passes, or the store fails. Assumes nothing.
-use mathlib.Core.Path.{_≡_, sym, _∙_}
+use mathlib.Core.Path.{_≡_, sym, ap, _∙_}
 use mathlib.Core.Bool.{Bool, true, false, _&&_}
-use Prim.Native.Nat.{ℕ, _≤_, _<_}
+use Prim.Native.Nat.{ℕ, _+_, _≤_, _<_}
 use native.Mathlib.Omega.{arith}
 use lib.Dec.{eqb, leb, ltb}
+use lib.ListN.{length}
 use mathlib.Core.List.{List}
 use borrow.Author.Tests.{eq-eqb, ne-eqb, leb-true, eqb-true}
-use Rattle.kinds.specs.Numbers.{REGULAR, DIRECTORY}
+use Rattle.kinds.specs.Layout.{objectLength}
+use Rattle.kinds.specs.Numbers.{REGULAR, DIRECTORY, fileBlocks, mostFileBytes, spentGeneration, mostMode}
 use Rattle.kinds.specs.declared.object.Object.{Object}
 use Rattle.spec.specs.Count.{every}
-use Rattle.spec.specs.Image.{Store, objects, blocks, objectAt}
+use Rattle.spec.specs.Image.{Store, objects, blocks, objectStart, objectAt}
 use Rattle.spec.specs.Room.{need, isLive}
 use Rattle.spec.specs.Check.{goodTime, goodSize, goodBlock, goodFree, goodLive, goodObject, passes}
 use Rattle.laws.proofs.Count.{by-bool, and-both}
@@ -17,7 +19,7 @@ use Rattle.fsck_objects.specs.Told.{Told}
 use Rattle.fsck_objects.specs.Objects.{goodFields, LiveAt, MarkedBy, MarkedTo, ObjectPasses, Counted}
 use Rattle.fsck_objects.specs.declared.object.Uses.the-variants.{Bad, Blocks}
 use Rattle.fsck_objects.proofs.Passes.{fails-object, told-true, told-false}
-use Rattle.fsck_objects.proofs.Marks.{mark-free, mark-end, places-free, places-end}
+use Rattle.fsck_objects.proofs.Marks.{free-held, mark-free, mark-end, held-end}
 
 pub live-yes : (s : Store) (o : ℕ) → (objectAt s o .kind ≡ 0 → ⊥) → isLive s o ≡ true
 unfolding isLive
@@ -28,23 +30,23 @@ unfolding isLive
 live-no s o h = rw (eq-eqb (objectAt s o .kind) 0 h)
 
 -- a good size is at most that of the longest file
-fields-size-of : (v : Object) → goodSize v ≡ true → v .size ≤ 8192
+fields-size-of : (v : Object) → goodSize v ≡ true → v .size ≤ mostFileBytes
 unfolding goodSize
 fields-size-of v e =
-    by-bool (eqb (v .kind) REGULAR && leb (v .size) 8192)
-    (λ t. leb-true (v .size) 8192 (and-both (eqb (v .kind) REGULAR) (leb (v .size) 8192) t .1))
+    by-bool (eqb (v .kind) REGULAR && leb (v .size) mostFileBytes)
+    (λ t. leb-true (v .size) mostFileBytes (and-both (eqb (v .kind) REGULAR) (leb (v .size) mostFileBytes) t .1))
     (λ t. let l = eqb-true (v .size) 0 (and-both (eqb (v .kind) DIRECTORY) (eqb (v .size) 0) (rw t at e) .1) in omega arith)
 
-pub fields-size : (v : Object) → goodFields v ≡ true → v .size ≤ 8192
+pub fields-size : (v : Object) → goodFields v ≡ true → v .size ≤ mostFileBytes
 unfolding goodFields
 fields-size v e =
-    fields-size-of v (and-both (ltb (v .generation) 4294967295 && leb (v .mode) 4095 && goodTime (v .atime) && goodTime (v .mtime) && goodTime
+    fields-size-of v (and-both (ltb (v .generation) spentGeneration && leb (v .mode) mostMode && goodTime (v .atime) && goodTime (v .mtime) && goodTime
     (v .ctime)) (goodSize v) e .1)
 
-pub fields-need : (v : Object) → goodFields v ≡ true → need (v .size) ≤ 16
+pub fields-need : (v : Object) → goodFields v ≡ true → need (v .size) ≤ fileBlocks
 fields-need v e = let l = fields-size v e in omega arith
 
-live-is : (s : Store) (o : ℕ) → isLive s o ≡ true → goodObject s o ≡ goodFields (objectAt s o) && every 16 (goodBlock (blocks s) (objectAt s o))
+live-is : (s : Store) (o : ℕ) → isLive s o ≡ true → goodObject s o ≡ goodFields (objectAt s o) && every fileBlocks (goodBlock (blocks s) (objectAt s o))
 unfolding goodObject goodLive goodFields
 live-is s o e = rw e
 
@@ -52,9 +54,12 @@ pub bad-fields : (s : Store) (o : ℕ) → o < objects s → isLive s o ≡ true
 bad-fields s o h l e = fails-object s o h (live-is s o l ∙ rw e)
 
 -- a free object that is zero
-pub free-passes : (s : Store) (o : ℕ) (used : List ℕ) → isLive s o ≡ false → goodFree s o ≡ true → MarkedBy s o used → ObjectPasses s o used 0
+pub free-passes : (s : Store) (o : ℕ) (used : List ℕ) → objectStart o + objectLength ≤ length s → isLive s o ≡ false → goodFree s o ≡ true → MarkedBy s o used
+    → ObjectPasses s o used 0
 unfolding goodObject
-free-passes s o used l e m = record { map = mark-free s o used e m; places = places-free s o e; few = omega arith; good = rw l e }
+free-passes s o used h l e m =
+    let n = free-held s o h l e in
+    record { map = mark-free s o used n m; has = sym (ap (λ (xs : List ℕ). length xs) n); few = omega arith; good = rw l e }
 
 pub free-fails : (s : Store) (o : ℕ) → o < objects s → isLive s o ≡ false → goodFree s o ≡ false → passes s ≡ false
 unfolding goodObject
@@ -62,11 +67,11 @@ free-fails s o h l e = fails-object s o h (rw l e)
 
 -- a live object whose blocks are marked: the rest of its block numbers decide
 pub told-live : (s : Store) (o count : ℕ) (used : List ℕ) (t : Bool) → LiveAt s o count → MarkedTo s o count used
-    → t ≡ every 16 (goodBlock (blocks s) (objectAt s o)) → Told t s (ObjectPasses s o used count)
+    → t ≡ every fileBlocks (goodBlock (blocks s) (objectAt s o)) → Told t s (ObjectPasses s o used count)
 told-live s o count used true a m e =
     told-true (record {
       map = mark-end s o count used a m;
-      places = places-end s o count used a m;
+      has = held-end s o count a;
       few = a .most;
       good = live-is s o (a .live) ∙ rw (a .fields) (sym e);
     })

@@ -4,7 +4,7 @@ use mathlib.Core.Path.{_≡_}
 use mathlib.Core.Bool.{Bool, true, false, _&&_, _||_}
 use mathlib.Core.List.{List}
 use lib.Dec.{eqb, leb, ltb}
-use Rattle.kinds.specs.Numbers.{REGULAR, DIRECTORY}
+use Rattle.kinds.specs.Numbers.{mostBlocks, fileBlocks, spentGeneration, mostMode}
 use lib.ListN.{length, take, getD}
 use Rattle.kinds.specs.declared.object.Object.{Object}
 use Rattle.spec.specs.Count.{sum, every, times}
@@ -14,14 +14,10 @@ use Rattle.spec.specs.Room.{held, need, isLive}
 use Rattle.fsck_objects.specs.declared.object.Uses.{Uses}
 use Rattle.fsck_objects.specs.declared.object.Uses.the-variants.{Bad, Blocks}
 
--- a size that the type may have
-unfoldable pub goodSizeOf : ℕ → ℕ → Bool
-goodSizeOf kind size = eqb kind REGULAR && leb size 8192 || eqb kind DIRECTORY && eqb size 0
-
 -- what a live object's numbers and times must be: all of its demands but those on its blocks
 unfoldable pub goodFields : Object → Bool
 goodFields v =
-    ltb (v .generation) 4294967295 && leb (v .mode) 4095 && goodTime (v .atime) && goodTime (v .mtime) && goodTime (v .ctime) && goodSize v
+    ltb (v .generation) spentGeneration && leb (v .mode) mostMode && goodTime (v .atime) && goodTime (v .mtime) && goodTime (v .ctime) && goodSize v
 
 -- object o is live, with good fields, and its size needs `count` blocks
 pub record LiveAt (s : Store) (o count : ℕ) : Type 0 where
@@ -29,7 +25,7 @@ pub record LiveAt (s : Store) (o count : ℕ) : Type 0 where
   pub live : isLive s o ≡ true
   pub fields : goodFields (objectAt s o) ≡ true
   pub needs : count ≡ need (objectAt s o .size)
-  pub most : count ≤ 16
+  pub most : count ≤ fileBlocks
 
 -- a map of n bytes that are all 0
 pub record Blank (n : ℕ) (map : List ℕ) : Type 0 where
@@ -47,27 +43,26 @@ markFor (suc n) = 1
 
 -- the map of used blocks after the objects below o, where no block is used twice: 1 at each block that serves a place, else 0
 pub record UsedBy (s : Store) (o : ℕ) (used : List ℕ) : Type 0 where
-  pub long : length used ≡ 1024
+  pub long : length used ≡ mostBlocks
   pub uses : (r : ℕ) → r < blocks s → getD used r 0 ≡ usesBelow s o r
   pub once : (r : ℕ) → r < blocks s → getD used r 0 ≤ 1
 
 -- the map of marked blocks after the objects below o: 1 at each block that serves a place, or several, else 0
 pub record MarkedBy (s : Store) (o : ℕ) (used : List ℕ) : Type 0 where
-  pub long : length used ≡ 1024
+  pub long : length used ≡ mostBlocks
   pub marks : (r : ℕ) → r < blocks s → getD used r 0 ≡ markFor (usesBelow s o r)
 
--- the same after the first k blocks of object o, which are in range, so that k places are theirs
+-- the same after the first k blocks of object o, which are in range
 pub record MarkedTo (s : Store) (o k : ℕ) (used : List ℕ) : Type 0 where
-  pub long : length used ≡ 1024
+  pub long : length used ≡ mostBlocks
   pub marks : (r : ℕ) → r < blocks s → getD used r 0 ≡ markFor (usesBelow s o r + times r (take k (objectAt s o .blocks)))
-  pub places : sum (blocks s) (λ r. times r (take k (objectAt s o .blocks))) ≡ k
   pub good : every k (goodBlock (blocks s) (objectAt s o)) ≡ true
 
 -- object o passes and has n blocks, and the map holds them and those of the objects below it
 pub record ObjectPasses (s : Store) (o : ℕ) (used : List ℕ) (n : ℕ) : Type 0 where
   pub map : MarkedBy s (o + 1) used
-  pub places : sum (blocks s) (λ r. times r (held s o)) ≡ n
-  pub few : n ≤ 16
+  pub has : n ≡ length (held s o)
+  pub few : n ≤ fileBlocks
   pub good : goodObject s o ≡ true
 
 -- the objects below o pass, and the map holds their blocks

@@ -2,22 +2,29 @@
 ghost use mathlib.Core.Path.{_≡_};
 ghost use mathlib.Core.Bool.{true, _&&_};
 ghost use Prim.Native.Nat.{_+_, _*_, _/_, _≤_, _<_};
+ghost use lib.ListN.{length};
 ghost use Rattle.kinds.specs.Layout.{objectLength};
-ghost use Rattle.fsck_objects.specs.Objects.{goodFields, goodSizeOf, isUnused, LiveAt, MarkedBy, MarkedTo, ObjectPasses, Counted, Inside};
-ghost use lib.Dec.{ltb};
-ghost use lib.ListN.{length, getD};
+ghost use Rattle.kinds.specs.Numbers.{fileBlocks};
 ghost use Rattle.spec.specs.Count.{every};
 ghost use Rattle.spec.specs.Image.{blocks, objects, objectStart, objectAt};
-ghost use Rattle.spec.specs.Check.{goodTime, goodBlock};
+ghost use Rattle.spec.specs.Check.{goodTime, goodSize, goodBlock};
 ghost use Rattle.spec.specs.Room.{need};
 ghost use Rattle.laws.proofs.Valid.{Shaped};
+ghost use Rattle.fsck_objects.specs.Objects.{goodFields, isUnused, LiveAt, MarkedBy, MarkedTo, ObjectPasses, Counted, Inside};
 ghost use Rattle.fsck_objects.specs.Told.{Told};
 use crate::zero::is_zero;
-use kinds::layout::Image;
 use kinds::layout::ObjectRecord;
 use kinds::layout::TimeField;
 use kinds::numbers::Kind;
 use kinds::numbers::Limit;
+use kinds::numbers::ObjectNumber;
+use store_places::need;
+use store_records::counts::object_start;
+use store_records::object::block_of;
+use store_records::object::generation_of;
+use store_records::object::kind_of;
+use store_records::object::mode_of;
+use store_records::object::size_of;
 
 // What was found of an object: that it fails, or how many blocks it has.
 pub enum Uses {
@@ -25,45 +32,13 @@ pub enum Uses {
     Blocks(usize),
 }
 
-// The type of an object.
-pub fn kind_of(store: &[u8], o: usize) -> u32
-    requires { ⌜ objectStart o + objectLength ≤ length (now store) ⌝ }
-    ensures { λ r. ⌜ r ≡ objectAt (now (store .entry)) o .kind ⌝ }
-{
-    wire::get_u32(store, Image::OBJECTS_HEAD + ObjectRecord::BYTES * o)
-}
-
-// The size of an object.
-fn size_of(store: &[u8], o: usize) -> u32
-    requires { ⌜ objectStart o + objectLength ≤ length (now store) ⌝ }
-    ensures { λ r. ⌜ r ≡ objectAt (now (store .entry)) o .size ⌝ }
-{
-    wire::get_u32(
-        store,
-        Image::OBJECTS_HEAD + ObjectRecord::BYTES * o + ObjectRecord::SIZE,
-    )
-}
-
-// Whether four numbers are below a limit.
-fn all_below(a: usize, b: usize, c: usize, d: usize, limit: usize) -> bool
-    ensures { λ r. ⌜ r ≡ (ltb a limit && ltb b limit) && (ltb c limit && ltb d limit) ⌝ }
-{
-    if a >= limit {
-        return false;
-    }
-    if b >= limit {
-        return false;
-    }
-    if c >= limit {
-        return false;
-    }
-    d < limit
-}
-
 // Whether the size of an object is one that its type may have.
-fn good_size(kind: u32, size: u32) -> bool
-    ensures { λ r. ⌜ r ≡ goodSizeOf kind size ⌝ }
+fn good_size(store: &[u8], o: ObjectNumber) -> bool
+    requires { ⌜ objectStart (o .0) + objectLength ≤ length (now store) ⌝ }
+    ensures { λ r. ⌜ r ≡ goodSize (objectAt (now (store .entry)) (o .0)) ⌝ }
 {
+    let kind = kind_of(store, o);
+    let size = size_of(store, o);
     if kind == Kind::REGULAR {
         return size as u64 <= Limit::MOST_FILE_BYTES;
     }
@@ -71,11 +46,11 @@ fn good_size(kind: u32, size: u32) -> bool
 }
 
 // Whether the times of an object are good.
-fn good_times(store: &[u8], o: usize) -> bool
-    requires { ⌜ objectStart o + objectLength ≤ length (now store) ⌝ }
-    ensures { λ r. ⌜ r ≡ goodTime (objectAt (now (store .entry)) o .atime) && goodTime (objectAt (now (store .entry)) o .mtime) && goodTime (objectAt (now (store .entry)) o .ctime) ⌝ }
+fn good_times(store: &[u8], o: ObjectNumber) -> bool
+    requires { ⌜ objectStart (o .0) + objectLength ≤ length (now store) ⌝ }
+    ensures { λ r. ⌜ r ≡ goodTime (objectAt (now (store .entry)) (o .0) .atime) && goodTime (objectAt (now (store .entry)) (o .0) .mtime) && goodTime (objectAt (now (store .entry)) (o .0) .ctime) ⌝ }
 {
-    let at = Image::OBJECTS_HEAD + ObjectRecord::BYTES * o;
+    let at = object_start(store, o);
     if wire::get_u32(store, at + ObjectRecord::ATIME + TimeField::NANOSECONDS)
         >= Limit::NANOSECONDS_END
     {
@@ -89,59 +64,53 @@ fn good_times(store: &[u8], o: usize) -> bool
     wire::get_u32(store, at + ObjectRecord::CTIME + TimeField::NANOSECONDS) < Limit::NANOSECONDS_END
 }
 
-// Whether the numbers and times of a live object, of that type and size, are good.
-fn good_fields(store: &[u8], o: usize, kind: u32, size: u32) -> bool
-    requires { ⌜ objectStart o + objectLength ≤ length (now store) ⌝ }
-    requires { ⌜ kind ≡ objectAt (now store) o .kind ⌝ }
-    requires { ⌜ size ≡ objectAt (now store) o .size ⌝ }
-    ensures { λ r. ⌜ r ≡ goodFields (objectAt (now (store .entry)) o) ⌝ }
+// Whether the numbers and times of a live object are good.
+fn good_fields(store: &[u8], o: ObjectNumber) -> bool
+    requires { ⌜ objectStart (o .0) + objectLength ≤ length (now store) ⌝ }
+    ensures { λ r. ⌜ r ≡ goodFields (objectAt (now (store .entry)) (o .0)) ⌝ }
 {
-    let at = Image::OBJECTS_HEAD + ObjectRecord::BYTES * o;
-    if wire::get_u32(store, at + ObjectRecord::GENERATION) >= Limit::SPENT_GENERATION {
+    if generation_of(store, o) >= Limit::SPENT_GENERATION {
         return false;
     }
-    if wire::get_u32(store, at + ObjectRecord::MODE) > Limit::MOST_MODE {
+    if mode_of(store, o) > Limit::MOST_MODE {
         return false;
     }
     if !good_times(store, o) {
         return false;
     }
-    good_size(kind, size)
+    good_size(store, o)
 }
 
-// Block number k of an object.
-fn block_of(store: &[u8], o: usize, k: usize) -> usize
-    requires { ⌜ objectStart o + objectLength ≤ length (now store) ⌝ }
-    requires { ⌜ k < 16 ⌝ }
-    ensures { λ r. ⌜ r ≡ getD (objectAt (now (store .entry)) o .blocks) k 0 ⌝ }
-{
-    wire::get_u16(
-        store,
-        Image::OBJECTS_HEAD + ObjectRecord::BYTES * o + ObjectRecord::BLOCKS + 2 * k,
-    ) as usize
-}
-
-// Marks four blocks of a live object, from block number k on; false where one is out of range. `count` is there for the contract alone.
+// Marks four blocks of a live object, from its k-th on; false where one is out of range. `count` is there for the contract alone.
 fn mark_four(
     store: &[u8],
-    o: usize,
+    o: ObjectNumber,
     count: usize,
     k: usize,
     limit: usize,
     used: &mut [u8; 1024],
 ) -> bool
     requires { ⌜ Shaped (now store) ⌝ }
-    requires { ⌜ LiveAt (now store) o count ⌝ }
+    requires { ⌜ LiveAt (now store) (o .0) count ⌝ }
     requires { ⌜ limit ≡ blocks (now store) ⌝ }
     requires { ⌜ k + 4 ≤ count ⌝ }
-    requires { ⌜ MarkedTo (now store) o k (now used) ⌝ }
-    ensures { λ r. ⌜ Told r (now (store .entry)) (MarkedTo (now (store .entry)) o (k + 4) (now (used .exit))) ⌝ }
+    requires { ⌜ MarkedTo (now store) (o .0) k (now used) ⌝ }
+    ensures { λ r. ⌜ Told r (now (store .entry)) (MarkedTo (now (store .entry)) (o .0) (k + 4) (now (used .exit))) ⌝ }
 {
-    let a = block_of(store, o, k);
-    let b = block_of(store, o, k + 1);
-    let c = block_of(store, o, k + 2);
-    let d = block_of(store, o, k + 3);
-    if !all_below(a, b, c, d, limit) {
+    let a = block_of(store, o, k).0;
+    let b = block_of(store, o, k + 1).0;
+    let c = block_of(store, o, k + 2).0;
+    let d = block_of(store, o, k + 3).0;
+    if a >= limit {
+        return false;
+    }
+    if b >= limit {
+        return false;
+    }
+    if c >= limit {
+        return false;
+    }
+    if d >= limit {
         return false;
     }
     used[a] = 1;
@@ -152,12 +121,18 @@ fn mark_four(
 }
 
 // Marks the blocks of a live object as far as they come in fours; false where one is out of range.
-fn mark_fours(store: &[u8], o: usize, count: usize, limit: usize, used: &mut [u8; 1024]) -> bool
+fn mark_fours(
+    store: &[u8],
+    o: ObjectNumber,
+    count: usize,
+    limit: usize,
+    used: &mut [u8; 1024],
+) -> bool
     requires { ⌜ Shaped (now store) ⌝ }
-    requires { ⌜ LiveAt (now store) o count ⌝ }
+    requires { ⌜ LiveAt (now store) (o .0) count ⌝ }
     requires { ⌜ limit ≡ blocks (now store) ⌝ }
-    requires { ⌜ MarkedBy (now store) o (now used) ⌝ }
-    ensures { λ r. ⌜ Told r (now (store .entry)) (MarkedTo (now (store .entry)) o (4 * (count / 4)) (now (used .exit))) ⌝ }
+    requires { ⌜ MarkedBy (now store) (o .0) (now used) ⌝ }
+    ensures { λ r. ⌜ Told r (now (store .entry)) (MarkedTo (now (store .entry)) (o .0) (4 * (count / 4)) (now (used .exit))) ⌝ }
 {
     let mut k = 0;
     while k < count / 4 {
@@ -170,16 +145,22 @@ fn mark_fours(store: &[u8], o: usize, count: usize, limit: usize, used: &mut [u8
 }
 
 // Marks the blocks of a live object past those that come in fours; false where one is out of range.
-fn mark_last(store: &[u8], o: usize, count: usize, limit: usize, used: &mut [u8; 1024]) -> bool
+fn mark_last(
+    store: &[u8],
+    o: ObjectNumber,
+    count: usize,
+    limit: usize,
+    used: &mut [u8; 1024],
+) -> bool
     requires { ⌜ Shaped (now store) ⌝ }
-    requires { ⌜ LiveAt (now store) o count ⌝ }
+    requires { ⌜ LiveAt (now store) (o .0) count ⌝ }
     requires { ⌜ limit ≡ blocks (now store) ⌝ }
-    requires { ⌜ MarkedTo (now store) o (4 * (count / 4)) (now used) ⌝ }
-    ensures { λ r. ⌜ Told r (now (store .entry)) (MarkedTo (now (store .entry)) o count (now (used .exit))) ⌝ }
+    requires { ⌜ MarkedTo (now store) (o .0) (4 * (count / 4)) (now used) ⌝ }
+    ensures { λ r. ⌜ Told r (now (store .entry)) (MarkedTo (now (store .entry)) (o .0) count (now (used .exit))) ⌝ }
 {
     let mut k = 4 * (count / 4);
     while k < count {
-        let b = block_of(store, o, k);
+        let b = block_of(store, o, k).0;
         if b >= limit {
             return false;
         }
@@ -207,37 +188,33 @@ fn past_unused(s: &[u8], inside: &[u8; 64], at: usize, n: usize) -> bool
 }
 
 // Whether the block numbers of an object that its size does not need are all 65535.
-fn rest_unused(store: &[u8], inside: &[u8; 64], o: usize, count: usize) -> bool
-    requires { ⌜ objectStart o + objectLength ≤ length (now store) ⌝ }
+fn rest_unused(store: &[u8], inside: &[u8; 64], o: ObjectNumber, count: usize) -> bool
+    requires { ⌜ objectStart (o .0) + objectLength ≤ length (now store) ⌝ }
     requires { ⌜ Inside (now inside) ⌝ }
-    requires { ⌜ count ≤ 16 ⌝ }
-    requires { ⌜ count ≡ need (objectAt (now store) o .size) ⌝ }
-    requires { ⌜ every count (goodBlock (blocks (now store)) (objectAt (now store) o)) ≡ true ⌝ }
-    ensures { λ r. ⌜ r ≡ every 16 (goodBlock (blocks (now (store .entry))) (objectAt (now (store .entry)) o)) ⌝ }
+    requires { ⌜ count ≤ fileBlocks ⌝ }
+    requires { ⌜ count ≡ need (objectAt (now store) (o .0) .size) ⌝ }
+    requires { ⌜ every count (goodBlock (blocks (now store)) (objectAt (now store) (o .0))) ≡ true ⌝ }
+    ensures { λ r. ⌜ r ≡ every fileBlocks (goodBlock (blocks (now (store .entry))) (objectAt (now (store .entry)) (o .0))) ⌝ }
 {
-    past_unused(
-        store,
-        inside,
-        Image::OBJECTS_HEAD + ObjectRecord::BYTES * o + ObjectRecord::BLOCKS,
-        2 * count,
-    )
+    let at = object_start(store, o);
+    past_unused(store, inside, at + ObjectRecord::BLOCKS, 2 * count)
 }
 
 // Whether a live object that has good fields passes; marks its blocks.
 fn blocks_pass(
     store: &[u8],
     inside: &[u8; 64],
-    o: usize,
+    o: ObjectNumber,
     count: usize,
     limit: usize,
     used: &mut [u8; 1024],
 ) -> bool
     requires { ⌜ Shaped (now store) ⌝ }
     requires { ⌜ Inside (now inside) ⌝ }
-    requires { ⌜ LiveAt (now store) o count ⌝ }
+    requires { ⌜ LiveAt (now store) (o .0) count ⌝ }
     requires { ⌜ limit ≡ blocks (now store) ⌝ }
-    requires { ⌜ MarkedBy (now store) o (now used) ⌝ }
-    ensures { λ r. ⌜ Told r (now (store .entry)) (ObjectPasses (now (store .entry)) o (now (used .exit)) count) ⌝ }
+    requires { ⌜ MarkedBy (now store) (o .0) (now used) ⌝ }
+    ensures { λ r. ⌜ Told r (now (store .entry)) (ObjectPasses (now (store .entry)) (o .0) (now (used .exit)) count) ⌝ }
 {
     if !mark_fours(store, o, count, limit, used) {
         return false;
@@ -252,33 +229,32 @@ fn blocks_pass(
 pub fn object_uses(
     store: &[u8],
     inside: &[u8; 64],
-    o: usize,
+    o: ObjectNumber,
     limit: usize,
     used: &mut [u8; 1024],
 ) -> Uses
     requires { ⌜ Shaped (now store) ⌝ }
     requires { ⌜ Inside (now inside) ⌝ }
-    requires { ⌜ o < objects (now store) ⌝ }
+    requires { ⌜ o .0 < objects (now store) ⌝ }
     requires { ⌜ limit ≡ blocks (now store) ⌝ }
-    requires { ⌜ MarkedBy (now store) o (now used) ⌝ }
-    ensures { λ r. ⌜ Counted r (now (store .entry)) (ObjectPasses (now (store .entry)) o (now (used .exit))) ⌝ }
+    requires { ⌜ MarkedBy (now store) (o .0) (now used) ⌝ }
+    ensures { λ r. ⌜ Counted r (now (store .entry)) (ObjectPasses (now (store .entry)) (o .0) (now (used .exit))) ⌝ }
 {
-    let kind = kind_of(store, o);
-    if kind == Kind::FREE {
+    if kind_of(store, o) == Kind::FREE {
+        let at = object_start(store, o);
         if !is_zero(
             store,
-            Image::OBJECTS_HEAD + ObjectRecord::BYTES * o + ObjectRecord::MODE,
-            ObjectRecord::BYTES - 8,
+            at + ObjectRecord::MODE,
+            ObjectRecord::BYTES - ObjectRecord::MODE,
         ) {
             return Uses::Bad;
         }
         return Uses::Blocks(0);
     }
-    let size = size_of(store, o);
-    if !good_fields(store, o, kind, size) {
+    if !good_fields(store, o) {
         return Uses::Bad;
     }
-    let count = ((size + 511) / 512) as usize;
+    let count = need(size_of(store, o) as usize);
     if !blocks_pass(store, inside, o, count, limit, used) {
         return Uses::Bad;
     }

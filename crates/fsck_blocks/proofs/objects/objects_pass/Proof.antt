@@ -1,29 +1,32 @@
 use native.Mathlib.Omega.{arith}
-use mathlib.Core.Path.{_≡_, refl, sym}
+use mathlib.Core.Path.{_≡_, refl}
 use Prim.Native.Nat.{_-_, _*_, _≤_, zero-le}
 use mathlib.Core.Bool.{true}
-use Rattle.spec.specs.Count.{every}
-use Rattle.laws.proofs.Count.{every-more}
+use lib.ListN.{length}
+use Rattle.kinds.specs.Numbers.{fileBlocks}
+use Rattle.spec.specs.Count.{sum, every}
+use Rattle.spec.specs.Room.{held}
+use Rattle.laws.proofs.Count.{sum-more, every-more}
 use Rattle.spec.specs.Check.{goodObject}
 use Rattle.fsck_objects.specs.Objects.{MarkedBy}
 use Rattle.fsck_objects.proofs.Passes.{told-false}
-use Rattle.fsck_blocks.proofs.Places.{mark-none, marks-are, placesBelow, places-none, places-next, told-all}
+use Rattle.fsck_blocks.proofs.Places.{mark-none, marks-are, told-all}
 use borrow.Author.Needs.{needs}
 use Rattle.fsck_blocks.proofs.objects.objects_pass.Statement.{statement}
 use Rattle.fsck_blocks.proofs.objects.objects_pass.Tie as tie
 
 abbrev Inv-loop : tie.InvT-loop
-Inv-loop store inside count limit used₀ total₀ o₀ used total o = (o ≤ count) × (total ≡ placesBelow store o) × (total ≤ 16 * o) × MarkedBy store o
+Inv-loop store inside count limit used₀ total₀ o₀ used total o = (o ≤ count) × (total ≡ sum o (λ i. length (held store i))) × (total ≤ fileBlocks * o) × MarkedBy store o
     used × (every o (goodObject store) ≡ true)
 
 abbrev μ-loop : tie.MeasureT-loop
 μ-loop store inside count limit used₀ total₀ o₀ used total o = count - o
 
 loop-holds : tie.Need-loop-holds Inv-loop μ-loop
-unfolding every
+unfolding every sum
 loop-holds c =
     let st = c .before in
-    (zero-le, sym (places-none (st .args .store .now)), zero-le, mark-none (st .args .store .now) (st .args .used .now) (st .pre .1 .1 .1 .1), refl)
+    (zero-le, refl, zero-le, mark-none (st .args .store .now) (st .args .used .now) (st .pre .1 .1 .1 .1), refl)
 
 object-uses-requires : tie.Need-object-uses-requires Inv-loop μ-loop
 object-uses-requires c κs =
@@ -56,9 +59,9 @@ loop-again c =
     let l = c .before .before .before .before .before .before in
     let s = c .before .before .before .before .before .before .before .before .args .store .now in
     let f = c .before .before .before .object-uses .ensures .yes _ (c .before .found .given .1) in
-    let p = places-next s (l .loop .o) _ (f .places) in (
+    let p = sum-more (l .loop .o) (λ i. length (held s i)) in (
       omega arith,
-      omega (arith, l .loop .inv .1),
+      omega (arith, l .loop .inv .1, f .has),
       omega (arith, f .few, l .loop .inv .2),
       f .map,
       every-more (goodObject s) (l .loop .o) (l .loop .inv .4) (f .good),
@@ -76,7 +79,7 @@ returns-2 c =
     let st = c .before .before .before .before .before in
     let s = st .args .store .now in
     let e : l .loop .o ≡ st .args .count = omega arith in
-    told-all s (l .loop .used) (l .loop .total) (c .marked .result) (st .args .count) (st .args .limit) (st .pre .1 .1 .0) (st .pre .1 .1 .1 .0)
+    told-all s (l .loop .used) (l .loop .total) (c .marked .result) (st .args .count) (st .args .limit) (st .pre .0) (st .pre .1 .1 .0) (st .pre .1 .1 .1 .0)
     (rw e at (l .loop .inv .1)) (rw e at (l .loop .inv .3)) (rw e at (l .loop .inv .4)) (c .marked .ensures)
 
 pub objects-pass-spec : {M : Type 1} → statement M

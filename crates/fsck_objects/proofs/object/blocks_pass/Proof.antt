@@ -34,7 +34,7 @@ returns-3 c =
     let st = c .before .before .before .before .before .before .before .before in
     let a = st .args in
     let m = c .before .before .mark-last .ensures .yes (not-false _ (c .before .if2 .left)) in
-    told-live (a .store .now) (a .o) (a .count) _ (c .rest-unused .result) (st .pre .1 .1 .0) m (c .rest-unused .ensures)
+    told-live (a .store .now) (a .o .0) (a .count) _ (c .rest-unused .result) (st .pre .1 .1 .0) m (c .rest-unused .ensures)
 
 pub blocks-pass-spec : {M : Type 1} → statement M
 blocks-pass-spec =

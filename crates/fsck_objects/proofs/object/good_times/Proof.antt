@@ -5,11 +5,8 @@ use Rattle.spec.specs.Image.{objectAt, objectFrom, timeAt}
 use Rattle.fsck_objects.proofs.object.good_times.Statement.{statement}
 use Rattle.fsck_objects.proofs.object.good_times.Tie as tie
 
-mul-at : tie.Need-mul-at
-mul-at c = search needs
-
-add-at : tie.Need-add-at
-add-at c = search needs
+object-start-requires : tie.Need-object-start-requires
+object-start-requires c κs = search needs
 
 add-get-u32 : tie.Need-add-get-u32
 add-get-u32 c = search needs
@@ -22,7 +19,7 @@ get-u32-requires c κs = search needs
 
 returns : tie.Need-returns
 unfolding goodTime objectAt objectFrom timeAt
-returns c = rw (← c .before .get-u32 .ensures, le-ltb _ _ (c .if1 .taken))
+returns c = rw (← c .before .before .object-start .ensures, ← c .before .get-u32 .ensures, le-ltb _ _ (c .if1 .taken))
 
 add-get-u32-3 : tie.Need-add-get-u32-3
 add-get-u32-3 c = search needs
@@ -36,6 +33,7 @@ get-u32-requires-2 c κs = search needs
 returns-2 : tie.Need-returns-2
 unfolding goodTime objectAt objectFrom timeAt
 returns-2 c = rw (
+  ← c .before .before .before .before .object-start .ensures,
   ← c .before .before .before .get-u32 .ensures,
   lt-ltb _ _ (c .before .before .if1 .left),
   ← c .before .get-u322 .ensures,
@@ -54,6 +52,7 @@ get-u32-requires-3 c κs = search needs
 returns-3 : tie.Need-returns-3
 unfolding goodTime objectAt objectFrom timeAt
 returns-3 c = rw (
+  ← c .before .before .before .before .before .object-start .ensures,
   ← c .before .before .before .before .get-u32 .ensures,
   lt-ltb _ _ (c .before .before .before .if1 .left),
   ← c .before .before .get-u322 .ensures,
@@ -65,8 +64,7 @@ pub good-times-spec : {M : Type 1} → statement M
 good-times-spec =
     tie.close
     (tie.spec
-    mul-at
-    add-at
+    object-start-requires
     add-get-u32
     add-get-u32-2
     get-u32-requires

@@ -10,7 +10,7 @@ use Rattle.fsck_objects.proofs.object.mark_fours.Statement.{statement}
 use Rattle.fsck_objects.proofs.object.mark_fours.Tie as tie
 
 abbrev Inv-loop : tie.InvT-loop
-Inv-loop store o count limit used₀ k₀ used k = (k ≤ count / 4) × MarkedTo store o (4 * k) used
+Inv-loop store o count limit used₀ k₀ used k = (k ≤ count / 4) × MarkedTo store (o .0) (4 * k) used
 
 abbrev μ-loop : tie.MeasureT-loop
 μ-loop store o count limit used₀ k₀ used k = count / 4 - k

@@ -9,7 +9,7 @@ use Rattle.fsck_objects.proofs.object.mark_last.Statement.{statement}
 use Rattle.fsck_objects.proofs.object.mark_last.Tie as tie
 
 abbrev Inv-loop : tie.InvT-loop
-Inv-loop store o count limit used₀ k₀ used k = (k ≤ count) × MarkedTo store o k used
+Inv-loop store o count limit used₀ k₀ used k = (k ≤ count) × MarkedTo store (o .0) k used
 
 abbrev μ-loop : tie.MeasureT-loop
 μ-loop store o count limit used₀ k₀ used k = count - k
@@ -28,7 +28,7 @@ returns c =
     let l = c .before .before .before in
     let st = c .before .before .before .before .before in
     let a = st .args in
-    told-false (mark-out (a .store .now) (a .o) (a .count) (l .loop .k) (st .pre .0) (st .pre .1 .0) (omega arith)
+    told-false (mark-out (a .store .now) (a .o .0) (a .count) (l .loop .k) (st .pre .0) (st .pre .1 .0) (omega arith)
     (omega (arith, c .before .block-of .ensures)))
 
 element-write-used : tie.Need-element-write-used Inv-loop μ-loop
@@ -46,8 +46,8 @@ loop-again c =
     let st = c .before .before .before .before .before in
     let a = st .args in (
       omega arith,
-      mark-more (a .store .now) (a .o) (a .count) (l .loop .k) (st .pre .0) (st .pre .1 .0) (omega arith) (l .loop .used)
-          (l .loop .inv .1) (c .before .block-of .result) (c .before .block-of .ensures) (omega arith),
+      mark-more (a .store .now) (a .o .0) (a .count) (l .loop .k) (st .pre .0) (st .pre .1 .0) (omega arith) (l .loop .used)
+          (l .loop .inv .1) (c .before .block-of .result .0) (c .before .block-of .ensures) (omega arith),
     )
 
 returns-2 : tie.Need-returns-2 Inv-loop μ-loop

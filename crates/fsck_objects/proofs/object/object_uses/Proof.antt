@@ -1,8 +1,9 @@
 use native.Mathlib.Omega.{arith}
 use borrow.Author.Tests.{not-true, not-false}
 use mathlib.Core.Path.{sym, ap, _∙_}
-use Prim.Native.Nat.{_+_, _/_}
-use Rattle.spec.specs.Room.{need}
+use Prim.Native.Nat.{_≤_}
+use Rattle.kinds.specs.Numbers.{mostFileBytes}
+use Rattle.spec.specs.Room.{need, sizeOf}
 use Rattle.spec.specs.Check.{goodFree}
 use Rattle.fsck_objects.specs.Objects.{LiveAt}
 use Rattle.fsck_objects.proofs.Whole.{live-yes, live-no, fields-need, fields-size, bad-fields, free-passes, free-fails, counted-bad, counted-blocks}
@@ -10,16 +11,21 @@ use borrow.Author.Needs.{needs}
 use Rattle.fsck_objects.proofs.object.object_uses.Statement.{statement}
 use Rattle.fsck_objects.proofs.object.object_uses.Tie as tie
 
--- what is known of a live object with good fields
-live-at : (n : tie.Else3) → LiveAt (n .before .before .before .before .before .before .args .store .now)
-    (n .before .before .before .before .before .before .args .o) ((n .before .before .size-of .result + 511) / 512)
-live-at n =
-    let st = n .before .before .before .before .before .before in
-    let f = sym (n .before .good-fields .ensures) ∙ not-false _ (n .if3 .left) in
-    let e = ap need (n .before .before .size-of .ensures) in
+-- the size of a live object with good fields
+small : (c : tie.After-size-of) → c .size-of .result ≤ mostFileBytes
+unfolding sizeOf
+small c = rw (c .size-of .ensures) (fields-size _ (sym (c .before .before .good-fields .ensures) ∙ not-false _ (c .before .if3 .left)))
+
+-- what is known of it
+live-at : (c : tie.After-need) → LiveAt (c .before .before .before .before .before .before .before .args .store .now) (c .before .before .before .before .before .before .before .args .o .0) (c .need .result)
+unfolding sizeOf
+live-at c =
+    let st = c .before .before .before .before .before .before .before in
+    let f = sym (c .before .before .before .good-fields .ensures) ∙ not-false _ (c .before .before .if3 .left) in
+    let e = c .need .ensures ∙ ap need (c .before .size-of .ensures) in
     record {
       below = st .pre .1 .1 .0;
-      live = live-yes _ _ (λ e. n .before .before .before .if1 .left (n .before .before .before .before .kind-of .ensures ∙ e));
+      live = live-yes _ _ (λ e. c .before .before .before .before .if1 .left (c .before .before .before .before .before .kind-of .ensures ∙ e));
       fields = f;
       needs = e;
       most = rw e (fields-need _ f);
@@ -28,14 +34,11 @@ live-at n =
 kind-of-requires : tie.Need-kind-of-requires
 kind-of-requires c κs = search needs
 
-mul-is-zero : tie.Need-mul-is-zero
-mul-is-zero c = search needs
+object-start-requires : tie.Need-object-start-requires
+object-start-requires c κs = search needs
 
 add-is-zero : tie.Need-add-is-zero
 add-is-zero c = search needs
-
-add-is-zero-2 : tie.Need-add-is-zero-2
-add-is-zero-2 c = search needs
 
 sub-is-zero : tie.Need-sub-is-zero
 sub-is-zero c = search needs
@@ -46,50 +49,45 @@ is-zero-requires c κs = search needs
 returns : tie.Need-returns
 unfolding goodFree
 returns c =
-    let st = c .before .before .before .before .before in
+    let st = c .before .before .before .before .before .before in
     let a = st .args in
-    counted-bad (free-fails (a .store .now) (a .o) (st .pre .1 .1 .0)
-    (live-no _ _ (sym (c .before .before .before .kind-of .ensures) ∙ c .before .before .if1 .taken))
-    (sym (c .before .is-zero .ensures) ∙ not-true _ (c .if2 .taken)))
+    counted-bad (free-fails (a .store .now) (a .o .0) (st .pre .1 .1 .0)
+    (live-no _ _ (sym (c .before .before .before .before .kind-of .ensures) ∙ c .before .before .before .if1 .taken))
+    (sym (rw (c .before .before .object-start .ensures) at (c .before .is-zero .ensures)) ∙ not-true _ (c .if2 .taken)))
 
 returns-2 : tie.Need-returns-2
 unfolding goodFree
 returns-2 c =
+    let st = c .before .before .before .before .before .before in
+    let a = st .args in
+    counted-blocks 0 (free-passes (a .store .now) (a .o .0) (a .used .now) (omega (arith, st .pre .0 .exact))
+    (live-no _ _ (sym (c .before .before .before .before .kind-of .ensures) ∙ c .before .before .before .if1 .taken))
+    (sym (rw (c .before .before .object-start .ensures) at (c .before .is-zero .ensures)) ∙ not-false _ (c .if2 .left)) (st .pre .1 .1 .1 .1))
+
+good-fields-requires : tie.Need-good-fields-requires
+good-fields-requires c κs = search needs
+
+returns-3 : tie.Need-returns-3
+returns-3 c =
     let st = c .before .before .before .before .before in
     let a = st .args in
-    counted-blocks 0 (free-passes (a .store .now) (a .o) (a .used .now)
-    (live-no _ _ (sym (c .before .before .before .kind-of .ensures) ∙ c .before .before .if1 .taken))
-    (sym (c .before .is-zero .ensures) ∙ not-false _ (c .if2 .left)) (st .pre .1 .1 .1 .1))
+    counted-bad (bad-fields (a .store .now) (a .o .0) (st .pre .1 .1 .0)
+    (live-yes _ _ (λ e. c .before .before .if1 .left (c .before .before .before .kind-of .ensures ∙ e)))
+    (sym (c .before .good-fields .ensures) ∙ not-true _ (c .if3 .taken)))
 
 size-of-requires : tie.Need-size-of-requires
 size-of-requires c κs = search needs
 
-good-fields-requires : tie.Need-good-fields-requires
-good-fields-requires c κs = (omega arith, (c .before .before .kind-of .ensures, c .size-of .ensures))
+cast-need : tie.Need-cast-need
+cast-need c = search needs
 
-returns-3 : tie.Need-returns-3
-returns-3 c =
-    let st = c .before .before .before .before .before .before in
-    let a = st .args in
-    counted-bad (bad-fields (a .store .now) (a .o) (st .pre .1 .1 .0)
-    (live-yes _ _ (λ e. c .before .before .before .if1 .left (c .before .before .before .before .kind-of .ensures ∙ e)))
-    (sym (c .before .good-fields .ensures) ∙ not-true _ (c .if3 .taken)))
-
-add-count : tie.Need-add-count
-add-count c =
-    let f = fields-size _ (sym (c .before .good-fields .ensures) ∙ not-false _ (c .if3 .left)) in
-    omega (arith, c .before .before .size-of .ensures)
-
-cast-count : tie.Need-cast-count
-cast-count c =
-    let f = fields-size _ (sym (c .before .good-fields .ensures) ∙ not-false _ (c .if3 .left)) in
-    omega (arith, c .before .before .size-of .ensures)
+need-requires : tie.Need-need-requires
+need-requires c κs = small c
 
 blocks-pass-requires : tie.Need-blocks-pass-requires
 blocks-pass-requires c κs =
-    let n = c .before in
-    let st = c .before .before .before .before .before .before .before in
-    (st .pre .0, (st .pre .1 .0, (live-at n, (st .pre .1 .1 .1 .0, st .pre .1 .1 .1 .1))))
+    let st = c .before .before .before .before .before .before .before .before in
+    (st .pre .0, (st .pre .1 .0, (live-at (c .before), (st .pre .1 .1 .1 .0, st .pre .1 .1 .1 .1))))
 
 returns-4 : tie.Need-returns-4
 returns-4 c = counted-bad (c .before .blocks-pass .ensures .no (not-true _ (c .if4 .taken)))
@@ -102,18 +100,17 @@ object-uses-spec =
     tie.close
     (tie.spec
     kind-of-requires
-    mul-is-zero
+    object-start-requires
     add-is-zero
-    add-is-zero-2
     sub-is-zero
     is-zero-requires
     returns
     returns-2
-    size-of-requires
     good-fields-requires
     returns-3
-    add-count
-    cast-count
+    size-of-requires
+    cast-need
+    need-requires
     blocks-pass-requires
     returns-4
     returns-5)
