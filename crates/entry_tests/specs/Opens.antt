@@ -3,6 +3,7 @@ use Prim.Native.Nat.{ℕ, _≤_}
 use mathlib.Core.List.{List}
 use mathlib.Core.Path.{_≡_}
 use lib.ListN.{length}
+use Rattle.kinds.specs.Numbers.{leastReplyBytes}
 use Rattle.kinds.specs.declared.call.Header.{Header}
 use Rattle.kinds.specs.declared.object.Context.{Context}
 use Rattle.spec.specs.Arguments.{arguments}
@@ -19,7 +20,7 @@ use Rattle.entry_tests.specs.declared.Opened.the-variants as Opened
 -- procedure asks of the store, the map and the clock holds
 pub record Hears (call : List ℕ) (s : Store) (space : List ℕ) (c : Context) (used : List ℕ) (h : Header) (at : ℕ) (a : ArgumentsRead) : Type 0 where
   pub serves : serve call s space c ≡ send space (respond s c call h at)
-  pub room : 4224 ≤ length space
+  pub room : leastReplyBytes ≤ length space
   pub ready : Ready s used c
   pub read : argumentsOf a ≡ arguments (namedProcedure h) call at
 

@@ -1,4 +1,5 @@
 // The tests of a call before anything is written.
+ghost use Rattle.kinds.specs.Numbers.{mostBlocks};
 ghost use Rattle.fsck_objects.specs.Objects.{Blank};
 ghost use Rattle.entry_tests.specs.Opens.{Opens};
 use call_arguments::reading::ArgumentsRead;
@@ -27,7 +28,7 @@ pub fn open(
     context: Context,
     used: &mut [u8; 1024],
 ) -> Opened
-    requires { ⌜ Blank 1024 (now used) ⌝ }
+    requires { ⌜ Blank mostBlocks (now used) ⌝ }
     ensures { λ r. ⌜ Opens (now (call .entry)) (now (store .entry)) (now (reply .entry)) context (now (used .exit)) r ⌝ }
 {
     let clock = context.clock;

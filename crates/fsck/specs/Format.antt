@@ -6,6 +6,7 @@ use mathlib.Core.List.{List}
 use lib.Dec.{eqb, ltb}
 use lib.ListN.{length}
 use Rattle.kinds.specs.Layout.{stampOffset, objectCountOffset}
+use Rattle.kinds.specs.Numbers.{nanosecondsEnd}
 use Rattle.kinds.specs.Objects.{rootObject}
 use Rattle.kinds.specs.declared.object.Time.{Time}
 use Rattle.spec.specs.Bytes.{overlay, zeros, bytesOf}
@@ -15,7 +16,7 @@ use Rattle.spec.specs.Serve.{Formatted}
 
 -- 3, then 6, then 0
 unfoldable pub answerFor : ℕ → ℕ → ℕ → ℕ → ℕ → ℕ
-answerFor length p q r nanoseconds = cond (ltb nanoseconds 1000000000) (cond (goodCounts p q r) (cond (eqb length (imageLength p q r)) 0 6) 6) 3
+answerFor length p q r nanoseconds = cond (ltb nanoseconds nanosecondsEnd) (cond (goodCounts p q r) (cond (eqb length (imageLength p q r)) 0 6) 6) 3
 
 -- the volume, the number of objects and the root, and all else zero
 unfoldable pub frontOf : Store → ℕ → ℕ → Time → Store

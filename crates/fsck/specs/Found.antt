@@ -1,9 +1,10 @@
 -- What the check answers: that the store fails, or its counts.
 use Prim.Native.Nat.{ℕ, _+_, _*_, _≤_}
 use mathlib.Core.Path.{_≡_}
-use mathlib.Core.Bool.{Bool, true, false, cond}
+use mathlib.Core.Bool.{Bool, true, false}
 use lib.ListN.{length}
 use Rattle.kinds.specs.Layout.{blocksHead, objectLength}
+use Rattle.kinds.specs.Numbers.{mostObjects}
 use Rattle.spec.specs.Image.{Store, volumes, objects, names, blocks}
 use Rattle.spec.specs.Check.{goodShape}
 use Rattle.fsck.specs.declared.shape.Counts.{Counts}
@@ -27,5 +28,5 @@ pub record First (s : Store) (p : ℕ) : Type 0 where
   pub one : volumes s ≡ 1
   pub count : p ≡ objects s
   pub least : 1 ≤ p
-  pub most : p ≤ 64
+  pub most : p ≤ mostObjects
   pub long : blocksHead + objectLength * p ≤ length s

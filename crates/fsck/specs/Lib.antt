@@ -1,4 +1,4 @@
 pub mod Found
 pub mod Tree
-pub mod Checked
+pub mod Verdict
 pub mod Format

@@ -1,10 +1,11 @@
 -- The steps from an object to the root.
-use Prim.Native.Nat.{ℕ, _+_, _-_, _≤_, _<_}
+use Prim.Native.Nat.{ℕ, _-_, _≤_, _<_}
 use mathlib.Core.Path.{_≡_}
 use mathlib.Core.List.{List}
 use lib.ListN.{length, getD}
-use Rattle.spec.specs.Image.{Store, objects}
 use mathlib.Core.Bool.{true}
+use Rattle.kinds.specs.Numbers.{mostObjects}
+use Rattle.spec.specs.Image.{Store, objects}
 use Rattle.spec.specs.Count.{every}
 use Rattle.spec.specs.Check.{isNamedOnce, leadsToRoot}
 use Rattle.spec.specs.Room.{parent, above}
@@ -18,15 +19,15 @@ pub record Depth (s : Store) (o d : ℕ) : Type 0 where
 pub record Parents (s : Store) (p : ℕ) (parents : List ℕ) : Type 0 where
   pub count : p ≡ objects s
   pub least : 1 ≤ p
-  pub most : p ≤ 64
-  pub long : length parents ≡ 64
+  pub most : p ≤ mostObjects
+  pub long : length parents ≡ mostObjects
   pub are : (o : ℕ) → o < p → parent s o ≡ getD parents o 0 - 1
   pub range : (o : ℕ) → getD parents o 0 ≤ p
   pub root : getD parents 0 0 ≡ 0
 
 -- the map of known steps: of the root, and what else has been found
 pub record Known (s : Store) (p : ℕ) (depths : List ℕ) : Type 0 where
-  pub long : length depths ≡ 64
+  pub long : length depths ≡ mostObjects
   pub root : getD depths 0 0 ≡ 1
   pub are : (o : ℕ) → o < p → (getD depths o 0 ≡ 0 → ⊥) → Depth s o (getD depths o 0 - 1)
 

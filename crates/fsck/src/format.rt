@@ -2,6 +2,7 @@
 ghost use mathlib.Core.Path.{_≡_};
 ghost use Prim.Native.Nat.{_≤_};
 ghost use lib.ListN.{length};
+ghost use Rattle.kinds.specs.Numbers.{mostObjects, mostNameRecords};
 ghost use Rattle.spec.specs.Image.{objectStart};
 ghost use Rattle.spec.specs.Check.{imageLength};
 ghost use Rattle.spec.specs.Serve.{formatted, format};
@@ -62,13 +63,15 @@ fn write_front(store: &mut [u8], stamp: u32, p: u32, clock: Time)
 // Writes every byte of a store with these counts, which are in range, and of that length.
 fn write_store(store: &mut [u8], stamp: u32, p: u32, q: u32, r: u32, clock: Time)
     requires { ⌜ 1 ≤ p ⌝ }
-    requires { ⌜ p ≤ 64 ⌝ }
-    requires { ⌜ q ≤ 128 ⌝ }
+    requires { ⌜ p ≤ mostObjects ⌝ }
+    requires { ⌜ q ≤ mostNameRecords ⌝ }
     requires { ⌜ length (now store) ≡ imageLength p q r ⌝ }
     ensures { λ _. ⌜ now (store .exit) ≡ formatted stamp p q r clock ⌝ }
 {
     let names = Image::OBJECTS_HEAD + ObjectRecord::BYTES * p as usize;
-    let blocks = names + 4 + NameRecord::BYTES * q as usize;
+    let blocks = Image::NAMES_HEAD
+        + ObjectRecord::BYTES * p as usize
+        + NameRecord::BYTES * q as usize;
     write_front(store, stamp, p, clock);
     wire::put_u32(store, names, q);
     wire::put_u32(store, blocks, r);

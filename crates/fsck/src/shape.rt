@@ -25,7 +25,7 @@ pub fn shape(store: &[u8]) -> Found
     ensures { λ r. ⌜ r ≡ shapeOf (now (store .entry)) ⌝ }
 {
     let length = store.len();
-    if length < 20 {
+    if length < Image::BLOCKS_HEAD {
         return Found::Bad;
     }
     if wire::get_u32(store, 0) != 1 {

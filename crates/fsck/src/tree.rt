@@ -10,9 +10,8 @@ ghost use Rattle.fsck_objects.specs.Objects.{Blank};
 ghost use Rattle.fsck_names.specs.Named.{NamedBy};
 ghost use Rattle.fsck.specs.Tree.{Parents, Known, Steps, Depth, Leads, TreePasses};
 use fsck_names::distinct::index;
-use kinds::numbers::Kind;
 use kinds::numbers::ObjectNumber;
-use store_records::object::kind_of;
+use store_records::object::is_live;
 
 // The parent of an object by the map.
 fn parent_of(parents: &[u8; 64], o: ObjectNumber) -> ObjectNumber
@@ -92,7 +91,7 @@ fn leads_by_steps(
         return true;
     }
     if parents[i] == 0 {
-        return kind_of(store, o) == Kind::FREE;
+        return !is_live(store, o);
     }
     let count = steps(store, p, parents, depths, o);
     if count > p {

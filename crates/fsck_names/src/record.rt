@@ -11,29 +11,29 @@ ghost use Rattle.fsck_objects.specs.Objects.{Inside};
 ghost use Rattle.fsck_names.specs.Record.{isDirectoryIn, isLiveIn};
 use crate::text::good_text;
 use kinds::layout::NameRecord;
-use kinds::numbers::Kind;
 use kinds::numbers::Limit;
 use kinds::numbers::NameNumber;
 use kinds::numbers::ObjectNumber;
 use store_places::name_place;
-use store_records::object::kind_of;
+use store_records::object::is_directory;
+use store_records::object::is_live;
 
 // Whether o is the number of a directory.
-fn is_directory(store: &[u8], p: usize, o: ObjectNumber) -> bool
+fn is_directory_in(store: &[u8], p: usize, o: ObjectNumber) -> bool
     requires { ⌜ Shaped (now store) ⌝ }
     requires { ⌜ p ≡ objects (now store) ⌝ }
     ensures { λ r. ⌜ r ≡ isDirectoryIn (now (store .entry)) (o .0) ⌝ }
 {
-    o.0 < p && kind_of(store, o) == Kind::DIRECTORY
+    o.0 < p && is_directory(store, o)
 }
 
 // Whether o is the number of a live object.
-fn is_live(store: &[u8], p: usize, o: ObjectNumber) -> bool
+fn is_live_in(store: &[u8], p: usize, o: ObjectNumber) -> bool
     requires { ⌜ Shaped (now store) ⌝ }
     requires { ⌜ p ≡ objects (now store) ⌝ }
     ensures { λ r. ⌜ r ≡ isLiveIn (now (store .entry)) (o .0) ⌝ }
 {
-    o.0 < p && kind_of(store, o) != Kind::FREE
+    o.0 < p && is_live(store, o)
 }
 
 // Whether name record n, of a length other than 0, passes by itself.
@@ -54,11 +54,11 @@ fn good_used(store: &[u8], inside: &[u8; 64], p: usize, n: NameNumber, len: usiz
         return false;
     }
     let directory = ObjectNumber(wire::get_u32(store, at) as usize);
-    if !is_directory(store, p, directory) {
+    if !is_directory_in(store, p, directory) {
         return false;
     }
     let child = ObjectNumber(wire::get_u32(store, at + NameRecord::CHILD) as usize);
-    is_live(store, p, child)
+    is_live_in(store, p, child)
 }
 
 // The length that name record n states; 0 where it is free.

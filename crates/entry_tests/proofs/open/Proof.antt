@@ -2,8 +2,9 @@ use mathlib.Core.Path.{sym, ap, _∙_}
 use native.Mathlib.Omega.{arith}
 use borrow.Author.Needs.{needs}
 use Rattle.fsck.proofs.Steps.{blank-of}
+use Rattle.fsck.proofs.Verdict.{bad-fails, good-passes}
 use Rattle.rpc.specs.Meaning.{headerOf}
-use Rattle.entry_tests.proofs.Tests.{fails, passed-check, small-space, bad-clock, long-call, bad-store, bad-header, hears}
+use Rattle.entry_tests.proofs.Tests.{small-space, bad-clock, long-call, bad-store, bad-header, hears}
 use Rattle.entry_tests.proofs.open.Statement.{statement}
 use Rattle.entry_tests.proofs.open.Tie as tie
 
@@ -37,7 +38,7 @@ returns-4 c =
     let s = a .store .now in
     bad-store (a .call .now) s (a .reply .now) (a .context) (c .before .before .before .before .before .before .before .before .if1 .left)
     (c .before .before .before .before .before .before .if2 .left) (c .before .before .before .before .before .if3 .left)
-    (fails s (sym (c .enum-told2 .given .1) ∙ c .before .before .check-store .ensures .is))
+    (bad-fails s (sym (c .enum-told2 .given .1) ∙ c .before .before .check-store .ensures .is))
 
 read-call-requires : tie.Need-read-call-requires
 read-call-requires c κs = search needs
@@ -52,7 +53,7 @@ returns-5 : tie.Need-returns-5
 returns-5 c =
     let a = c .before .before .before .before .before .before .before .before .before .before .before .before .before .before .before .before .args in
     let s = a .store .now in
-    let e = passed-check s _ (sym (c .before .before .before .enum-told .given .1) ∙ c .before .before .before .before .before .check-store .ensures .is) in
+    let e = good-passes s _ (sym (c .before .before .before .enum-told .given .1) ∙ c .before .before .before .before .before .check-store .ensures .is) in
     bad-header (a .call .now) s (a .reply .now) (a .context)
     (c .before .before .before .before .before .before .before .before .before .before .before .if1 .left)
     (c .before .before .before .before .before .before .before .before .before .if2 .left)
@@ -64,7 +65,7 @@ returns-6 c =
     let a = c .before .before .before .before .before .before .before .before .before .before .before .before .before .before .before .before .before .args in
     let s = a .store .now in
     let f = c .before .before .before .before .before .before .check-store .ensures in
-    let e = passed-check s _ (sym (c .before .before .before .before .enum-told .given .1) ∙ f .is) in
+    let e = good-passes s _ (sym (c .before .before .before .before .enum-told .given .1) ∙ f .is) in
     let f₁ = c .before .before .before .read-call .ensures in
     hears (a .call .now) s (a .reply .now) (a .context)
     (c .before .before .before .before .before .before .before .before .before .before .before .before .if1 .left)

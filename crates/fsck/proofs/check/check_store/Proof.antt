@@ -1,7 +1,7 @@
 use mathlib.Core.Path.{sym, ap, _∙_}
 use native.Mathlib.Omega.{arith}
 use borrow.Author.Tests.{not-true, not-false}
-use Rattle.fsck.proofs.Verdict.{shape-no, shape-yes, root-yes, root-no, checked-bad, checked-good}
+use Rattle.fsck.proofs.Verdict.{shape-no, shape-yes, root-no, checked-bad, checked-good}
 use Rattle.fsck.specs.declared.shape.Counts.{Counts}
 use borrow.Author.Needs.{needs}
 use Rattle.fsck.proofs.check.check_store.Statement.{statement}
@@ -19,10 +19,10 @@ enum-told c = search needs
 returns : tie.Need-returns
 returns c =
     let a = c .before .before .before .before .args in
-    checked-bad (a .store .now) (a .used .now) (a .parents .now) (shape-no _ (sym (c .before .before .shape .ensures) ∙ c .enum-told .given .1))
+    checked-bad (a .store .now) (a .used .now) (shape-no _ (sym (c .before .before .shape .ensures) ∙ c .enum-told .given .1))
 
-kind-of-requires : tie.Need-kind-of-requires
-kind-of-requires c κs =
+is-directory-requires : tie.Need-is-directory-requires
+is-directory-requires c κs =
     let s = c .before .before .before .before .before .args .store .now in
     let k = c .before .found .given .0 .0 in
     let y = shape-yes s k (sym (c .before .before .before .shape .ensures) ∙ c .before .found .given .1) in
@@ -30,8 +30,8 @@ kind-of-requires c κs =
     omega (arith, t .some-object, t .exact)
 
 returns-2 : tie.Need-returns-2
-returns-2 c = checked-bad (c .before .before .before .before .before .before .before .args .store .now) _ _
-    (root-no (c .before .before .before .before .before .before .before .args .store .now) (λ e. c .if1 .taken (c .before .kind-of .ensures ∙ e)))
+returns-2 c = checked-bad (c .before .before .before .before .before .before .before .args .store .now) _
+    (root-no _ (sym (c .before .is-directory .ensures) ∙ not-true _ (c .if1 .taken)))
 
 inside-map-requires : tie.Need-inside-map-requires
 inside-map-requires c κs = search needs
@@ -53,7 +53,7 @@ objects-pass-requires c κs =
     )
 
 returns-3 : tie.Need-returns-3
-returns-3 c = checked-bad (c .before .before .before .before .before .before .before .before .before .before .before .before .args .store .now) _ _
+returns-3 c = checked-bad (c .before .before .before .before .before .before .before .before .before .before .before .before .args .store .now) _
     (c .before .objects-pass .ensures .no (not-true _ (c .if2 .taken)))
 
 names-and-tree-requires : tie.Need-names-and-tree-requires
@@ -77,7 +77,7 @@ names-and-tree-requires c κs =
 
 returns-4 : tie.Need-returns-4
 returns-4 c = checked-bad (c .before .before .before .before .before .before .before .before .before .before .before .before .before .before .before
-    .before .args .store .now) _ _ (c .before .names-and-tree .ensures .no (not-true _ (c .if3 .taken)))
+    .before .args .store .now) _ (c .before .names-and-tree .ensures .no (not-true _ (c .if3 .taken)))
 
 returns-5 : tie.Need-returns-5
 returns-5 c =
@@ -86,11 +86,11 @@ returns-5 c =
     let k = c .before .before .before .before .before .before .before .before .before .before .before .before .found .given .0 .0 in
     let y = shape-yes s k (sym (c .before .before .before .before .before .before .before .before .before .before .before .before .before .before
     .shape .ensures) ∙ c .before .before .before .before .before .before .before .before .before .before .before .before .found .given .1) in
-    let g = root-yes s (sym (c .before .before .before .before .before .before .before .before .before .before .kind-of .ensures) ∙
-    c .before .before .before .before .before .before .before .before .before .if1 .left) in
+    let g = sym (c .before .before .before .before .before .before .before .before .before .before .is-directory .ensures) ∙
+    not-false _ (c .before .before .before .before .before .before .before .before .before .if1 .left) in
     let o = rw (ap (λ (x : Counts). x .objects) (y .1)) at
     (c .before .before .before .before .before .objects-pass .ensures .yes (not-false _ (c .before .before .before .before .if2 .left))) in
-    checked-good s k _ _ (y .0) (y .1) g o (c .before .names-and-tree .ensures .yes (not-false _ (c .if3 .left)))
+    checked-good s k _ (y .0) (y .1) g o (c .before .names-and-tree .ensures .yes (not-false _ (c .if3 .left)))
 
 pub check-store-spec : {M : Type 1} → statement M
 check-store-spec =
@@ -100,7 +100,7 @@ check-store-spec =
     enum-known-found
     enum-told
     returns
-    kind-of-requires
+    is-directory-requires
     returns-2
     inside-map-requires
     objects-pass-requires

@@ -1,9 +1,8 @@
 use mathlib.Core.Path.{sym, ap, _∙_}
 use Prim.Native.Nat.{ℕ}
 use Rattle.fsck_objects.proofs.Passes.{told-true, told-false, fails-leads}
-use Rattle.fsck_objects.proofs.Whole.{live-yes, live-no}
-use borrow.Author.Tests.{eqb-true, eq-eqb}
-use Rattle.laws.proofs.Count.{by-bool, true-false}
+use borrow.Author.Tests.{not-true, not-false}
+use Rattle.laws.proofs.Count.{by-bool}
 use Rattle.spec.specs.Room.{isLive, above}
 use Rattle.fsck_names.proofs.Parents.{root-named, named-live, named-free, unnamed-fails, marked-free-fails}
 use Rattle.fsck.proofs.Steps.{below-p, parents-by, above-root, depth-most, leads-yes, leads-free, leads-no}
@@ -27,8 +26,8 @@ returns c =
 element-copy-out-if2 : tie.Need-element-copy-out-if2
 element-copy-out-if2 c = search needs
 
-kind-of-requires : tie.Need-kind-of-requires
-kind-of-requires c κs = search needs
+is-live-requires : tie.Need-is-live-requires
+is-live-requires c κs = search needs
 
 returns-2 : tie.Need-returns-2
 returns-2 c =
@@ -37,16 +36,16 @@ returns-2 c =
     let s = a .store .now in
     let h = below-p (a .o .0) (a .p) _ (st .pre .1 .0) (st .pre .1 .1 .1 .1) in
     let z = c .before .before .before .if1 .left in
-    let k = c .kind-of .ensures in
+    let k = c .is-live .ensures in
     record {
-      yes = λ e. let f = live-no s (a .o .0) (sym k ∙ eqb-true _ 0 e) in
+      yes = λ e. let f = sym k ∙ not-true _ e in
           record {
             known = st .pre .1 .1 .1 .0;
             named = named-free s (st .pre .0) (a .parents .now) (st .pre .1 .1 .0) (a .o .0) z f;
             leads = leads-free s (a .o .0) f;
           };
       no = λ e. unnamed-fails s (st .pre .0) (a .parents .now) (st .pre .1 .1 .0) (a .o .0) h z
-          (live-yes s (a .o .0) (λ q. true-false (sym (eq-eqb _ 0 (k ∙ q)) ∙ e))) (c .before .if2 .taken);
+          (sym k ∙ not-false _ e) (c .before .if2 .taken);
     }
 
 steps-requires : tie.Need-steps-requires
@@ -98,7 +97,7 @@ leads-by-steps-spec =
     (tie.spec
     returns
     element-copy-out-if2
-    kind-of-requires
+    is-live-requires
     returns-2
     steps-requires
     returns-3

@@ -42,8 +42,8 @@ get-u32-requires c κs = search needs
 cast-get-u32 : tie.Need-cast-get-u32
 cast-get-u32 c = search needs
 
-is-directory-requires : tie.Need-is-directory-requires
-is-directory-requires c κs = search needs
+is-directory-in-requires : tie.Need-is-directory-in-requires
+is-directory-in-requires c κs = search needs
 
 returns-3 : tie.Need-returns-3
 returns-3 c =
@@ -54,7 +54,7 @@ returns-3 c =
     sym (e ∙ rw (
       sym (c .before .before .before .before .good-text .ensures) ∙ not-false _ (c .before .before .before .if2 .left),
       ← c .before .before .get-u32 .ensures,
-      sym (c .before .is-directory .ensures) ∙ not-true _ (c .if3 .taken),
+      sym (c .before .is-directory-in .ensures) ∙ not-true _ (c .if3 .taken),
     ))
 
 add-get-u32 : tie.Need-add-get-u32
@@ -66,8 +66,8 @@ get-u32-requires-2 c κs = search needs
 cast-t13 : tie.Need-cast-t13
 cast-t13 c = search needs
 
-is-live-requires : tie.Need-is-live-requires
-is-live-requires c κs = search needs
+is-live-in-requires : tie.Need-is-live-in-requires
+is-live-in-requires c κs = search needs
 
 returns-4 : tie.Need-returns-4
 returns-4 c =
@@ -78,9 +78,9 @@ returns-4 c =
     sym (e ∙ rw (
       sym (c .before .before .before .before .before .before .good-text .ensures) ∙ not-false _ (c .before .before .before .before .before .if2 .left),
       ← c .before .before .before .before .get-u32 .ensures,
-      sym (c .before .before .before .is-directory .ensures) ∙ not-false _ (c .before .before .if3 .left),
+      sym (c .before .before .before .is-directory-in .ensures) ∙ not-false _ (c .before .before .if3 .left),
       ← c .before .get-u322 .ensures,
-      ← c .is-live .ensures,
+      ← c .is-live-in .ensures,
     ))
 
 pub good-used-spec : {M : Type 1} → statement M
@@ -94,10 +94,10 @@ good-used-spec =
     returns-2
     get-u32-requires
     cast-get-u32
-    is-directory-requires
+    is-directory-in-requires
     returns-3
     add-get-u32
     get-u32-requires-2
     cast-t13
-    is-live-requires
+    is-live-in-requires
     returns-4)
