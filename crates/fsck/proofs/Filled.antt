@@ -2,23 +2,24 @@
 use mathlib.Core.Path.{_≡_, _∙_}
 use mathlib.Core.Logic.{_≢_, by-cases}
 use mathlib.Core.List.{List}
-use Prim.Native.Nat.{ℕ, _+_, _≤_, _<_}
+use Prim.Native.Nat.{ℕ, _+_, _*_, _≤_, _<_}
 use native.Mathlib.Decide.{ℕ-discrete}
 use native.Mathlib.Omega.{arith}
 use lib.ListN.{length, getD, set, length-set}
 use lib.Seq.{getD-set-same, getD-set-other}
+use Rattle.kinds.specs.Numbers.{mostNameBytes}
 use Rattle.fsck_objects.specs.Objects.{Blank, Inside}
 
 -- the first n are 1 and the others 0
 pub record Filled (map : List ℕ) (n : ℕ) : Type 0 where
-  pub long : length map ≡ 64
+  pub long : length map ≡ 2 * mostNameBytes
   pub ones : (i : ℕ) → i < n → getD map i 0 ≡ 1
   pub zeros : (i : ℕ) → n ≤ i → getD map i 0 ≡ 0
 
-pub filled-none : (map : List ℕ) → Blank 64 map → Filled map 0
+pub filled-none : (map : List ℕ) → Blank (2 * mostNameBytes) map → Filled map 0
 filled-none map b = record { long = b .long; ones = λ i h. absurd (omega arith); zeros = λ i h. b .zero i }
 
-pub filled-more : (map : List ℕ) (n : ℕ) → n < 64 → Filled map n → Filled (set map n 1) (n + 1)
+pub filled-more : (map : List ℕ) (n : ℕ) → n < 2 * mostNameBytes → Filled map n → Filled (set map n 1) (n + 1)
 filled-more map n h f =
     record {
       long = simp length-set (f .long);
@@ -28,5 +29,5 @@ filled-more map n h f =
       zeros = λ i l. getD-set-other map n i 1 0 (λ e. absurd (omega arith)) ∙ f .zeros i (omega arith);
     }
 
-pub filled-all : (map : List ℕ) (n : ℕ) → n ≡ 32 → Filled map n → Inside map
+pub filled-all : (map : List ℕ) (n : ℕ) → n ≡ mostNameBytes → Filled map n → Inside map
 filled-all map n e f = record { long = f .long; ones = λ i h. f .ones i (omega arith); zeros = λ i h. f .zeros i (omega arith) }

@@ -1,25 +1,25 @@
 -- The bytes that format writes. Assumes nothing.
 use mathlib.Core.Path.{_≡_, refl, sym, ap, ap₂, _∙_}
-use mathlib.Core.Bool.{Bool, true, false, _&&_, cond, and-false}
+use mathlib.Core.Bool.{true, _&&_}
 use mathlib.Core.List.{List, [], _∷_, _++_, append-assoc, append-nil}
-use Prim.Native.Nat.{ℕ, zero, suc, _+_, _*_, _-_, _^_, _≤_, _<_}
+use Prim.Native.Nat.{ℕ, zero, suc, _+_, _*_, _-_, _≤_}
 use native.Mathlib.Omega.{arith}
 use lib.Dec.{eqb, leb, ltb}
-use lib.ListN.{length, take, drop, replicate, length-append, length-replicate}
+use lib.ListN.{length, take, drop, length-append, length-replicate}
 use lib.Seq.{take-append-add, drop-append-add, drop-length}
-use borrow.Author.Tests.{eqb-true, leb-true, ltb-true}
-use Rattle.kinds.specs.Layout.{objectsHead, namesHead, objectLength, nameRecordLength}
+use borrow.Author.Tests.{eqb-true, leb-true}
+use Rattle.kinds.specs.Layout.{stampOffset, objectCountOffset, objectsHead, namesHead, objectLength, nameRecordLength, blockLength}
+use Rattle.kinds.specs.Numbers.{nanosecondsEnd, mostObjects, mostNameRecords, mostBlocks}
 use Rattle.kinds.specs.Objects.{rootObject}
 use Rattle.kinds.specs.declared.object.Time.{Time}
 use Rattle.spec.specs.Bytes.{overlay, zeros, bytesOf, words}
 use Rattle.spec.specs.Image.{Store, objectBytes, putObject, objectStart}
-use Rattle.spec.specs.Check.{goodCounts, imageLength, goodTime, passes}
-use Rattle.spec.specs.Serve.{formatted, Formatted, format}
+use Rattle.spec.specs.Check.{goodCounts, imageLength, goodTime}
+use Rattle.spec.specs.Serve.{formatted, format}
 use Rattle.laws.proofs.Bytes.{bytes-length, overlay-more}
-use Rattle.laws.proofs.Count.{by-bool, true-false, and-both}
+use Rattle.laws.proofs.Count.{by-bool, and-both}
 use Rattle.laws.proofs.Records.{object-length}
 use Rattle.laws.proofs.Words.{words-one}
-use Rattle.laws.proofs.Formatted.{FormatAsked, formatted-passes}
 use Rattle.fsck.specs.Format.{answerFor, frontOf, Leaves}
 
 take-zeros : (g k : ℕ) → g ≤ k → take g (zeros k) ≡ zeros g
@@ -70,27 +70,27 @@ words-three a b c = simp (append-assoc, append-nil)
 
 -- the writes of a whole store, with z zero bytes between the root and the count of names
 module _ (s s₅ s₆ s₇ : List ℕ) (stamp p q r z : ℕ) (clock : Time) (m : z + objectLength ≡ objectLength * p) (l : length s ≡ imageLength p q r) where
-  three-length : length (bytesOf 4 1 ++ bytesOf 4 stamp ++ bytesOf 4 p) ≡ 12
+  three-length : length (bytesOf 4 1 ++ bytesOf 4 stamp ++ bytesOf 4 p) ≡ objectsHead
   three-length = simp (length-append, bytes-length)
 
   run-front : s₅ ≡ frontOf s stamp p clock → s₅ ≡ bytesOf 4 1 ++ bytesOf 4 stamp ++ bytesOf 4 p ++ objectBytes (rootObject clock) ++ zeros
-      (z + 4 + (nameRecordLength * q + 4 + 512 * r))
+      (z + 4 + (nameRecordLength * q + 4 + blockLength * r))
   unfolding putObject frontOf
   run-front e =
       let v = objectBytes (rootObject clock) in
       let b₁ = bytesOf 4 1 in
       let b₂ = bytesOf 4 stamp in
       let b₃ = bytesOf 4 p in
-      let k = z + 4 + (nameRecordLength * q + 4 + 512 * r) in
+      let k = z + 4 + (nameRecordLength * q + 4 + blockLength * r) in
       let s₁ = overlay s 0 b₁ in
-      let s₂ = overlay s₁ 4 b₂ in
-      let s₃ = overlay s₂ 8 b₃ in
-      let s₄ = overlay s₃ 12 v in
-      let l₂ : length (b₁ ++ b₂) ≡ 8 = simp (length-append, bytes-length) in
+      let s₂ = overlay s₁ stampOffset b₂ in
+      let s₃ = overlay s₂ objectCountOffset b₃ in
+      let s₄ = overlay s₃ objectsHead v in
+      let l₂ : length (b₁ ++ b₂) ≡ objectCountOffset = simp (length-append, bytes-length) in
       let l₄ : length (b₁ ++ b₂ ++ b₃ ++ v) ≡ objectStart 1 = simp (length-append, bytes-length, object-length) in
-      let f₂ = overlay-more s 0 b₁ b₂ s₁ s₂ 4 (omega arith) (bytes-length 4 1) refl refl in
-      let f₃ = overlay-more s 0 (b₁ ++ b₂) b₃ s₂ s₃ 8 (omega arith) l₂ f₂ refl in
-      let f₄ = overlay-more s 0 (b₁ ++ b₂ ++ b₃) v s₃ s₄ 12 (omega arith) three-length f₃ refl in
+      let f₂ = overlay-more s 0 b₁ b₂ s₁ s₂ stampOffset (omega arith) (bytes-length 4 1) refl refl in
+      let f₃ = overlay-more s 0 (b₁ ++ b₂) b₃ s₂ s₃ objectCountOffset (omega arith) l₂ f₂ refl in
+      let f₄ = overlay-more s 0 (b₁ ++ b₂ ++ b₃) v s₃ s₄ objectsHead (omega arith) three-length f₃ refl in
       let w : length s - objectStart 1 ≡ k = omega arith in
       let f₅ = overlay-more s 0 (b₁ ++ b₂ ++ b₃ ++ v) (zeros k) s₄ s₅ (objectStart 1) (omega arith) l₄ f₄
       (e ∙ ap (λ (n : ℕ). overlay s₄ (objectStart 1) (zeros n)) w) in
@@ -100,15 +100,15 @@ module _ (s s₅ s₆ s₇ : List ℕ) (stamp p q r z : ℕ) (clock : Time) (m :
       → bt ≡ namesHead + objectLength * p + nameRecordLength * q → s₆ ≡ overlay s₅ at (bytesOf 4 q)
       → s₇ ≡ overlay s₆ bt (bytesOf 4 r)
       → s₇ ≡ bytesOf 4 1 ++ bytesOf 4 stamp ++ bytesOf 4 p ++ objectBytes (rootObject clock) ++ zeros z ++ bytesOf 4 q ++ zeros
-      (nameRecordLength * q) ++ bytesOf 4 r ++ zeros (512 * r)
+      (nameRecordLength * q) ++ bytesOf 4 r ++ zeros (blockLength * r)
   run-counts at bt e u w e₆ e₇ =
       let xs = bytesOf 4 1 ++ bytesOf 4 stamp ++ bytesOf 4 p ++ objectBytes (rootObject clock) in
       let l₅ : length xs ≡ objectStart 1 = simp (length-append, bytes-length, object-length) in
-      let f₆ = step s₅ s₆ xs (bytesOf 4 q) (z + 4 + (nameRecordLength * q + 4 + 512 * r)) z 4 (nameRecordLength * q + 4 + 512 * r) at (run-front e)
+      let f₆ = step s₅ s₆ xs (bytesOf 4 q) (z + 4 + (nameRecordLength * q + 4 + blockLength * r)) z 4 (nameRecordLength * q + 4 + blockLength * r) at (run-front e)
       e₆ refl (omega arith) (bytes-length 4 q) in
       let ys = xs ++ zeros z ++ bytesOf 4 q in
-      let l₆ : length ys ≡ 96 + z = simp (length-append, bytes-length, object-length, length-replicate) (omega arith) in
-      step s₆ s₇ ys (bytesOf 4 r) (nameRecordLength * q + 4 + 512 * r) (nameRecordLength * q) 4 (512 * r) bt f₆ e₇ refl (omega arith) (bytes-length 4 r)
+      let l₆ : length ys ≡ objectStart 1 + 4 + z = simp (length-append, bytes-length, object-length, length-replicate) (omega arith) in
+      step s₆ s₇ ys (bytesOf 4 r) (nameRecordLength * q + 4 + blockLength * r) (nameRecordLength * q) 4 (blockLength * r) bt f₆ e₇ refl (omega arith) (bytes-length 4 r)
 
 pub format-run : (s s₅ s₆ s₇ : List ℕ) (stamp p q r at bt : ℕ) (clock : Time) → 1 ≤ p → length s ≡ imageLength p q r → s₅ ≡ frontOf s stamp p clock
     → at ≡ objectsHead + objectLength * p → bt ≡ namesHead + objectLength * p + nameRecordLength * q → s₆ ≡ overlay s₅ at (bytesOf 4 q)
@@ -118,36 +118,32 @@ format-run s s₅ s₆ s₇ stamp p q r at bt clock h l e u w e₆ e₇ =
     run-counts s s₅ s₆ s₇ stamp p q r (objectLength * (p - 1)) clock (omega arith) l at bt e u w e₆ e₇ ∙ rw (words-three, words-one, words-one)
 
 -- ---- what format is asked for where it answers 0
-pub record Asked (s : Store) (p q r : ℕ) (clock : Time) : Type 0 where
-  pub clocked : clock .nanoseconds < 1000000000
+pub record Asked (s : Store) (p q r : ℕ) : Type 0 where
   pub least : 1 ≤ p
-  pub few : p ≤ 64
-  pub few-names : q ≤ 128
-  pub few-blocks : r ≤ 1024
+  pub few : p ≤ mostObjects
+  pub few-names : q ≤ mostNameRecords
   pub long : length s ≡ imageLength p q r
 
-counts-by : (p q r : ℕ) → goodCounts p q r ≡ true → (1 ≤ p) × (p ≤ 64) × (q ≤ 128) × (r ≤ 1024)
+counts-by : (p q r : ℕ) → goodCounts p q r ≡ true → (1 ≤ p) × (p ≤ mostObjects) × (q ≤ mostNameRecords)
 unfolding goodCounts
 counts-by p q r e =
-    let a = and-both (leb 1 p && leb p 64 && leb q 128) (leb r 1024) e in
-    let b = and-both (leb 1 p && leb p 64) (leb q 128) (a .0) in
-    let c = and-both (leb 1 p) (leb p 64) (b .0) in
-    (leb-true 1 p (c .0), leb-true p 64 (c .1), leb-true q 128 (b .1), leb-true r 1024 (a .1))
+    let a = and-both (leb 1 p && leb p mostObjects && leb q mostNameRecords) (leb r mostBlocks) e in
+    let b = and-both (leb 1 p && leb p mostObjects) (leb q mostNameRecords) (a .0) in
+    let c = and-both (leb 1 p) (leb p mostObjects) (b .0) in
+    (leb-true 1 p (c .0), leb-true p mostObjects (c .1), leb-true q mostNameRecords (b .1))
 
 module _ (s : Store) (stamp p q r : ℕ) (clock : Time) where
-  pub asked : answerFor (length s) p q r (clock .nanoseconds) ≡ 0 → Asked s p q r clock
+  pub asked : answerFor (length s) p q r (clock .nanoseconds) ≡ 0 → Asked s p q r
   unfolding answerFor
   asked e =
-      by-bool (ltb (clock .nanoseconds) 1000000000)
+      by-bool (ltb (clock .nanoseconds) nanosecondsEnd)
       (λ a. by-bool (goodCounts p q r)
       (λ b. by-bool (eqb (length s) (imageLength p q r))
       (λ d. let k = counts-by p q r b in
       record {
-        clocked = ltb-true (clock .nanoseconds) 1000000000 a;
         least = k .0;
         few = k .1;
         few-names = k .2;
-        few-blocks = k .3;
         long = eqb-true (length s) (imageLength p q r) d;
       })
       (λ d. let z : _≡_ {A = ℕ} 6 0 = rw (a, b, d) at e in absurd (omega arith)))
@@ -158,7 +154,7 @@ module _ (s : Store) (stamp p q r : ℕ) (clock : Time) where
   number-is : format s stamp p q r clock .number ≡ answerFor (length s) p q r (clock .nanoseconds)
   unfolding format answerFor goodTime
   number-is =
-      by-bool (ltb (clock .nanoseconds) 1000000000)
+      by-bool (ltb (clock .nanoseconds) nanosecondsEnd)
       (λ a. rw a (by-bool (goodCounts p q r)
       (λ b. rw b (by-bool (eqb (length s) (imageLength p q r)) (λ d. rw d) (λ d. rw d)))
       (λ b. rw b)))
@@ -167,7 +163,7 @@ module _ (s : Store) (stamp p q r : ℕ) (clock : Time) where
   store-stays : (answerFor (length s) p q r (clock .nanoseconds) ≡ 0 → ⊥) → format s stamp p q r clock .store ≡ s
   unfolding format answerFor goodTime
   store-stays f =
-      by-bool (ltb (clock .nanoseconds) 1000000000)
+      by-bool (ltb (clock .nanoseconds) nanosecondsEnd)
       (λ a. by-bool (goodCounts p q r)
       (λ b. by-bool (eqb (length s) (imageLength p q r)) (λ d. absurd (f (rw (a, b, d)))) (λ d. rw (a, b, d)))
       (λ b. rw (a, b)))
@@ -176,7 +172,7 @@ module _ (s : Store) (stamp p q r : ℕ) (clock : Time) where
   store-is : answerFor (length s) p q r (clock .nanoseconds) ≡ 0 → format s stamp p q r clock .store ≡ formatted stamp p q r clock
   unfolding format answerFor goodTime
   store-is e =
-      by-bool (ltb (clock .nanoseconds) 1000000000)
+      by-bool (ltb (clock .nanoseconds) nanosecondsEnd)
       (λ a. by-bool (goodCounts p q r)
       (λ b. by-bool (eqb (length s) (imageLength p q r)) (λ d. rw (a, b, d)) (λ d. let z : _≡_ {A = ℕ} 6 0 = rw (a, b, d) at e in absurd (omega arith)))
       (λ b. let z : _≡_ {A = ℕ} 6 0 = rw (a, b) at e in absurd (omega arith)))
@@ -188,18 +184,3 @@ module _ (s : Store) (stamp p q r : ℕ) (clock : Time) where
   pub leaves-done : (s′ : Store) → answerFor (length s) p q r (clock .nanoseconds) ≡ 0 → s′ ≡ formatted stamp p q r clock
       → Leaves (format s stamp p q r clock) 0 s′
   leaves-done s′ e f = record { answers = sym (number-is ∙ e); leaves = f ∙ sym (store-is e) }
-
-  -- where format answers 0, what it leaves passes the check
-  pub format-passes : stamp < 2 ^ 32 → clock .seconds < 2 ^ 32 → format s stamp p q r clock .number ≡ 0 → passes (format s stamp p q r clock .store) ≡ true
-  format-passes h k e =
-      let z = sym number-is ∙ e in
-      let a = asked z in
-      rw (store-is z) (formatted-passes stamp p q r clock (record {
-        mark-fits = h;
-        some-object = a .least;
-        few-objects = a .few;
-        few-names = a .few-names;
-        few-blocks = a .few-blocks;
-        seconds = k;
-        nanoseconds = a .clocked;
-      }))

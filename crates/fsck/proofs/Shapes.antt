@@ -1,16 +1,14 @@
 -- The counts and the length of a store. Assumes nothing.
-use mathlib.Core.Path.{_≡_, refl, sym, ap, _∙_}
+use mathlib.Core.Path.{_≡_, refl, sym, ap}
 use mathlib.Core.Bool.{Bool}
 use Prim.Native.Nat.{ℕ, _+_, _*_}
-use Rattle.kinds.specs.Layout.{objectsHead, namesHead, objectLength, nameRecordLength}
+use Rattle.kinds.specs.Layout.{objectCountOffset, objectsHead, namesHead, objectLength, nameRecordLength}
 use Rattle.spec.specs.Bytes.{beAt}
 use Rattle.spec.specs.Image.{Store, volumes, objects, names, blocks}
 use Rattle.spec.specs.Check.{goodShape}
 use Rattle.laws.proofs.Count.{by-bool}
 use Rattle.laws.proofs.Valid.{Shaped, shaped, shape-true}
-use Rattle.fsck.specs.Found.{countsOf, foundIf, shapeOf}
-use Rattle.fsck.specs.declared.shape.Counts.{Counts}
-use Rattle.fsck.specs.declared.shape.Found.{Found}
+use Rattle.fsck.specs.Found.{foundIf, shapeOf}
 use Rattle.fsck.specs.declared.shape.Found.the-variants.{Bad, Good}
 
 -- a store that is not shaped so
@@ -29,7 +27,7 @@ pub volumes-are : (s : Store) → volumes s ≡ beAt s 0 4
 unfolding volumes
 volumes-are s = refl
 
-pub objects-are : (s : Store) → objects s ≡ beAt s 8 4
+pub objects-are : (s : Store) → objects s ≡ beAt s objectCountOffset 4
 unfolding objects
 objects-are s = refl
 

@@ -9,6 +9,7 @@ use native.Mathlib.Numerals.{add-one}
 use native.Mathlib.Omega.{arith}
 use lib.ListN.{length, getD, set, replicate, length-set, length-replicate}
 use lib.Seq.{getD-set-same, getD-set-other}
+use Rattle.kinds.specs.Numbers.{mostObjects}
 use Rattle.spec.specs.Count.{iterate}
 use mathlib.Core.Bool.{true, false, not, or-true}
 use borrow.Author.Tests.{eq-eqb, ne-eqb}
@@ -189,7 +190,7 @@ pub blank-of : (n : ℕ) → Blank n (replicate n 0)
 blank-of n = record { long = length-replicate n 0; zero = zero-at n }
 
 -- ---- the map before the first object
-pub known-start : (s : Store) (p : ℕ) (depths : List ℕ) → Blank 64 depths → Known s p (set depths 0 1)
+pub known-start : (s : Store) (p : ℕ) (depths : List ℕ) → Blank mostObjects depths → Known s p (set depths 0 1)
 known-start s p depths b =
     let i : 0 < length depths = omega (arith, b .long) in
     let r = getD-set-same depths 0 1 0 i in

@@ -22,7 +22,6 @@ use Rattle.fsck.specs.Found.{countsOf, foundIf, shapeOf}
 use Rattle.fsck.specs.Tree.{TreePasses}
 use Rattle.fsck.specs.Verdict.{NamesAndTreePass, Verdict}
 use Rattle.fsck.specs.declared.shape.Counts.{Counts}
-use Rattle.fsck.specs.declared.shape.Found.{Found}
 use Rattle.fsck.specs.declared.shape.Found.the-variants.{Bad, Good}
 
 -- ---- the shape

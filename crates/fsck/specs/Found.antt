@@ -1,7 +1,7 @@
 -- What the check answers: that the store fails, or its counts.
 use Prim.Native.Nat.{ℕ, _+_, _*_, _≤_}
 use mathlib.Core.Path.{_≡_}
-use mathlib.Core.Bool.{Bool, true, false, cond}
+use mathlib.Core.Bool.{Bool, true, false}
 use lib.ListN.{length}
 use Rattle.kinds.specs.Layout.{blocksHead, objectLength}
 use Rattle.kinds.specs.Numbers.{mostObjects}

@@ -69,7 +69,9 @@ fn write_store(store: &mut [u8], stamp: u32, p: u32, q: u32, r: u32, clock: Time
     ensures { λ _. ⌜ now (store .exit) ≡ formatted stamp p q r clock ⌝ }
 {
     let names = Image::OBJECTS_HEAD + ObjectRecord::BYTES * p as usize;
-    let blocks = names + 4 + NameRecord::BYTES * q as usize;
+    let blocks = Image::NAMES_HEAD
+        + ObjectRecord::BYTES * p as usize
+        + NameRecord::BYTES * q as usize;
     write_front(store, stamp, p, clock);
     wire::put_u32(store, names, q);
     wire::put_u32(store, blocks, r);

@@ -79,7 +79,7 @@ pub marks-few : (s : Store) (used : List ℕ) → MarkedBy s (objects s) used �
 unfolding isUsedOnce uses
 marks-few s used m f =
     fails s (λ d. f (sum-ext (blocks s) (usesBelow s (objects s)) (λ r. getD used r 0) (λ r h.
-    let l = leb-true (usesBelow s (objects s) r) 1 (every-at (isUsedOnce s) (blocks s) r (d .used) h) in
+    let l = leb-true (usesBelow s (objects s) r) 1 (every-at (isUsedOnce s) (blocks s) r (d .used-once) h) in
     sym (m .marks r h ∙ mark-same (usesBelow s (objects s) r) l))))
 
 -- the map holds marks

@@ -1,6 +1,6 @@
 -- The 32 bytes of a name record: those of the name, and zero. Assumes nothing.
 use mathlib.Core.Path.{_≡_, refl, sym, ap, ap₂, _∙_}
-use mathlib.Core.Bool.{Bool, true, false, _&&_, _||_, not, cond, Bool·beq}
+use mathlib.Core.Bool.{Bool, true, false, _&&_, _||_, not, cond, Bool·beq, and-true, and-assoc}
 use mathlib.Core.List.{List, [], _∷_, _++_}
 use Prim.Native.Nat.{ℕ, zero, suc, _+_, _-_, _≤_, _<_}
 use native.Mathlib.Nat.{add-zero, add-suc}
@@ -20,7 +20,7 @@ use Rattle.laws.proofs.Bytes.{part-add, part-length, same-eq, same-yes}
 use Rattle.laws.proofs.Count.{by-bool, true-false}
 use Rattle.laws.proofs.Range.{Below, bytes-kept}
 use Rattle.fsck_objects.specs.Objects.{Inside}
-use Rattle.fsck_objects.proofs.Zeros.{and-true, and-assoc, all-none, all-next, zero-add, be-zero, zero-be}
+use Rattle.laws.proofs.Zeros.{all-none, all-next, zero-add, zero-number}
 use Rattle.fsck_objects.proofs.Marks.{outside}
 use Rattle.fsck_names.specs.Record.{isText}
 use Rattle.fsck_names.proofs.Dots.{name-is}
@@ -34,7 +34,7 @@ every-ext p q (suc n) f = ap₂ (λ (t u : Bool). t && u) (every-ext p q n (λ i
 every-split : (p : ℕ → Bool) (m n : ℕ) → every (m + n) p ≡ every m p && every n (λ i. p (m + i))
 unfolding every
 every-split p m zero = rw add-zero (sym (and-true (every m p)))
-every-split p m (suc n) = rw (add-suc, every-split p m n) (sym (and-assoc (every m p) (every n (λ i. p (m + i))) (p (m + n))))
+every-split p m (suc n) = rw (add-suc, every-split p m n) (and-assoc (every m p) (every n (λ i. p (m + i))) (p (m + n)))
 
 -- every byte of a part, by its index
 all-every : (p : ℕ → Bool) (b : List ℕ) (at n : ℕ) → at + n ≤ length b → every n (λ i. p (getD b (at + i) 0)) ≡ allBytes p (part b at n)
@@ -117,7 +117,7 @@ same-append [] [] us vs e = refl
 same-append [] (y ∷ ys) us vs e = absurd (omega arith)
 same-append (x ∷ xs) [] us vs e = absurd (omega arith)
 same-append (x ∷ xs) (y ∷ ys) us vs e =
-    ap (λ (t : Bool). eqb x y && t) (same-append xs ys us vs (omega arith)) ∙ and-assoc (eqb x y) (sameBytes xs ys) (sameBytes us vs)
+    ap (λ (t : Bool). eqb x y && t) (same-append xs ys us vs (omega arith)) ∙ sym (and-assoc (eqb x y) (sameBytes xs ys) (sameBytes us vs))
 
 pub same-halves : (s : Store) (a b m n : ℕ) → a + m ≤ length s → b + m ≤ length s
     → sameBytes (part s a m) (part s b m) && sameBytes (part s (a + m) n) (part s (b + m) n) ≡ sameBytes (part s a (m + n)) (part s b (m + n))
@@ -138,14 +138,9 @@ same-quarters s a b h l t u v w et eu ev ew =
     ap₂ (λ (i j : Bool). i && j) front back ∙ same-halves s a b 16 16 (omega arith) (omega arith)
 
 -- ---- a free record, whose length is 0
-number-zero : (s : Store) (at w : ℕ) → isZero (part s at w) ≡ eqb (beAt s at w) 0
-number-zero s at w =
-    by-bool (isZero (part s at w)) (λ e. e ∙ sym (eq-eqb (beAt s at w) 0 (zero-be s at w e)))
-    (λ e. e ∙ sym (ne-eqb (beAt s at w) 0 (λ q. true-false (sym (be-zero s at w q) ∙ e))))
-
 pub free-is : (s : Store) (at : ℕ) → beAt s (at + lengthOffset) 4 ≡ 0
     → isZero (part s at nameRecordLength) ≡ eqb (beAt s at lengthOffset) 0 && isZero (part s (at + textOffset) mostNameBytes)
 free-is s at e =
     let b : at + lengthOffset + 4 ≡ at + textOffset = omega arith in
-    let z = number-zero s (at + lengthOffset) 4 ∙ eq-eqb (beAt s (at + lengthOffset) 4) 0 e in
-    zero-add s at lengthOffset (4 + mostNameBytes) ∙ rw (zero-add s (at + lengthOffset) 4 mostNameBytes, b, z, number-zero s at lengthOffset)
+    let z = zero-number s (at + lengthOffset) 4 ∙ eq-eqb (beAt s (at + lengthOffset) 4) 0 e in
+    zero-add s at lengthOffset (4 + mostNameBytes) ∙ rw (zero-add s (at + lengthOffset) 4 mostNameBytes, b, z, zero-number s at lengthOffset)

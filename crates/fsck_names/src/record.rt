@@ -10,7 +10,6 @@ ghost use Rattle.laws.proofs.Valid.{Shaped};
 ghost use Rattle.fsck_objects.specs.Objects.{Inside};
 ghost use Rattle.fsck_names.specs.Record.{isDirectoryIn, isLiveIn};
 use crate::text::good_text;
-use fsck_objects::zero::is_zero;
 use kinds::layout::NameRecord;
 use kinds::numbers::Limit;
 use kinds::numbers::NameNumber;
@@ -101,7 +100,7 @@ fn is_free(store: &[u8], at: usize) -> bool
     if wire::get_u64(store, at) != 0 {
         return false;
     }
-    is_zero(store, at + NameRecord::TEXT, Limit::MOST_NAME_BYTES)
+    wire::is_zero(store, at + NameRecord::TEXT, Limit::MOST_NAME_BYTES)
 }
 
 // Whether name record n, which states the length `len`, passes by itself.

@@ -1,4 +1,3 @@
-pub mod Zeros
 pub mod Passes
 pub mod Marks
 pub mod Whole

@@ -1,11 +1,11 @@
 -- The laws of the map of used blocks. Assumes nothing.
 use mathlib.Core.Path.{_≡_, refl, sym, ap, _∙_}
 use mathlib.Core.Logic.{_≢_, by-cases, ⊎-elim}
-use mathlib.Core.Bool.{Bool, true, false, _&&_, _||_, not, and-false, or-true}
+use mathlib.Core.Bool.{Bool, true, false, _&&_, _||_, not, and-false, or-false, or-true}
 use mathlib.Core.List.{List, [], _∷_}
 use Prim.Native.Nat.{ℕ, zero, suc, _+_, _*_, _-_, _/_, _%_, _≤_, _<_}
 use native.Mathlib.Nat.{not-suc-le-zero}
-use native.Mathlib.Decide.{ℕ-discrete, le-ind}
+use native.Mathlib.Decide.{ℕ-discrete}
 use native.Mathlib.Numerals.{add-one}
 use native.Mathlib.Omega.{arith}
 use lib.Dec.{eqb, ltb}
@@ -15,7 +15,7 @@ use borrow.Author.Tests.{lt-ltb, le-ltb, eq-eqb, ne-eqb, eqb-true}
 use Rattle.kinds.specs.Layout.{blocksOffset, objectLength}
 use Rattle.kinds.specs.Numbers.{fileBlocks, unusedBlock}
 use Rattle.kinds.specs.declared.object.Object.{Object}
-use Rattle.spec.specs.Count.{bit, sum, every, times}
+use Rattle.spec.specs.Count.{bit, every, times}
 use Rattle.spec.specs.Image.{Store, blocks, objectStart, objectFrom, objectAt}
 use Rattle.spec.specs.Room.{isLive, need, sizeOf, held}
 use Rattle.spec.specs.Check.{goodBlock, goodFree, goodLive, goodObject, passes}
@@ -25,13 +25,9 @@ use Rattle.laws.proofs.Records.{halves-count, half-read}
 use Rattle.laws.proofs.CreateObject.{no-blocks}
 use Rattle.laws.proofs.Valid.{Shaped, free-object}
 use Rattle.fsck_objects.specs.Objects.{goodFields, isUnused, markFor, LiveAt, usesBelow, MarkedBy, MarkedTo, Inside}
-use Rattle.fsck_objects.proofs.Passes.{or-false, fails-object}
+use Rattle.fsck_objects.proofs.Passes.{fails-object}
 
 -- ---- sums and counts
-pub sum-grows : (f : ℕ → ℕ) (n m : ℕ) → n ≤ m → sum n f ≤ sum m f
-unfolding sum
-sum-grows f n m h = le-ind (λ (k : ℕ). sum n f ≤ sum k f) (omega arith) (λ k l q. omega arith) m h
-
 times-one : (r x : ℕ) → times r (x ∷ []) ≡ bit (eqb x r)
 unfolding times
 times-one r x = omega arith

@@ -1,43 +1,13 @@
--- A store passes the check where every demand holds, and fails it where one does not. Assumes nothing.
-use mathlib.Core.Path.{_≡_, refl, sym, _∙_}
-use mathlib.Core.Bool.{Bool, true, false, _||_}
+-- A store fails the check where one demand does not hold. Assumes nothing.
+use mathlib.Core.Path.{_≡_, sym, _∙_}
+use mathlib.Core.Bool.{Bool, true, false}
 use Prim.Native.Nat.{ℕ, _<_}
 use Rattle.spec.specs.Count.{every}
-use Rattle.spec.specs.Image.{Store, objects, names, blocks}
-use Rattle.spec.specs.Check.{goodShape, goodRoot, goodObject, goodNameRecord, isDistinct, isNamedOnce, isUsedOnce, leadsToRoot, passes}
+use Rattle.spec.specs.Image.{Store, objects, names}
+use Rattle.spec.specs.Check.{goodShape, goodRoot, goodObject, goodNameRecord, isDistinct, isNamedOnce, leadsToRoot, passes}
 use Rattle.fsck_objects.specs.Told.{Told}
-use Rattle.laws.proofs.Count.{by-bool, true-false, and-both, every-at}
-
-pub or-false : (t : Bool) → t || false ≡ t
-or-false true = refl
-or-false false = refl
-
--- the demands of the check
-pub record Demands (s : Store) : Type 0 where
-  pub shape : goodShape s ≡ true
-  pub root : goodRoot s ≡ true
-  pub good : every (objects s) (goodObject s) ≡ true
-  pub good-names : every (names s) (goodNameRecord s) ≡ true
-  pub distinct : every (names s) (isDistinct s) ≡ true
-  pub named : every (objects s) (isNamedOnce s) ≡ true
-  pub used : every (blocks s) (isUsedOnce s) ≡ true
-  pub leads : every (objects s) (leadsToRoot s) ≡ true
-
-pub passes-by : (s : Store) → Demands s → passes s ≡ true
-unfolding passes
-passes-by s d = rw (d .shape, d .root, d .good, d .good-names, d .distinct, d .named, d .used, d .leads)
-
-pub demands : (s : Store) → passes s ≡ true → Demands s
-unfolding passes
-demands s e =
-    let a = and-both (goodShape s) _ e in
-    let b = and-both _ (every (objects s) (leadsToRoot s)) (a .1) in
-    let c = and-both _ (every (blocks s) (isUsedOnce s)) (b .0) in
-    let d = and-both _ (every (objects s) (isNamedOnce s)) (c .0) in
-    let f = and-both _ (every (names s) (isDistinct s)) (d .0) in
-    let g = and-both _ (every (names s) (goodNameRecord s)) (f .0) in
-    let h = and-both (goodRoot s) (every (objects s) (goodObject s)) (g .0) in
-    record { shape = a .0; root = h .0; good = h .1; good-names = g .1; distinct = f .1; named = d .1; used = c .1; leads = b .1 }
+use Rattle.laws.proofs.Count.{by-bool, true-false, every-at}
+use Rattle.laws.proofs.Demands.{Demands, demands}
 
 -- a store fails where passing would be absurd
 pub fails : (s : Store) → (Demands s → ⊥) → passes s ≡ false
@@ -55,7 +25,7 @@ module _ (s : Store) where
   fails-root e = fails s (λ d. true-false (sym (d .root) ∙ e))
 
   pub fails-object : (o : ℕ) → o < objects s → goodObject s o ≡ false → passes s ≡ false
-  fails-object o h e = fails s (λ d. not-every (goodObject s) (objects s) o (d .good) h e)
+  fails-object o h e = fails s (λ d. not-every (goodObject s) (objects s) o (d .good-objects) h e)
 
   pub fails-name : (n : ℕ) → n < names s → goodNameRecord s n ≡ false → passes s ≡ false
   fails-name n h e = fails s (λ d. not-every (goodNameRecord s) (names s) n (d .good-names) h e)

@@ -6,7 +6,7 @@ use native.Mathlib.Omega.{arith}
 use lib.Dec.{eqb, leb, ltb}
 use lib.ListN.{length}
 use mathlib.Core.List.{List}
-use borrow.Author.Tests.{eq-eqb, ne-eqb, leb-true, eqb-true}
+use borrow.Author.Tests.{leb-true, eqb-true}
 use Rattle.kinds.specs.Layout.{objectLength}
 use Rattle.kinds.specs.Numbers.{REGULAR, DIRECTORY, fileBlocks, mostFileBytes, spentGeneration, mostMode}
 use Rattle.kinds.specs.declared.object.Object.{Object}
@@ -20,14 +20,6 @@ use Rattle.fsck_objects.specs.Objects.{goodFields, LiveAt, MarkedBy, Mar
 use Rattle.fsck_objects.specs.declared.object.Uses.the-variants.{Bad, Blocks}
 use Rattle.fsck_objects.proofs.Passes.{fails-object, told-true, told-false}
 use Rattle.fsck_objects.proofs.Marks.{free-held, mark-free, mark-end, held-end}
-
-pub live-yes : (s : Store) (o : ℕ) → (objectAt s o .kind ≡ 0 → ⊥) → isLive s o ≡ true
-unfolding isLive
-live-yes s o h = rw (ne-eqb (objectAt s o .kind) 0 h)
-
-pub live-no : (s : Store) (o : ℕ) → objectAt s o .kind ≡ 0 → isLive s o ≡ false
-unfolding isLive
-live-no s o h = rw (eq-eqb (objectAt s o .kind) 0 h)
 
 -- a good size is at most that of the longest file
 fields-size-of : (v : Object) → goodSize v ≡ true → v .size ≤ mostFileBytes

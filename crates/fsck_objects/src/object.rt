@@ -12,7 +12,6 @@ ghost use Rattle.spec.specs.Room.{need};
 ghost use Rattle.laws.proofs.Valid.{Shaped};
 ghost use Rattle.fsck_objects.specs.Objects.{goodFields, isUnused, LiveAt, MarkedBy, MarkedTo, ObjectPasses, Counted, Inside};
 ghost use Rattle.fsck_objects.specs.Told.{Told};
-use crate::zero::is_zero;
 use kinds::layout::ObjectRecord;
 use kinds::layout::TimeField;
 use kinds::numbers::Kind;
@@ -242,7 +241,7 @@ pub fn object_uses(
 {
     if kind_of(store, o) == Kind::FREE {
         let at = object_start(store, o);
-        if !is_zero(
+        if !wire::is_zero(
             store,
             at + ObjectRecord::MODE,
             ObjectRecord::BYTES - ObjectRecord::MODE,

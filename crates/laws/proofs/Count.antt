@@ -54,6 +54,10 @@ unfolding sum
 sum-add zero f g = refl
 sum-add (suc n) f g = let r = sum-add n f g in omega arith
 
+pub sum-grows : (f : ℕ → ℕ) (n m : ℕ) → n ≤ m → sum n f ≤ sum m f
+unfolding sum
+sum-grows f n m h = le-ind (λ (k : ℕ). sum n f ≤ sum k f) (omega arith) (λ k l q. omega arith) m h
+
 -- a term is at most the sum, and where every term is 0 the sum is 0
 pub sum-at : (n i : ℕ) (f : ℕ → ℕ) → i < n → f i ≤ sum n f
 unfolding sum
@@ -85,6 +89,10 @@ module _ (p : ℕ → Bool) where
   pub every-more : (i : ℕ) → every i p ≡ true → p i ≡ true → every (i + 1) p ≡ true
   unfolding every
   every-more i e t = rw (add-one, e, t)
+
+  pub every-next : (i : ℕ) → every (i + 1) p ≡ every i p && p i
+  unfolding every
+  every-next i = rw add-one
 
   pub every-fails : (i n : ℕ) → p i ≡ false → i < n → every n p ≡ false
   unfolding every

@@ -9,6 +9,7 @@ pub mod Bytes
 pub mod Count
 pub mod CreateObject
 pub mod Damaged
+pub mod Demands
 pub mod Error
 pub mod FileBytes
 pub mod FileData

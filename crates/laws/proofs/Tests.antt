@@ -21,6 +21,14 @@ pub or-none : (t u : Bool) → t || u ≡ false → (t ≡ false) × (u ≡ fals
 or-none true u e = true-false e
 or-none false u e = (refl, e)
 
+not-or : (t u : Bool) → not (t || u) ≡ not t && not u
+not-or true u = refl
+not-or false u = refl
+
+-- a loop that reads on where a test fails, and remembers it: so far all pass, and so does the next, or not
+pub remember : (seen wrong all good : Bool) → not seen ≡ all → not wrong ≡ good → not (seen || wrong) ≡ all && good
+remember seen wrong all good e f = rw (not-or seen wrong, e, f)
+
 -- of "not, or": where the first holds, so does the second; and the other way
 pub implied : (t u : Bool) → not t || u ≡ true → t ≡ true → u ≡ true
 implied true u e h = e

@@ -23,6 +23,7 @@ use Rattle.spec.specs.Check.{mostNames, isZero, goodCounts, imageLength, goodSh
 use Rattle.spec.specs.Check.{goodRoot, goodUsed, goodNameRecord, isDistinct, isNamedOnce, isUsedOnce, leadsToRoot, passes}
 use Rattle.laws.proofs.Bytes.{part-length, same-yes, same-no}
 use Rattle.laws.proofs.Count.{true-false, by-bool, and-both, every-at, every-all}
+use Rattle.laws.proofs.Demands.{demands, passes-by}
 use Rattle.laws.proofs.RecordRange.{text-length}
 use Rattle.laws.proofs.Tests.{and-true, or-one, or-none, implied, implies, nonzero-true, nonzero-false, true-nonzero, false-nonzero}
 use Rattle.laws.proofs.Zeros.{isZero-zeros, zeros-isZero, zero-within, be-zero, zero-part, zero-join, halves-zero, zero-halves}
@@ -590,46 +591,33 @@ leading s h =
 
 -- a store that passes its check has all the demands
 pub valid : (s : Store) → passes s ≡ true → Valid s
-unfolding passes goodRoot
+unfolding goodRoot
 valid s e =
-    let root = isDirectory s 0 in
-    let each-object = every (objects s) (goodObject s) in
-    let each-name = every (names s) (goodNameRecord s) in
-    let distinct = every (names s) (isDistinct s) in
-    let named = every (objects s) (isNamedOnce s) in
-    let once = every (blocks s) (isUsedOnce s) in
-    let leading = every (objects s) (leadsToRoot s) in
-    let a = and-both (goodShape s) (root && each-object && each-name && distinct && named && once && leading) e in
-    let b = and-both (root && each-object && each-name && distinct && named && once) leading (a .1) in
-    let c = and-both (root && each-object && each-name && distinct && named) once (b .0) in
-    let d = and-both (root && each-object && each-name && distinct) named (c .0) in
-    let f = and-both (root && each-object && each-name) distinct (d .0) in
-    let g = and-both (root && each-object) each-name (f .0) in
-    let h = and-both root each-object (g .0) in
-    let w = shaped s (a .0) in
+    let d = demands s e in
+    let w = shaped s (d .shape) in
     record {
       shaped = w;
-      root = directory-true s 0 (h .0);
-      good-objects = λ o (l : o < objects s). object-good s o (omega arith) (every-at (goodObject s) (objects s) o (h .1) l);
-      good-names = λ n (l : n < names s). name-record s n (omega arith) (every-at (goodNameRecord s) (names s) n (g .1) l);
-      distinct = distinct-names s (f .1);
-      named = named-once s (w .some-object) (d .1);
-      used-once = blocks-once s (c .1);
-      leads = leads s (b .1);
+      root = directory-true s 0 (d .root);
+      good-objects = λ o (l : o < objects s). object-good s o (omega arith) (every-at (goodObject s) (objects s) o (d .good-objects) l);
+      good-names = λ n (l : n < names s). name-record s n (omega arith) (every-at (goodNameRecord s) (names s) n (d .good-names) l);
+      distinct = distinct-names s (d .distinct);
+      named = named-once s (w .some-object) (d .named);
+      used-once = blocks-once s (d .used-once);
+      leads = leads s (d .leads);
     }
 
 -- and the other way
 pub passes-valid : (s : Store) → Valid s → passes s ≡ true
-unfolding passes goodRoot
+unfolding goodRoot
 passes-valid s v =
     let w = v .shaped in
-    rw (
-      shape-true s w,
-      true-directory s 0 (v .root),
-      every-all (goodObject s) (objects s) (λ o (l : o < objects s). good-object s o (omega arith) (v .good-objects o l)),
-      every-all (goodNameRecord s) (names s) (λ n (l : n < names s). record-good s n (omega arith) (v .good-names n l)),
-      names-distinct s (v .distinct),
-      once-named s (v .named),
-      once-blocks s (v .used-once),
-      leading s (v .leads),
-    )
+    passes-by s (record {
+      shape = shape-true s w;
+      root = true-directory s 0 (v .root);
+      good-objects = every-all (goodObject s) (objects s) (λ o (l : o < objects s). good-object s o (omega arith) (v .good-objects o l));
+      good-names = every-all (goodNameRecord s) (names s) (λ n (l : n < names s). record-good s n (omega arith) (v .good-names n l));
+      distinct = names-distinct s (v .distinct);
+      named = once-named s (v .named);
+      used-once = once-blocks s (v .used-once);
+      leads = leading s (v .leads);
+    })

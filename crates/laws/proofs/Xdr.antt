@@ -1,45 +1,17 @@
--- The laws of the XDR readers: what a reading that succeeded tells, and when bytes of padding are zero. Assumes nothing.
-use Prim.Native.Nat.{ℕ, zero, suc, _+_, _-_, _*_, _^_, _≤_, _<_}
+-- The laws of the XDR readers: what a reading that succeeded tells. Assumes nothing.
+use Prim.Native.Nat.{ℕ, _+_, _≤_}
 use mathlib.Core.Bool.{Bool, true, false}
 use mathlib.Core.List.{List}
-use mathlib.Core.Path.{_≡_, refl, sym, ap, _∙_}
+use mathlib.Core.Path.{_≡_, refl}
 use native.Mathlib.Omega.{arith}
-use native.Mathlib.Nat.{le-mul-of-pos-right, one-le-pow}
 use borrow.Author.Tests.{leb-true}
-use lib.ListN.{length, getD}
-use lib.Dec.{leb, lit<}
+use lib.ListN.{length}
+use lib.Dec.{leb}
 use Rattle.kinds.specs.Reading.{Read, got, bad}
 use Rattle.kinds.specs.declared.call.Part.{Part}
-use Rattle.spec.specs.Bytes.{part, digits, beOf, beAt, padding}
+use Rattle.spec.specs.Bytes.{padding}
 use Rattle.spec.specs.Xdr.{bind, only-if, placed, check, word, bytes, pad, opaque}
-use Rattle.laws.proofs.Bytes.{part-cons, be-add}
 
--- ---- padding
--- the number in one byte
-be-one : (s : List ℕ) (at : ℕ) → at < length s → beAt s at 1 ≡ getD s at 0
-unfolding beAt beOf digits part
-be-one s at h = rw (part-cons s at 0 h) (omega arith)
-
--- one byte more of zeros
-pub zero-more : (s : List ℕ) (at i : ℕ) → at + i < length s → beAt s at i ≡ 0 → getD s (at + i) 0 ≡ 0 → beAt s at (i + 1) ≡ 0
-zero-more s at i h e z = rw (be-add s at i 1 (omega arith), e, be-one s (at + i) h, z) (omega arith)
-
--- bytes of which one is not zero are not the number zero
-pub not-zero : (s : List ℕ) (at n i : ℕ) → at + n ≤ length s → i < n → (getD s (at + i) 0 ≡ 0 → ⊥) → beAt s at n ≡ 0 → ⊥
-not-zero s at n i h k f e =
-    let m = n - (i + 1) in
-    let w : n ≡ i + (1 + m) = omega arith in
-    f
-    (omega (
-      arith,
-      rw w at e,
-      be-add s at i (1 + m) (omega arith),
-      be-add s (at + i) 1 m (omega arith),
-      be-one s (at + i) (omega arith),
-      le-mul-of-pos-right (beAt s (at + i) 1) (one-le-pow m 256 (lit< tt)),
-    ))
-
--- ---- a reading that succeeded
 never : {A : Type 0} (p : ℕ) (a : A) (q : ℕ) → bad p ≡ got a q → ⊥
 never p a q e = let z : _≡_ {A = ℕ} 0 1 = cc in omega arith
 

@@ -1,26 +1,43 @@
 -- The laws of zero bytes: what they spell, and that only they spell 0. Assumes nothing.
 use mathlib.Core.Path.{_≡_, refl, sym, ap, ap₂, _∙_}
-use mathlib.Core.Bool.{true}
+use mathlib.Core.Bool.{Bool, true, _&&_, and-true, and-assoc}
 use mathlib.Core.List.{List, [], _∷_, _++_}
 use Prim.Native.Nat.{ℕ, zero, suc, _+_, _*_, _≤_, _<_}
 use native.Mathlib.Omega.{arith}
 use native.Mathlib.Nat.{add-zero}
 use native.Mathlib.Numerals.{add-one}
-use native.Mathlib.Decide.{ℕ-discrete}
-use mathlib.Core.Logic.{by-cases}
 use lib.Dec.{eqb}
 use lib.ListN.{length, getD, length-replicate, getD-replicate, replicate-append-replicate}
 use lib.Seq.{ext-getD}
-use borrow.Author.Tests.{eqb-true}
+use borrow.Author.Tests.{eqb-true, eq-eqb, ne-eqb}
 use Rattle.spec.specs.Bytes.{part, digits, beOf, beAt, zeros, allBytes}
 use Rattle.spec.specs.Image.{halvesAt}
 use Rattle.spec.specs.Check.{isZero}
-use Rattle.laws.proofs.Bytes.{part-length, part-add, part-part, getD-part}
-use Rattle.laws.proofs.Count.{and-both}
+use Rattle.laws.proofs.Bytes.{part-length, part-add, part-snoc, part-part, getD-part}
+use Rattle.laws.proofs.Count.{true-false, by-bool, and-both}
 use Rattle.laws.proofs.Records.{half-read}
-use Rattle.laws.proofs.Xdr.{not-zero}
+
+-- ---- every byte passes a test
+all-append : (p : ℕ → Bool) (xs ys : List ℕ) → allBytes p (xs ++ ys) ≡ allBytes p xs && allBytes p ys
+unfolding allBytes
+all-append p [] ys = refl
+all-append p (x ∷ xs) ys = rw (all-append p xs ys) (sym (and-assoc (p x) (allBytes p xs) (allBytes p ys)))
+
+pub all-none : (p : ℕ → Bool) (b : List ℕ) (at : ℕ) → allBytes p (part b at 0) ≡ true
+unfolding allBytes part
+all-none p b at = refl
+
+-- one byte more
+pub all-next : (p : ℕ → Bool) (b : List ℕ) (at i : ℕ) → at + i < length b
+    → allBytes p (part b at (i + 1)) ≡ allBytes p (part b at i) && p (getD b (at + i) 0)
+unfolding allBytes
+all-next p b at i h = rw (part-snoc b at i h, all-append) (ap (λ (t : Bool). allBytes p (part b at i) && t) (and-true (p (getD b (at + i) 0))))
 
 -- ---- the test
+pub zero-add : (b : List ℕ) (at m n : ℕ) → isZero (part b at (m + n)) ≡ isZero (part b at m) && isZero (part b (at + m) n)
+unfolding isZero
+zero-add b at m n = rw (part-add b at m n) (all-append (λ x. eqb x 0) (part b at m) (part b (at + m) n))
+
 pub isZero-zeros : (n : ℕ) → isZero (zeros n) ≡ true
 unfolding isZero allBytes
 isZero-zeros zero = refl
@@ -54,15 +71,31 @@ pub be-zero : (b : List ℕ) (at w : ℕ) → part b at w ≡ zeros w → beAt b
 unfolding beAt
 be-zero b at w e = ap beOf e ∙ be-zeros w
 
--- only zeros spell 0
+digits-zero : (xs : List ℕ) (acc : ℕ) → digits acc xs ≡ 0 → (acc ≡ 0) × (isZero xs ≡ true)
+unfolding digits isZero allBytes
+digits-zero [] acc e = (e, refl)
+digits-zero (x ∷ xs) acc e =
+    let r = digits-zero xs (acc * 256 + x) e in
+    let q = r .0 in
+    let z : x ≡ 0 = omega arith in
+    (omega arith, rw (eq-eqb x 0 z) (r .1))
+
+zero-digits : (xs : List ℕ) → isZero xs ≡ true → digits 0 xs ≡ 0
+unfolding digits isZero allBytes
+zero-digits [] e = refl
+zero-digits (x ∷ xs) e =
+    let p = and-both (eqb x 0) (allBytes (λ y. eqb y 0) xs) e in
+    rw (eqb-true x 0 (p .0)) (zero-digits xs (p .1))
+
+-- bytes are zero exactly where they spell 0
+pub zero-number : (b : List ℕ) (at w : ℕ) → isZero (part b at w) ≡ eqb (beAt b at w) 0
+unfolding beAt beOf
+zero-number b at w =
+    by-bool (isZero (part b at w)) (λ e. e ∙ sym (eq-eqb (digits 0 (part b at w)) 0 (zero-digits (part b at w) e)))
+    (λ e. e ∙ sym (ne-eqb (digits 0 (part b at w)) 0 (λ q. true-false (sym (digits-zero (part b at w) 0 q .1) ∙ e))))
+
 pub zero-part : (b : List ℕ) (at w : ℕ) → at + w ≤ length b → beAt b at w ≡ 0 → part b at w ≡ zeros w
-zero-part b at w h e =
-    let l : length (part b at w) ≡ w = part-length b at w h in
-    ext-getD 0 (part b at w) (zeros w) (l ∙ sym (length-replicate w 0)) (λ k (s : k < length (part b at w)).
-    getD-part b at w k (omega arith) ∙ each k (omega arith) ∙ sym (getD-replicate w k 0 0 (omega arith)))
-  where
-    each : (k : ℕ) → k < w → getD b (at + k) 0 ≡ 0
-    each k s = by-cases (ℕ-discrete (getD b (at + k) 0) 0) (λ z. z) (λ n. absurd (not-zero b at w k h s n e))
+zero-part b at w h e = zeros-isZero (part b at w) w (part-length b at w h) (zero-number b at w ∙ eq-eqb (beAt b at w) 0 e)
 
 -- zeros behind zeros
 pub zero-join : (b : List ℕ) (at m n : ℕ) → part b at m ≡ zeros m → part b (at + m) n ≡ zeros n → part b at (m + n) ≡ zeros (m + n)

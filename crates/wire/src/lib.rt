@@ -4,6 +4,7 @@ ghost use Prim.Native.Nat.{_+_, _≤_, _<_, min, max};
 ghost use mathlib.Core.List.{reverse};
 ghost use lib.ListN.{length, replicate};
 ghost use Rattle.spec.specs.Bytes.{beAt, overlay, bytesOf, part, sameBytes};
+ghost use Rattle.spec.specs.Check.{isZero};
 ghost use Rattle.wire.specs.LowFirst.{lowFirst};
 
 // The smaller of two numbers.
@@ -151,6 +152,20 @@ pub fn clear_bytes(dst: &mut [u8], at: usize, len: usize)
         dst[at + i] = 0;
         i += 1;
     }
+}
+
+// Whether the n bytes from `at` are zero. Reads them all, many at a time: no byte ends the loop.
+pub fn is_zero(s: &[u8], at: usize, n: usize) -> bool
+    requires { ⌜ at + n ≤ length (now s) ⌝ }
+    ensures { λ r. ⌜ r ≡ isZero (part (now (s .entry)) at n) ⌝ }
+{
+    let mut other = false;
+    let mut i = 0;
+    while i < n {
+        other = other | (s[at + i] != 0);
+        i += 1;
+    }
+    !other
 }
 
 // Whether the len bytes of a from `at` are those of b from `from`.

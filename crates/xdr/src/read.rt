@@ -1,10 +1,7 @@
 // Reads one XDR field of a call at a cursor, and answers its value with the cursor after it, or the place of the refusal.
 ghost use mathlib.Core.Path.{_≡_};
-ghost use Prim.Native.Nat.{_+_, _≤_};
-ghost use lib.ListN.{length};
-ghost use lib.Dec.{eqb};
 ghost use Rattle.kinds.specs.Reading.{wordOf, longOf, flagOf, partOf, skipOf};
-ghost use Rattle.spec.specs.Bytes.{beAt, padding};
+ghost use Rattle.spec.specs.Bytes.{padding};
 ghost use Rattle.spec.specs.Xdr.{word, long, choice, flag, bytes, opaque, end};
 use kinds::call::Cursor;
 use kinds::call::Part;
@@ -13,21 +10,6 @@ use kinds::reading::LongRead;
 use kinds::reading::PartRead;
 use kinds::reading::SkipRead;
 use kinds::reading::WordRead;
-
-// Whether the n bytes from `at` are zero.
-fn all_zero(s: &[u8], at: usize, n: usize) -> bool
-    requires { ⌜ at + n ≤ length (now s) ⌝ }
-    ensures { λ r. ⌜ r ≡ eqb (beAt (now (s .entry)) at n) 0 ⌝ }
-{
-    let mut i = 0;
-    while i < n {
-        if s[at + i] != 0 {
-            return false;
-        }
-        i += 1;
-    }
-    true
-}
 
 // How many bytes pad n bytes to a multiple of four.
 pub fn padding(n: usize) -> usize
@@ -121,7 +103,7 @@ pub fn opaque(s: &[u8], c: Cursor, most: usize) -> PartRead
         return PartRead::Bad(c.at);
     };
     let start = c1.at;
-    if !all_zero(s, start + length, rest) {
+    if !wire::is_zero(s, start + length, rest) {
         return PartRead::Bad(c.at);
     }
     PartRead::Got(Part { start, length }, next)

@@ -1,5 +1,6 @@
 use native.Mathlib.Omega.{arith}
 use Prim.Native.Nat.{_-_, _≤_, zero-le}
+use Rattle.kinds.specs.Numbers.{mostNameBytes}
 use Rattle.fsck.proofs.Steps.{blank-of}
 use Rattle.fsck.proofs.Filled.{Filled, filled-none, filled-more, filled-all}
 use borrow.Author.Needs.{needs}
@@ -7,10 +8,10 @@ use Rattle.fsck.proofs.check.inside_map.Statement.{statement}
 use Rattle.fsck.proofs.check.inside_map.Tie as tie
 
 abbrev Inv-loop : tie.InvT-loop
-Inv-loop inside₀ i₀ inside i = (i ≤ 32) × Filled inside i
+Inv-loop inside₀ i₀ inside i = (i ≤ mostNameBytes) × Filled inside i
 
 abbrev μ-loop : tie.MeasureT-loop
-μ-loop inside₀ i₀ inside i = 32 - i
+μ-loop inside₀ i₀ inside i = mostNameBytes - i
 
 loop-holds : tie.Need-loop-holds Inv-loop μ-loop
 loop-holds c = (zero-le, filled-none _ (blank-of 64))

@@ -2,7 +2,6 @@ use borrow.Author.Tests.{not-true, not-false}
 use Rattle.fsck_objects.proofs.Passes.{told-false}
 use Rattle.fsck.proofs.Steps.{blank-of}
 use Rattle.fsck.proofs.Verdict.{rest-by}
-use borrow.Author.Needs.{needs}
 use Rattle.fsck.proofs.check.names_and_tree.Statement.{statement}
 use Rattle.fsck.proofs.check.names_and_tree.Tie as tie
 

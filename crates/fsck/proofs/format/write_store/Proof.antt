@@ -1,7 +1,7 @@
 use mathlib.Core.Path.{refl}
 use native.Mathlib.Omega.{arith}
 use Prim.Native.Nat.{_+_, _*_}
-use Rattle.kinds.specs.Layout.{objectsHead, objectLength, nameRecordLength}
+use Rattle.kinds.specs.Layout.{objectsHead, namesHead, objectLength, nameRecordLength}
 use Rattle.fsck.proofs.Laid.{format-run}
 use borrow.Author.Needs.{needs}
 use Rattle.fsck.proofs.format.write_store.Statement.{statement}
@@ -13,11 +13,14 @@ mul-names c = search needs
 add-names : tie.Need-add-names
 add-names c = search needs
 
+mul-blocks : tie.Need-mul-blocks
+mul-blocks c = search needs
+
 add-blocks : tie.Need-add-blocks
 add-blocks c = search needs
 
-mul-blocks : tie.Need-mul-blocks
-mul-blocks c = search needs
+mul-blocks-2 : tie.Need-mul-blocks-2
+mul-blocks-2 c = search needs
 
 add-blocks-2 : tie.Need-add-blocks-2
 add-blocks-2 c = search needs
@@ -40,7 +43,7 @@ returns c =
     let a = st .args in
     format-run (a .store .now) (c .before .before .before .before .before .before .before .before .before .before .write-front .last .0)
     (c .before .before .before .before .before .before .put-u32 .last .0) (c .before .before .put-u322 .last .0) (a .stamp) (a .p) (a .q) (a .r)
-    (objectsHead + objectLength * a .p) (objectsHead + objectLength * a .p + 4 + nameRecordLength * a .q) (a .clock)
+    (objectsHead + objectLength * a .p) (namesHead + objectLength * a .p + nameRecordLength * a .q) (a .clock)
     (st .pre .0) (st .pre .1 .1 .1) (c .before .before .before .before .before .before .before .before .before .before .write-front .ensures) refl
     (omega arith) (c .before .before .before .before .before .before .put-u32 .ensures) (c .before .before .put-u322 .ensures)
 
@@ -50,8 +53,9 @@ write-store-spec =
     (tie.spec
     mul-names
     add-names
-    add-blocks
     mul-blocks
+    add-blocks
+    mul-blocks-2
     add-blocks-2
     write-front-requires
     put-u32-requires

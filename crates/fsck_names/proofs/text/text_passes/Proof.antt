@@ -6,7 +6,7 @@ use Prim.Native.Nat.{_+_, _-_, _≤_, zero-le}
 use Rattle.kinds.specs.Numbers.{mostNameBytes}
 use Rattle.spec.specs.Count.{every}
 use Rattle.fsck_names.specs.Record.{isText}
-use Rattle.fsck_objects.proofs.Zeros.{every-next}
+use Rattle.laws.proofs.Count.{every-next}
 use Rattle.fsck_names.proofs.Padded.{text-step, text-is}
 use borrow.Author.Needs.{needs}
 use Rattle.fsck_names.proofs.text.text_passes.Statement.{statement}

@@ -2,7 +2,7 @@ use mathlib.Core.Path.{sym}
 use borrow.Author.Tests.{ne-eqb, eq-eqb}
 use Rattle.spec.specs.Check.{goodSize}
 use Rattle.spec.specs.Room.{sizeOf}
-use Rattle.fsck_objects.proofs.Passes.{or-false}
+use mathlib.Core.Bool.{or-false}
 use borrow.Author.Needs.{needs}
 use Rattle.fsck_objects.proofs.object.good_size.Statement.{statement}
 use Rattle.fsck_objects.proofs.object.good_size.Tie as tie

@@ -6,7 +6,8 @@ use Rattle.kinds.specs.Numbers.{mostFileBytes}
 use Rattle.spec.specs.Room.{need, sizeOf}
 use Rattle.spec.specs.Check.{goodFree}
 use Rattle.fsck_objects.specs.Objects.{LiveAt}
-use Rattle.fsck_objects.proofs.Whole.{live-yes, live-no, fields-need, fields-size, bad-fields, free-passes, free-fails, counted-bad, counted-blocks}
+use Rattle.laws.proofs.Valid.{true-live, false-live}
+use Rattle.fsck_objects.proofs.Whole.{fields-need, fields-size, bad-fields, free-passes, free-fails, counted-bad, counted-blocks}
 use borrow.Author.Needs.{needs}
 use Rattle.fsck_objects.proofs.object.object_uses.Statement.{statement}
 use Rattle.fsck_objects.proofs.object.object_uses.Tie as tie
@@ -25,7 +26,8 @@ live-at c =
     let e = c .need .ensures ∙ ap need (c .before .size-of .ensures) in
     record {
       below = st .pre .1 .1 .0;
-      live = live-yes _ _ (λ e. c .before .before .before .before .if1 .left (c .before .before .before .before .before .kind-of .ensures ∙ e));
+      live = true-live (st .args .store .now) (st .args .o .0)
+          (omega (arith, c .before .before .before .before .if1 .left, c .before .before .before .before .before .kind-of .ensures));
       fields = f;
       needs = e;
       most = rw e (fields-need _ f);
@@ -52,7 +54,7 @@ returns c =
     let st = c .before .before .before .before .before .before in
     let a = st .args in
     counted-bad (free-fails (a .store .now) (a .o .0) (st .pre .1 .1 .0)
-    (live-no _ _ (sym (c .before .before .before .before .kind-of .ensures) ∙ c .before .before .before .if1 .taken))
+    (false-live _ _ (sym (c .before .before .before .before .kind-of .ensures) ∙ c .before .before .before .if1 .taken))
     (sym (rw (c .before .before .object-start .ensures) at (c .before .is-zero .ensures)) ∙ not-true _ (c .if2 .taken)))
 
 returns-2 : tie.Need-returns-2
@@ -61,7 +63,7 @@ returns-2 c =
     let st = c .before .before .before .before .before .before in
     let a = st .args in
     counted-blocks 0 (free-passes (a .store .now) (a .o .0) (a .used .now) (omega (arith, st .pre .0 .exact))
-    (live-no _ _ (sym (c .before .before .before .before .kind-of .ensures) ∙ c .before .before .before .if1 .taken))
+    (false-live _ _ (sym (c .before .before .before .before .kind-of .ensures) ∙ c .before .before .before .if1 .taken))
     (sym (rw (c .before .before .object-start .ensures) at (c .before .is-zero .ensures)) ∙ not-false _ (c .if2 .left)) (st .pre .1 .1 .1 .1))
 
 good-fields-requires : tie.Need-good-fields-requires
@@ -72,7 +74,7 @@ returns-3 c =
     let st = c .before .before .before .before .before in
     let a = st .args in
     counted-bad (bad-fields (a .store .now) (a .o .0) (st .pre .1 .1 .0)
-    (live-yes _ _ (λ e. c .before .before .if1 .left (c .before .before .before .kind-of .ensures ∙ e)))
+    (true-live (a .store .now) (a .o .0) (omega (arith, c .before .before .if1 .left, c .before .before .before .kind-of .ensures)))
     (sym (c .before .good-fields .ensures) ∙ not-true _ (c .if3 .taken)))
 
 size-of-requires : tie.Need-size-of-requires

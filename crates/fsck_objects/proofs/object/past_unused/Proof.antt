@@ -6,7 +6,8 @@ use lib.ListN.{getD}
 use Prim.Native.Nat.{_+_, _-_, _≤_, zero-le}
 use Rattle.spec.specs.Count.{every}
 use Rattle.fsck_objects.specs.Objects.{isUnused}
-use Rattle.fsck_objects.proofs.Zeros.{remember, every-next}
+use Rattle.laws.proofs.Count.{every-next}
+use Rattle.laws.proofs.Tests.{remember}
 use Rattle.fsck_objects.proofs.Marks.{unused-step}
 use borrow.Author.Needs.{needs}
 use Rattle.fsck_objects.proofs.object.past_unused.Statement.{statement}

@@ -8,6 +8,7 @@ use borrow.Author.Tests.{le-leb, lt-leb, not-true, not-false}
 use Rattle.kinds.specs.Reading.{partOf}
 use Rattle.spec.specs.Bytes.{beAt, padding}
 use Rattle.spec.specs.Xdr.{opaque}
+use Rattle.laws.proofs.Zeros.{zero-number}
 use Rattle.xdr.proofs.Fields.{bytes-fit, bytes-next, bytes-cut, padded-fits, padded-cut}
 use borrow.Author.Needs.{needs}
 use Rattle.xdr.proofs.read.opaque.Statement.{statement}
@@ -67,16 +68,16 @@ returns-3 c =
     )
     (sym (padded-cut n (padding n) s at (a .c .at) cut))
 
-add-all-zero : tie.Need-add-all-zero
-add-all-zero c =
+add-is-zero : tie.Need-add-is-zero
+add-is-zero c =
     let a = c .before .before .before .before .before .before .before .before .before .before .before .args in
     let s = a .s .now in
     let n = c .before .before .before .before .before .before .before .n .given .0 .0 in
     let at = c .before .before .before .before .before .before .before .n .given .0 .1 .0 .at in
     omega (arith, bytes-fit _ s at _ _ (sym (c .before .before .before .bytes .ensures) ∙ ap partOf (c .before .next .given .1)))
 
-all-zero-requires : tie.Need-all-zero-requires
-all-zero-requires c κs =
+is-zero-requires : tie.Need-is-zero-requires
+is-zero-requires c κs =
     let a = c .before .before .before .before .before .before .before .before .before .before .before .args in
     let s = a .s .now in
     let n = c .before .before .before .before .before .before .before .n .given .0 .0 in
@@ -98,7 +99,7 @@ returns-4 c =
     ) in
     let zero : eqb (beAt s (at + n) (padding n)) 0 ≡ false =
     ap (λ (p : ℕ). eqb (beAt s (at + n) p) 0) (sym (c .before .before .before .before .before .before .padding .ensures)) ∙ sym
-    (c .before .all-zero .ensures) ∙ not-true _ (c .if2 .taken) in
+    (c .before .is-zero .ensures ∙ zero-number _ _ _) ∙ not-true _ (c .if2 .taken) in
     rw (
       ← c .before .before .before .before .before .before .before .before .before .before .before .word .ensures,
       c .before .before .before .before .before .before .before .before .before .n .given .1,
@@ -122,7 +123,7 @@ returns-5 c =
     ) in
     let zero : eqb (beAt s (at + n) (padding n)) 0 ≡ true =
     ap (λ (p : ℕ). eqb (beAt s (at + n) p) 0) (sym (c .before .before .before .before .before .before .padding .ensures)) ∙ sym
-    (c .before .all-zero .ensures) ∙ not-false _ (c .if2 .left) in
+    (c .before .is-zero .ensures ∙ zero-number _ _ _) ∙ not-false _ (c .if2 .left) in
     let behind : c .before .before .before .next .given .0 .1 .0 .at ≡ at + (n + padding n) =
     omega (
       arith,
@@ -155,7 +156,7 @@ opaque-spec =
     enum-known-next
     enum-told-2
     returns-3
-    add-all-zero
-    all-zero-requires
+    add-is-zero
+    is-zero-requires
     returns-4
     returns-5)

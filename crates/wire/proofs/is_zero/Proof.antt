@@ -1,15 +1,16 @@
-use mathlib.Core.Bool.{not}
+use mathlib.Core.Bool.{not, Bool·not-not}
 use lib.Dec.{eqb}
 use Rattle.spec.specs.Bytes.{part}
 use Rattle.spec.specs.Check.{isZero}
-use Rattle.fsck_objects.proofs.Zeros.{all-none, all-next, not-not, remember}
+use Rattle.laws.proofs.Tests.{remember}
+use Rattle.laws.proofs.Zeros.{all-none, all-next}
 use borrow.Author.Needs.{needs}
 use native.Mathlib.Omega.{arith}
 use mathlib.Core.Path.{_≡_, sym, _∙_}
 use lib.ListN.{getD}
 use Prim.Native.Nat.{_+_, _-_, _≤_, zero-le}
-use Rattle.fsck_objects.proofs.zero.is_zero.Statement.{statement}
-use Rattle.fsck_objects.proofs.zero.is_zero.Tie as tie
+use Rattle.wire.proofs.is_zero.Statement.{statement}
+use Rattle.wire.proofs.is_zero.Tie as tie
 
 abbrev Inv-loop : tie.InvT-loop
 Inv-loop s at n other₀ i₀ other i = (i ≤ n) × (not other ≡ isZero (part s at i))
@@ -40,7 +41,7 @@ loop-again c =
     let a = l .before .args in
     let x = getD (a .s .now) (a .at + l .loop .i) 0 in (
       omega arith,
-      remember (l .loop .other) (not (eqb x 0)) _ _ (l .loop .inv .1) (not-not _) ∙ sym
+      remember (l .loop .other) (not (eqb x 0)) _ _ (l .loop .inv .1) (Bool·not-not _) ∙ sym
           (all-next (λ x. eqb x 0) (a .s .now) (a .at) (l .loop .i) (omega arith)),
     )
 
