@@ -182,19 +182,19 @@ later = record { clock = record { seconds = 7; nanoseconds = 8 }; verifier = 8 }
 -- what computing an entry unfolds: naming `computing` on an `unfolding` line unfolds all of these
 unfoldable pub computing : ℕ
 unfolding handle unbounded nameIn time setNumber setSize setTime settable guard how setattrArguments accessArguments readArguments writeArguments
-    createArguments mkdirArguments renameArguments readdirArguments commitArguments arguments part overlay digits beOf bytesOf beAt words
-    opaqueBytes sameBytes allBytes isZero goodCounts goodShape goodTime goodBlock goodSize goodLive goodFree goodObject goodRoot goodUsed
-    goodNameRecord isDistinct isNamedOnce isUsedOnce leadsToRoot passes sum every some-below passing lowest times iterate withAttributes
-    setAttributes clearBlocks clearTail blockNumbers withSize resize withGeneration createObject removeObject moveName writeThrough readThrough
-    writeFile readFile handleOf reach reachDirectory checkName shownSize usedBytes linkCount attributes before change handleChange credential
-    callHeader header volumes stamp objects names blocks halvesAt halvesBytes timeAt timeBytes objectFrom headBytes timesBytes objectBytes objectAt
-    putObject nameFrom nameBytes nameAt nameLength putName isDot isDotDot goodByte goodBytes goodName act badAttributes lacksRoom sizeTouches
-    getattr checkSetattr setattrEdit setattr grantedBits access reachRegular readLength readResult read checkWrite writeEdit writeStore writeDone
-    write commit entryOf dotEntries entries entriesAbove fitting checkListing checkReaddirIn checkReaddir readdir lookIn checkIn checkLookup lookup
-    roomForNew newObject newEdit checkExisting checkNew checkAttributed checkCreate create checkMkdir mkdir checkEntry checkRemove hasEntries
-    checkRmdir removeFrom remove rmdir isWithin checkMove checkRename renameEdit failRenaming rename fsstat fsinfo pathconf fattr3 postOp preOp
-    wccData entryBytes entriesBytes resultBytes failShowing failChanging isLive isRegular isDirectory sizeOf held uses isFreeBlock freeBlocks
-    freeBlockCount isAvailable availableCount availableObject isUsedName availableName freeNameCount isNaming namings isIn isNamed findName
-    subdirectories parent above byteAt denied accepted judge mismatch serve check formatted format number word long choice flag bytes pad opaque
-    end
+    createArguments mkdirArguments renameArguments readdirArguments commitArguments arguments part overlay digits beOf bytesOf beAt words opaqueBytes
+    sameBytes allBytes isZero goodCounts goodShape goodTime goodBlock goodSize goodLive goodFree goodObject goodRoot goodUsed goodNameRecord
+    isDistinct isNamedOnce isUsedOnce leadsToRoot passes sum every some-below passing lowest times iterate withAttributes setAttributes clearBlocks
+    clearTail blockNumbers withSize resize withGeneration createObject removeObject moveName writeThrough readThrough writeFile readFile handleOf
+    reach reachDirectory checkName shownSize usedBytes linkCount attributes before change handleChange credential callHeader header volumes stamp
+    objects names blocks halvesAt halvesBytes timeAt timeBytes objectFrom headBytes timesBytes objectBytes objectAt putObject nameFrom nameBytes
+    nameAt nameLength putName isDot isDotDot goodByte goodBytes goodName act badAttributes lacksRoom sizeTouches getattr checkSetattr setattrEdit
+    setattr grantedBits access reachRegular readLength readResult read checkWrite writeEdit writeStore writeDone write commit entryOf dotEntries
+    entries entriesAbove fitting checkListing checkReaddirIn checkReaddir readdir lookIn checkIn checkLookup lookup roomForNew newObject newEdit
+    checkExisting checkNew checkAttributed checkCreate create checkMkdir mkdir checkEntry checkRemove hasEntries checkRmdir removeFrom remove
+    rmdir isWithin checkMove checkRename renameEdit
+    failRenaming rename fsstat fsinfo pathconf fattr3 postOp preOp wccData entryBytes entriesBytes resultBytes failShowing failChanging isLive
+    isRegular isDirectory sizeOf held uses isFreeBlock freeBlocks freeBlockCount isAvailable availableCount availableObject isUsedName availableName
+    freeNameCount isNaming namings isIn isNamed findName subdirectories parent above byteAt denied accepted judge mismatch serve check formatted
+    format number word long choice flag bytes pad opaque end
 computing = 0
