@@ -15,7 +15,7 @@ use Rattle.laws.proofs.GoodRecords.{GoodRecords}
 use Rattle.laws.proofs.Passed.{lookup-passed, look-found}
 use Rattle.store_search.proofs.Entry.{found-entry}
 use Rattle.store_records.proofs.Good.{used-record}
-use Rattle.act_read.specs.Parts.{lookedOf}
+use Rattle.act_read.specs.Meaning.{lookedOf}
 use Rattle.act_read.specs.declared.lookup.Looked.{Looked}
 use Rattle.act_read.specs.declared.lookup.Looked.the-variants as Looked
 

@@ -8,7 +8,7 @@ ghost use Rattle.laws.proofs.GoodRecords.{GoodRecords};
 ghost use Rattle.check_handles.specs.Meaning.{reachedOf};
 ghost use Rattle.results.specs.Meaning.{resultOf};
 ghost use Rattle.results.specs.Writable.{Writable};
-ghost use Rattle.act_read.specs.Parts.{lookedOf};
+ghost use Rattle.act_read.specs.Meaning.{lookedOf};
 use check_handles::failure::fail_showing;
 use check_handles::handle::Reached;
 use check_handles::handle::reach_directory;

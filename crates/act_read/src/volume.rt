@@ -4,12 +4,11 @@ ghost use Prim.Native.Nat.{_+_, _≤_, _<_};
 ghost use lib.ListN.{length};
 ghost use Rattle.spec.specs.Image.{objects};
 ghost use Rattle.spec.specs.Procedures.{cut};
-ghost use Rattle.spec.specs.Procedures.Volume.{fsstat, fsinfo, pathconf};
+ghost use Rattle.spec.specs.Procedures.Volume.{roomResult, fsstat, fsinfo, pathconf};
 ghost use Rattle.laws.proofs.GoodRecords.{GoodRecords};
 ghost use Rattle.store_blocks.specs.Blocks.{UsedMap};
 ghost use Rattle.results.specs.Meaning.{resultOf};
 ghost use Rattle.results.specs.Writable.{Writable};
-ghost use Rattle.act_read.specs.Parts.{roomOf};
 use check_handles::failure::fail_showing;
 use check_handles::handle::Reached;
 use check_handles::handle::reach;
@@ -27,7 +26,7 @@ fn room(store: &[u8], used: &[u8; 1024], o: ObjectNumber) -> Reply
     requires { ⌜ GoodRecords (now store) ⌝ }
     requires { ⌜ o .0 < objects (now store) ⌝ }
     requires { ⌜ UsedMap (now store) (now used) ⌝ }
-    ensures { λ r. ⌜ resultOf (now (store .entry)) r ≡ roomOf (now (store .entry)) (o .0) ⌝ }
+    ensures { λ r. ⌜ resultOf (now (store .entry)) r ≡ roomResult (now (store .entry)) (o .0) ⌝ }
     ensures { λ r. ⌜ Writable (now (store .entry)) r ⌝ }
 {
     let total = Block::BYTES * block_count(store);

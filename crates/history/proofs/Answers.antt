@@ -8,6 +8,8 @@ use native.Mathlib.Omega.{arith}
 use lib.Dec.{eqb, leb, lit<}
 use lib.ListN.{length}
 use borrow.Author.Tests.{eq-eqb, ne-eqb, lt-leb}
+use Rattle.kinds.specs.Numbers.{handleLength}
+use Rattle.kinds.specs.Layout.{blockLength}
 use Rattle.kinds.specs.declared.call.Part.{Part}
 use Rattle.kinds.specs.declared.call.Arguments.the-variants as Call
 use Rattle.spec.specs.Bytes.{beAt, words}
@@ -16,9 +18,9 @@ use Rattle.spec.specs.Handles.{reach, attributes, shownSize}
 use Rattle.spec.specs.Image.{Store, stamp, objects, blocks, objectAt}
 use Rattle.spec.specs.Procedures.{cut, act}
 use Rattle.spec.specs.Procedures.Attributes.{getattr}
-use Rattle.spec.specs.Procedures.Volume.{fsstat}
+use Rattle.spec.specs.Procedures.Volume.{roomResult, fsstat}
 use Rattle.spec.specs.Replies.{resultBytes, fattr3, postOp, hyper}
-use Rattle.spec.specs.Results.{Result, Done, dead, gotAttributes, gotRoom, settle, unchanged, failShowing}
+use Rattle.spec.specs.Results.{Result, Done, dead, gotAttributes, settle, unchanged, failShowing}
 use Rattle.spec.specs.Room.{isLive, isDirectory, isFreeBlock, isAvailable, sizeOf, freeBlockCount, availableCount}
 use Rattle.spec.specs.Rpc.{accepted}
 use Rattle.laws.proofs.Count.{by-bool, count-bound}
@@ -54,9 +56,9 @@ module _ (σ p q r : ℕ) (s : Store) (L : Ledger) (I : Inv σ p q r s L) where
     handle : List ℕ
     handle = handleBytes σ o g
 
-    long : eqb (length handle) 12 ≡ true
+    long : eqb (length handle) handleLength ≡ true
     unfolding handle
-    long = eq-eqb (length handle) 12 (handle-length σ o g)
+    long = eq-eqb (length handle) handleLength (handle-length σ o g)
 
     object : beAt handle 4 4 ≡ o
     unfolding handle
@@ -155,7 +157,8 @@ module _ (σ p q r : ℕ) (s : Store) (L : Ledger) (I : Inv σ p q r s L) where
   -- ---- FSSTAT
   roomWords : ℕ → List ℕ
   roomWords o =
-      0 ∷ postOp (attributes s o) ++ hyper (512 * blocks s) ++ hyper (512 * freeBlockCount s) ++ hyper (512 * freeBlockCount s) ++ hyper (objects s)
+      0 ∷ postOp (attributes s o) ++ hyper (blockLength * blocks s) ++ hyper (blockLength * freeBlockCount s) ++ hyper (blockLength * freeBlockCount s)
+      ++ hyper (objects s)
       ++ hyper (availableCount s) ++ hyper (availableCount s) ++ (0 ∷ [])
 
   got-room : (x : Request) (h : Part) → Asks x (Call.Fsstat h) → (o : ℕ) → reach s (cut (x .call) h) ≡ passed o
@@ -163,7 +166,7 @@ module _ (σ p q r : ℕ) (s : Store) (L : Ledger) (I : Inv σ p q r s L) where
   unfolding act fsstat resultBytes roomWords
   got-room x h k o e =
       let A = answer-to σ p q r s L I x (Call.Fsstat h) k in
-      let go : ℕ → Done = λ o. unchanged s (gotRoom (attributes s o) (512 * blocks s) (512 * freeBlockCount s) (objects s) (availableCount s)) in
+      let go : ℕ → Done = λ o. unchanged s (roomResult s o) in
       let w : settle s (failShowing s (cut (x .call) h)) (reach s (cut (x .call) h)) go .result ≡ go o .result =
       ap (λ (c : Checked ℕ). settle s (failShowing s (cut (x .call) h)) c go .result) e in (
         A .xid,
@@ -177,8 +180,8 @@ module _ (σ p q r : ℕ) (s : Store) (L : Ledger) (I : Inv σ p q r s L) where
 
   pub fsstat-room : (x : Request) (h : Part) (kind : ℕ) → Asks x (Call.Fsstat h) → HasLine (L .book) (cut (x .call) h) kind
       → (isOk (replyTo s x) ≡ true)
-      × (shownTotal (replyTo s x) ≡ 512 * r)
-      × (shownFree (replyTo s x) ≡ 512 * freeBlockCount s) × (shownFreeAgain (replyTo s x) ≡ 512 * freeBlockCount s)
+      × (shownTotal (replyTo s x) ≡ blockLength * r)
+      × (shownFree (replyTo s x) ≡ blockLength * freeBlockCount s) × (shownFreeAgain (replyTo s x) ≡ blockLength * freeBlockCount s)
       × (shownObjects (replyTo s x) ≡ p)
       × (shownAvailable (replyTo s x) ≡ availableCount s) × (shownAvailableAgain (replyTo s x) ≡ availableCount s)
   unfolding roomWords postOp fattr3 freeBlockCount availableCount
@@ -188,12 +191,12 @@ module _ (σ p q r : ℕ) (s : Store) (L : Ledger) (I : Inv σ p q r s L) where
       let few : freeBlockCount s ≤ blocks s = count-bound (blocks s) (isFreeBlock s) in
       let some : availableCount s ≤ objects s = count-bound (objects s) (isAvailable s) in
       let w = I .valid .shaped in
-      let x1 : 512 * freeBlockCount s < 4294967296 = omega arith in
+      let x1 : blockLength * freeBlockCount s < 4294967296 = omega arith in
       let x2 : availableCount s < 4294967296 = omega arith in (
         ok-is (replyTo s x) xid (roomWords o) [] b (omega arith) (lit< tt),
         long-of (replyTo s x) xid (roomWords o) [] b 23 (omega arith) (omega arith) (omega arith) ∙ omega (arith, I .blks),
-        long-of (replyTo s x) xid (roomWords o) [] b 25 (omega arith) (omega arith) (omega arith) ∙ two-words (512 * freeBlockCount s) x1,
-        long-of (replyTo s x) xid (roomWords o) [] b 27 (omega arith) (omega arith) (omega arith) ∙ two-words (512 * freeBlockCount s) x1,
+        long-of (replyTo s x) xid (roomWords o) [] b 25 (omega arith) (omega arith) (omega arith) ∙ two-words (blockLength * freeBlockCount s) x1,
+        long-of (replyTo s x) xid (roomWords o) [] b 27 (omega arith) (omega arith) (omega arith) ∙ two-words (blockLength * freeBlockCount s) x1,
         long-of (replyTo s x) xid (roomWords o) [] b 29 (omega arith) (omega arith) (omega arith) ∙ omega (arith, I .objs),
         long-of (replyTo s x) xid (roomWords o) [] b 31 (omega arith) (omega arith) (omega arith) ∙ two-words (availableCount s) x2,
         long-of (replyTo s x) xid (roomWords o) [] b 33 (omega arith) (omega arith) (omega arith) ∙ two-words (availableCount s) x2,

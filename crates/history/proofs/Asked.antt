@@ -10,6 +10,7 @@ use lib.Dec.{eqb, ltb, lit<}
 use lib.ListN.{length, take}
 use lib.Seq.{take-at}
 use borrow.Author.Tests.{le-ltb, lt-ltb, ltb-false, ltb-true}
+use Rattle.kinds.specs.Numbers.{leastReplyBytes, mostCallBytes, nanosecondsEnd}
 use Rattle.kinds.specs.Reading.{Read, got, bad}
 use Rattle.kinds.specs.declared.object.Context.{Context}
 use Rattle.kinds.specs.declared.call.CallHeader.{CallHeader}
@@ -129,11 +130,11 @@ module _ (s : Store) (x : Request) where
       judged (passed _) w e = read (arguments (h .procedure) (x .call) at) e
 
   -- the tests in the table's order
-  heard : 4224 ≤ length (x .space) → x .context .clock .nanoseconds < 1000000000 → length (x .call) ≤ 8192 → passes s ≡ true
+  heard : leastReplyBytes ≤ length (x .space) → x .context .clock .nanoseconds < nanosecondsEnd → length (x .call) ≤ mostCallBytes → passes s ≡ true
       → outcome s x ≡ settled (x .space) s (complete s (x .context) (x .call) (header (x .call) 0))
   unfolding serve goodTime
   heard a b c d =
-      rw (le-ltb (length (x .space)) 4224 a, lt-ltb (x .context .clock .nanoseconds) 1000000000 b, le-ltb 8192 (length (x .call)) c, d)
+      rw (le-ltb (length (x .space)) leastReplyBytes a, lt-ltb (x .context .clock .nanoseconds) nanosecondsEnd b, le-ltb mostCallBytes (length (x .call)) c, d)
 
   pub acted : (a : Arguments) → Asks x a → passes s ≡ true → Acted s x a
   unfolding replyTo asked sent
@@ -175,15 +176,16 @@ module _ (s : Store) (x : Request) where
   pub served : passes s ≡ true → Idle ⊎ ((a : Arguments) × Asks x a)
   unfolding serve goodTime
   served v =
-      by-bool (ltb (length (x .space)) 4224)
+      by-bool (ltb (length (x .space)) leastReplyBytes)
       (λ a. inl (refused-idle 2 (rw a)))
-      (λ a. by-bool (ltb (x .context .clock .nanoseconds) 1000000000)
-      (λ b. by-bool (ltb 8192 (length (x .call)))
+      (λ a. by-bool (ltb (x .context .clock .nanoseconds) nanosecondsEnd)
+      (λ b. by-bool (ltb mostCallBytes (length (x .call)))
       (λ c. inl (refused-idle 4 (rw (a, b, c))))
       (λ c. go (asked (x .call)) refl a b c))
       (λ b. inl (refused-idle 3 (rw (a, b)))))
     where
-      go : (o : Option Arguments) → asked (x .call) ≡ o → ltb (length (x .space)) 4224 ≡ false → ltb (x .context .clock .nanoseconds) 1000000000 ≡ true
-          → ltb 8192 (length (x .call)) ≡ false → Idle ⊎ ((a : Arguments) × Asks x a)
+      go : (o : Option Arguments) → asked (x .call) ≡ o → ltb (length (x .space)) leastReplyBytes ≡ false
+          → ltb (x .context .clock .nanoseconds) nanosecondsEnd ≡ true
+          → ltb mostCallBytes (length (x .call)) ≡ false → Idle ⊎ ((a : Arguments) × Asks x a)
       go none n a b c = inl (unasked-idle n (rw (a, b, c, v)))
       go (some r) n a b c = inr (r, record { space = ltb-false _ _ a; clock = ltb-true _ _ b; short = ltb-false _ _ c; reads = n })

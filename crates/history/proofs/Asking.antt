@@ -5,7 +5,7 @@ use mathlib.Core.Bool.{true, false, _&&_, _||_}
 use mathlib.Core.Option.{some, none}
 use Prim.Native.Nat.{ℕ, _+_, _≤_, _<_, min}
 use lib.ListN.{length}
-use Rattle.kinds.specs.Numbers.{mostTransferBytes}
+use Rattle.kinds.specs.Numbers.{mostTransferBytes, mostFileBytes}
 use Rattle.kinds.specs.declared.call.Part.{Part}
 use Rattle.kinds.specs.declared.call.NameIn.{NameIn}
 use Rattle.kinds.specs.declared.call.Settable.{Settable}
@@ -34,7 +34,7 @@ pub data AsksStore (s : Store) (x : Request) : Room → Type 0 where
   -- WRITE of some bytes
   byWrite : (h : Part) (offset n : ℕ) (bytes : Part) (o : ℕ) → Asks x (Call.Write h offset n bytes)
       → reachRegular s (cut (x .call) h) ≡ passed o → n ≡ length (cut (x .call) bytes)
-      → 0 < n → offset + min n mostTransferBytes ≤ 8192
+      → 0 < n → offset + min n mostTransferBytes ≤ mostFileBytes
       → AsksStore s x (growth (sizeOf s o) (grown s o offset (min n mostTransferBytes)))
   -- CREATE of a new file, UNCHECKED or GUARDED
   byCreate : (target : NameIn) (manner : How) (a : Settable) (d : ℕ) → Asks x (Call.Create target manner)

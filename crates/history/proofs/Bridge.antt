@@ -7,6 +7,8 @@ use native.Mathlib.Decide.{ℕ-discrete, decLt}
 use native.Mathlib.Omega.{arith}
 use lib.ListN.{length, take, getD, length-take}
 use lib.Seq.{getD-take}
+use Rattle.kinds.specs.Layout.{blocksOffset}
+use Rattle.kinds.specs.Numbers.{fileBlocks}
 use Rattle.spec.specs.Count.{times}
 use Rattle.spec.specs.Image.{Store, objects, names, blocks, objectAt, objectFrom, objectStart, nameAt}
 use Rattle.spec.specs.Room.{held, sizeOf, need}
@@ -81,9 +83,9 @@ module _ (s : Store) (K : Valid s) where
       }
 
   -- ---- the room
-  blocks-long : (o : ℕ) → length (objectAt s o .blocks) ≡ 16
+  blocks-long : (o : ℕ) → length (objectAt s o .blocks) ≡ fileBlocks
   unfolding objectAt objectFrom
-  blocks-long o = halves-count s (objectStart o + 48) 16
+  blocks-long o = halves-count s (objectStart o + blocksOffset) fileBlocks
 
   -- an object has as many blocks as its size needs
   pub held-long : (o : ℕ) → o < objects s → length (held s o) ≡ need (sizeOf s o)

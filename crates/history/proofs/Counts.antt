@@ -11,6 +11,7 @@ use lib.Dec.{eqb, ltb}
 use lib.ListN.{length, getD}
 use lib.Seq.{getD-take}
 use borrow.Author.Tests.{eq-eqb, eqb-true, lt-ltb, le-ltb}
+use Rattle.kinds.specs.Numbers.{mostFileBytes, spentGeneration}
 use Rattle.kinds.specs.declared.object.Object.{Object}
 use Rattle.spec.specs.Bytes.{sameBytes}
 use Rattle.spec.specs.Count.{bit, sum, count, times}
@@ -184,7 +185,7 @@ module _ (σ p q r : ℕ) (s : Store) (L : Ledger) (I : Inv σ p q r s L) where
       lined : ℕ
       lined = bit (isLinedFile (L .book) i)
 
-      by-size : ((objectAt s i .kind ≡ 1) × (objectAt s i .size ≤ 8192)) ⊎ ((objectAt s i .kind ≡ 2) × (objectAt s i .size ≡ 0))
+      by-size : ((objectAt s i .kind ≡ 1) × (objectAt s i .size ≤ mostFileBytes)) ⊎ ((objectAt s i .kind ≡ 2) × (objectAt s i .size ≡ 0))
           → lined * need (objectAt s i .size) ≡ need (objectAt s i .size)
       by-size (_⊎_.inl a) = factor-yes lined (need (objectAt s i .size)) (ap bit (file-lined i (kind-at s i l ∙ a .0)))
       by-size (_⊎_.inr a) = no-need lined (objectAt s i .size) (a .1)
@@ -232,7 +233,7 @@ module _ (σ p q r : ℕ) (s : Store) (L : Ledger) (I : Inv σ p q r s L) where
 
   -- ---- spent records
   last-gen : (i : ℕ) → i < p → (isAmong (lastHandle σ i) (L .given) && not (isLined (lastHandle σ i) (L .book)) ≡ true) ↔
-      ((view s .kind i ≡ 0) × (view s .gen i ≡ 4294967295))
+      ((view s .kind i ≡ 0) × (view s .gen i ≡ spentGeneration))
   unfolding T
   last-gen i l = (
     (λ e. let (a, b) = and-both (isAmong (lastHandle σ i) (L .given)) (not (isLined (lastHandle σ i) (L .book))) e in
@@ -266,15 +267,15 @@ module _ (σ p q r : ℕ) (s : Store) (L : Ledger) (I : Inv σ p q r s L) where
       let g = objectAt s i .generation in
       let e = gen-at s i k in
       by-cases (live? (view s) i)
-      (λ v. let a : isAvailable s i ≡ false = ap (λ (b : Bool). not b && ltb g 4294967295) (true-live s i (omega (arith, kind-at s i k))) in
+      (λ v. let a : isAvailable s i ≡ false = ap (λ (b : Bool). not b && ltb g spentGeneration) (true-live s i (omega (arith, kind-at s i k))) in
       let b : X ≡ false = is-false X (λ t. omega (arith, last-gen i l .0 t)) in
       omega (arith, ap bit a, ap bit b, ind-yes (live? (view s) i) v))
       (λ v. let dead : isLive s i ≡ false = false-live s i (omega (arith, kind-at s i k)) in
-      by-cases (decLt (view s .gen i) 4294967295)
-      (λ m. let a : isAvailable s i ≡ true = ap₂ (λ (b c : Bool). not b && c) dead (lt-ltb g 4294967295 (omega arith)) in
+      by-cases (decLt (view s .gen i) spentGeneration)
+      (λ m. let a : isAvailable s i ≡ true = ap₂ (λ (b c : Bool). not b && c) dead (lt-ltb g spentGeneration (omega arith)) in
       let b : X ≡ false = is-false X (λ t. omega (arith, last-gen i l .0 t)) in
       omega (arith, ap bit a, ap bit b, ind-no (live? (view s) i) v))
-      (λ m. let a : isAvailable s i ≡ false = ap₂ (λ (b c : Bool). not b && c) dead (le-ltb g 4294967295 (omega arith)) in
+      (λ m. let a : isAvailable s i ≡ false = ap₂ (λ (b c : Bool). not b && c) dead (le-ltb g spentGeneration (omega arith)) in
       let b : X ≡ true = last-gen i l .1 (omega arith, omega (arith, I .issues .few i)) in
       omega (arith, ap bit a, ap bit b, ind-no (live? (view s) i) v)))
 

@@ -8,6 +8,8 @@ use native.Mathlib.Omega.{arith}
 use lib.Dec.{eqb, leb, ltb}
 use lib.ListN.{length}
 use borrow.Author.Tests.{leb-true, ltb-true}
+use Rattle.kinds.specs.Layout.{blockLength}
+use Rattle.kinds.specs.Numbers.{nanosecondsEnd, mostObjects, mostNameRecords, mostBlocks}
 use Rattle.kinds.specs.declared.object.Time.{Time}
 use Rattle.spec.specs.Check.{goodTime, goodCounts, imageLength}
 use Rattle.spec.specs.Image.{Store}
@@ -66,7 +68,7 @@ kept σ p q r w I =
       placesFit = omega (arith, free-blocks σ p q r s L I);
       freeBytes = λ x h kind k l.
           let (a, b, c, d, e, f, g) = fsstat-room σ p q r s L I x h kind k l in
-          let z = ap (λ (n : ℕ). 512 * n) (sym (blocks-left σ p q r s L I)) in
+          let z = ap (λ (n : ℕ). blockLength * n) (sym (blocks-left σ p q r s L I)) in
           (c ∙ z, d ∙ z);
       objectsFit = omega (arith, available-objects σ p q r s L I);
       available = λ x h kind k l.
@@ -107,21 +109,21 @@ asked-for : (buffer : Store) (σ p q r : ℕ) (clock : Time) → σ < 4294967296
     → FormatAsked σ p q r clock × (format buffer σ p q r clock .store ≡ formatted σ p q r clock)
 unfolding format goodTime goodCounts
 asked-for buffer σ p q r clock a b e =
-    by-bool (ltb (clock .nanoseconds) 1000000000)
-    (λ t. by-bool (leb 1 p && leb p 64 && leb q 128 && leb r 1024)
+    by-bool (ltb (clock .nanoseconds) nanosecondsEnd)
+    (λ t. by-bool (leb 1 p && leb p mostObjects && leb q mostNameRecords && leb r mostBlocks)
     (λ u. by-bool (eqb (length buffer) (imageLength p q r))
     (λ v.
-    let x = and-both (leb 1 p && leb p 64 && leb q 128) (leb r 1024) u in
-    let y = and-both (leb 1 p && leb p 64) (leb q 128) (x .0) in
-    let z = and-both (leb 1 p) (leb p 64) (y .0) in (
+    let x = and-both (leb 1 p && leb p mostObjects && leb q mostNameRecords) (leb r mostBlocks) u in
+    let y = and-both (leb 1 p && leb p mostObjects) (leb q mostNameRecords) (x .0) in
+    let z = and-both (leb 1 p) (leb p mostObjects) (y .0) in (
       record {
         mark-fits = a;
         some-object = leb-true 1 p (z .0);
-        few-objects = leb-true p 64 (z .1);
-        few-names = leb-true q 128 (y .1);
-        few-blocks = leb-true r 1024 (x .1);
+        few-objects = leb-true p mostObjects (z .1);
+        few-names = leb-true q mostNameRecords (y .1);
+        few-blocks = leb-true r mostBlocks (x .1);
         seconds = b;
-        nanoseconds = ltb-true (clock .nanoseconds) 1000000000 t;
+        nanoseconds = ltb-true (clock .nanoseconds) nanosecondsEnd t;
       },
       rw (t, u, v),
     ))

@@ -4,6 +4,7 @@ use mathlib.Core.List.{List, [], _∷_, _++_, append-assoc, append-nil}
 use Prim.Native.Nat.{ℕ, zero, suc, _+_, _*_, _<_}
 use native.Mathlib.Omega.{arith}
 use lib.ListN.{length, getD}
+use Rattle.kinds.specs.Numbers.{handleLength}
 use Rattle.spec.specs.Bytes.{part, beOf, bytesOf, beAt, words}
 use Rattle.laws.proofs.Bytes.{part-left, part-right, part-whole, part-add, bytes-length, be-bytes}
 use Rattle.laws.proofs.Words.{words-length}
@@ -26,13 +27,13 @@ word-in (w ∷ ws) rest (suc k) l b =
     ∙ word-in ws rest k (omega arith) b
 
 -- twelve bytes are the handle of the words that they spell
-pub handle-of : (h : List ℕ) → length h ≡ 12 → Below 256 h → h ≡ handleBytes (beAt h 0 4) (beAt h 4 4) (beAt h 8 4)
+pub handle-of : (h : List ℕ) → length h ≡ handleLength → Below 256 h → h ≡ handleBytes (beAt h 0 4) (beAt h 4 4) (beAt h 8 4)
 unfolding words
 handle-of h e f =
     let a = bytes-kept h f 4 0 (omega arith) in
     let b = bytes-kept h f 4 4 (omega arith) in
     let c = bytes-kept h f 4 8 (omega arith) in
-    sym (part-whole h 12 e) ∙ part-add h 0 4 8 ∙ ap (λ (x : List ℕ). part h 0 4 ++ x) (part-add h 4 4 4)
+    sym (part-whole h handleLength e) ∙ part-add h 0 4 8 ∙ ap (λ (x : List ℕ). part h 0 4 ++ x) (part-add h 4 4 4)
     ∙ (λ i. sym a i ++ (sym b i ++ sym c i)) ∙ ap (λ (x : List ℕ). bytesOf 4 (beAt h 0 4) ++ (bytesOf 4 (beAt h 4 4) ++ x))
     (sym (append-nil (bytesOf 4 (beAt h 8 4))))
 
@@ -44,7 +45,7 @@ module _ (stamp o generation : ℕ) where
   unfolding three
   whole-word k l b = ap (λ (x : List ℕ). beAt x (4 * k) 4) (sym (append-nil (words three))) ∙ word-in three [] k l b
 
-  pub handle-length : length (handleBytes stamp o generation) ≡ 12
+  pub handle-length : length (handleBytes stamp o generation) ≡ handleLength
   handle-length = words-length (stamp ∷ o ∷ generation ∷ [])
 
   pub handle-stamp : stamp < 4294967296 → beAt (handleBytes stamp o generation) 0 4 ≡ stamp

@@ -6,6 +6,7 @@ use Prim.Native.Nat.{ℕ, _+_, _-_, _^_, _≤_, _<_}
 use native.Mathlib.Decide.{ℕ-discrete}
 use native.Mathlib.Omega.{arith}
 use lib.ListN.{length}
+use Rattle.kinds.specs.Numbers.{mostFileBytes, spentGeneration}
 use Rattle.kinds.specs.declared.object.Time.{Time}
 use Rattle.kinds.specs.declared.object.Object.{Object}
 use Rattle.kinds.specs.declared.call.Settable.{Settable}
@@ -168,7 +169,7 @@ touch-inv σ p q r s L I clock o a l c f w =
     (set-attributes-still s g clock o a k (live-seen σ p q r s L I o l) c f w .good) σ p q r L I
 
 -- ---- the second edit: a file's size
-pub resize-inv : (σ p q r : ℕ) (s : Store) (L : Ledger) → Inv σ p q r s L → (o size : ℕ) → view s .kind o ≡ 1 → size ≤ 8192
+pub resize-inv : (σ p q r : ℕ) (s : Store) (L : Ledger) → Inv σ p q r s L → (o size : ℕ) → view s .kind o ≡ 1 → size ≤ mostFileBytes
     → need size - need (sizeOf s o) ≤ freeBlockCount s → Keeps σ p q r s (resize s o size) L
 resize-inv σ p q r s L I o size k small room =
     let g = good σ p q r s L I in
@@ -190,7 +191,7 @@ write-inv σ p q r s L I o offset xs l b n =
 
 -- ---- the third edit: an object and its name
 module _ (σ p q r : ℕ) (s : Store) (L : Ledger) (I : Inv σ p q r s L) (o n : ℕ) (v : Object) (d : ℕ) (text : List ℕ)
-    (in-objs : o < objects s) (in-names : n < names s) (was-free : objectAt s o .kind ≡ 0) (low : objectAt s o .generation < 4294967295)
+    (in-objs : o < objects s) (in-names : n < names s) (was-free : objectAt s o .kind ≡ 0) (low : objectAt s o .generation < spentGeneration)
     (was-blank : nameLength s n ≡ 0) (fits : FitsObject v) (live : LiveObject (blocks s) v) (empty : v .size ≡ 0) (name : GoodName text)
     (below : Below 256 text)
     (parent : view s .kind d ≡ 2) (absent : entries (names s) (view s) d text ≡ 0) where

@@ -5,6 +5,7 @@ use mathlib.Core.List.{List, _∷_, List·Memᴰ, List·Memᴰ·head, List·Mem�
 use Prim.Native.Nat.{ℕ, suc, _+_, _≤_, _<_}
 use native.Mathlib.Decide.{ℕ-discrete, decLt}
 use native.Mathlib.Omega.{arith}
+use Rattle.kinds.specs.Numbers.{mostObjects, spentGeneration}
 use Rattle.history.specs.Book.{handleBytes}
 use Rattle.history.proofs.Sum.{ind, ind-same, ind-yes, ind-no}
 use Rattle.history.proofs.View.{View, Live}
@@ -12,10 +13,6 @@ use Rattle.history.proofs.Tree.{Tree, live?}
 use Rattle.history.proofs.Change.{Created, Removed, Moved}
 use Rattle.history.proofs.Handles.{same-object, same-generation}
 use Rattle.history.proofs.Agree.{handleIn}
-
--- the generation that is never given out
-abbrev pub last : ℕ
-last = 4294967295
 
 -- how many handles object i has had
 abbrev pub issued : View → ℕ → ℕ
@@ -30,9 +27,9 @@ abbrev pub Current : ℕ → View → List ℕ → Type 0
 Current σ v h = (o : ℕ) × Live v o × (h ≡ handleIn σ v o)
 
 pub record Issues (P σ : ℕ) (v : View) (given : List (List ℕ)) : Type 0 where
-  pub small : P ≤ 64
+  pub small : P ≤ mostObjects
   pub each : (h : List ℕ) → List·Memᴰ h given ↔ Issued σ v h
-  pub few : (i : ℕ) → issued v i ≤ last
+  pub few : (i : ℕ) → issued v i ≤ spentGeneration
   pub past : (i : ℕ) → P ≤ i → issued v i ≡ 0
 
 -- no count has changed
@@ -72,7 +69,7 @@ issued-small P σ v given A o g l =
     let k : o < P = by-cases (decLt o P) (λ x. x) (λ n. absurd (omega (arith, A .past o (omega arith)))) in
     (k, omega (arith, A .small), omega (arith, A .few o))
 
-module _ (P Q σ : ℕ) (v w : View) (o q k d : ℕ) (t : List ℕ) (given : List (List ℕ)) (B : Created P Q v w o q k d t) (low : v .gen o < last)
+module _ (P Q σ : ℕ) (v w : View) (o q k d : ℕ) (t : List ℕ) (given : List (List ℕ)) (B : Created P Q v w o q k d t) (low : v .gen o < spentGeneration)
     (A : Issues P σ v given) where
   one-more : issued w o ≡ suc (v .gen o)
   one-more = omega (arith, B .obj .gen, ind-yes (live? w o) (omega (arith, B .obj .kind, B .live)))

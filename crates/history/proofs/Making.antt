@@ -5,6 +5,7 @@ use mathlib.Core.Bool.{true}
 use mathlib.Core.List.{List, _∷_}
 use Prim.Native.Nat.{ℕ, _-_, _^_, _≤_, _<_}
 use native.Mathlib.Omega.{arith}
+use Rattle.kinds.specs.Numbers.{mostFileBytes}
 use Rattle.kinds.specs.declared.object.Context.{Context}
 use Rattle.kinds.specs.declared.object.Object.{Object}
 use Rattle.kinds.specs.declared.call.SetSize.{SetSize}
@@ -185,11 +186,12 @@ module _ (σ p q r : ℕ) (s : Store) (L : Ledger) (I : Inv σ p q r s L) (c : C
         ∙ some-at p q σ (view s) (tree σ p q r s L I) (L .book) (I .agrees) d text directory-kind n e)
 
   -- ---- CREATE of an existing file
-  pub existing-keeps : (o : ℕ) (a : Settable) → view s .kind o ≡ 1 → sizeSet (a .size) 0 ≤ 8192
+  pub existing-keeps : (o : ℕ) (a : Settable) → view s .kind o ≡ 1 → sizeSet (a .size) 0 ≤ mostFileBytes
       → need (sizeSet (a .size) (sizeOf s o)) - need (sizeOf s o) ≤ freeBlockCount s → Keeps σ p q r s (existingEdit s c o (a .size)) L
   existing-keeps o a k m e = go (a .size) m e
     where
-      go : (z : SetSize) → sizeSet z 0 ≤ 8192 → need (sizeSet z (sizeOf s o)) - need (sizeOf s o) ≤ freeBlockCount s → Keeps σ p q r s (existingEdit s c o z) L
+      go : (z : SetSize) → sizeSet z 0 ≤ mostFileBytes → need (sizeSet z (sizeOf s o)) - need (sizeOf s o) ≤ freeBlockCount s
+          → Keeps σ p q r s (existingEdit s c o z) L
       go SetSize.Keep m e = keeps-refl σ p q r s L I
       go (SetSize.To n) m e =
           let first = resize-inv σ p q r s L I o n k m e in

@@ -10,7 +10,7 @@ use native.Mathlib.Omega.{arith}
 use lib.Dec.{eqb, ltb, lit<}
 use lib.ListN.{length, take}
 use borrow.Author.Tests.{eq-eqb, ne-eqb, lt-ltb, le-ltb, ltb-true}
-use Rattle.kinds.specs.Numbers.{mostTransferBytes}
+use Rattle.kinds.specs.Numbers.{NOSPC, mostTransferBytes, mostFileBytes}
 use Rattle.kinds.specs.declared.call.Part.{Part}
 use Rattle.kinds.specs.declared.call.NameIn.{NameIn}
 use Rattle.kinds.specs.declared.call.Settable.{Settable}
@@ -53,12 +53,12 @@ module _ (call reply : List ℕ) (a : Arguments) (r : Result) (A : Answer call r
   pub ok-of : Says r 0 → isOk reply ≡ true
   ok-of f = ap isOk (A .is) ∙ answered-ok (A .xid) (A .procedure) r (f .some) (omega (arith, f .status)) ∙ eq-eqb (statusOf r) 0 (f .status)
 
-  pub by-room : (missing : Type 0) → Dec missing → (missing → Says r 28) → (¬ missing → Says r 0) → AnswersRoom reply missing
+  pub by-room : (missing : Type 0) → Dec missing → (missing → Says r NOSPC) → (¬ missing → Says r 0) → AnswersRoom reply missing
   by-room missing d full there =
       record {
         nospc = (
-          (λ e. by-cases d (λ m. m) (λ n. absurd (true-false (sym e ∙ status-of 0 28 (there n) (lit< tt))))),
-          (λ m. status-of 28 28 (full m) (lit< tt)),
+          (λ e. by-cases d (λ m. m) (λ n. absurd (true-false (sym e ∙ status-of 0 NOSPC (there n) (lit< tt))))),
+          (λ m. status-of NOSPC NOSPC (full m) (lit< tt)),
         );
         ok = λ n. ok-of (there n);
       }
@@ -89,7 +89,7 @@ RoomMissing σ p q r s L size = (objectsLeft σ p L ≡ 0) ⊎ ((namesLeft q L �
 
 -- the checks of room for a new object, by what is found
 abbrev roomBy : Option ℕ → Option ℕ → Bool → Checked (ℕ × ℕ)
-roomBy x y t = bind (present 28 x) (λ o. bind (present 28 y) (λ n. bind (refuseIf t 28) (λ _. passed (o, n))))
+roomBy x y t = bind (present NOSPC x) (λ o. bind (present NOSPC y) (λ n. bind (refuseIf t NOSPC) (λ _. passed (o, n))))
 
 module _ (σ p q r : ℕ) (s : Store) (L : Ledger) (I : Inv σ p q r s L) where
   -- the room that is left, by the book and in the store
@@ -125,18 +125,18 @@ module _ (σ p q r : ℕ) (s : Store) (L : Ledger) (I : Inv σ p q r s L) where
       let c = x .context in
       let old = sizeOf s o in
       let size = sizeSet (a .size) (sizeOf s o) in
-      let checks : checkSetattr s hb a g ≡ bind (refuseIf (lacksRoom s old size) 28) (λ _. passed o) = rw (e₁, e₂, e₃, e₄) in
+      let checks : checkSetattr s hb a g ≡ bind (refuseIf (lacksRoom s old size) NOSPC) (λ _. passed o) = rw (e₁, e₂, e₃, e₄) in
       let result : Checked ℕ → Result = λ y. settle s (failChanging s hb) y (λ o. edited s o (setattrEdit s c o a)) .result in
       let A = answer-to σ p q r s L I x (Call.Setattr h a g) k in
       by-room (x .call) (replyTo s x) (Call.Setattr h a g) _ A (BlocksMissing p r s L old size) (missing? old size)
-      (λ m. subst (λ (y : Checked ℕ). Says (result y) 28)
-      (sym (checks ∙ ap (λ (t : Bool). bind (refuseIf t 28) (λ _. passed o)) (missing-yes old size m))) (changing-says s hb 28))
-      (λ m. subst (λ (y : Checked ℕ). Says (result y) 0) (sym (checks ∙ ap (λ (t : Bool). bind (refuseIf t 28) (λ _. passed o)) (missing-no old size m)))
+      (λ m. subst (λ (y : Checked ℕ). Says (result y) NOSPC)
+      (sym (checks ∙ ap (λ (t : Bool). bind (refuseIf t NOSPC) (λ _. passed o)) (missing-yes old size m))) (changing-says s hb NOSPC))
+      (λ m. subst (λ (y : Checked ℕ). Says (result y) 0) (sym (checks ∙ ap (λ (t : Bool). bind (refuseIf t NOSPC) (λ _. passed o)) (missing-no old size m)))
       (changed-says 0 _))
 
   -- ---- WRITE
   write-room : (x : Request) (h : Part) (offset n : ℕ) (bytes : Part) (o : ℕ) → Asks x (Call.Write h offset n bytes)
-      → reachRegular s (cut (x .call) h) ≡ passed o → n ≡ length (cut (x .call) bytes) → 0 < n → offset + min n mostTransferBytes ≤ 8192
+      → reachRegular s (cut (x .call) h) ≡ passed o → n ≡ length (cut (x .call) bytes) → 0 < n → offset + min n mostTransferBytes ≤ mostFileBytes
       → AnswersRoom (replyTo s x) (BlocksMissing p r s L (sizeOf s o) (grown s o offset (min n mostTransferBytes)))
   unfolding act write writeDone checkWrite statusOf
   write-room x h offset n bytes o k e₁ e₂ l m =
@@ -147,14 +147,14 @@ module _ (σ p q r : ℕ) (s : Store) (L : Ledger) (I : Inv σ p q r s L) where
       let sent = cut (x .call) bytes in
       let d₁ : eqb n (length sent) ≡ true = eq-eqb n (length sent) e₂ in
       let d₂ : eqb n 0 ≡ false = ne-eqb n 0 (λ z. omega arith) in
-      let d₃ : ltb 8192 (offset + min n 4096) ≡ false = le-ltb 8192 (offset + min n 4096) m in
-      let checks : checkWrite s hb offset n sent ≡ bind (refuseIf (lacksRoom s old size) 28) (λ _. passed o) = rw (e₁, d₁, d₂, d₃) in
+      let d₃ : ltb mostFileBytes (offset + min n mostTransferBytes) ≡ false = le-ltb mostFileBytes (offset + min n mostTransferBytes) m in
+      let checks : checkWrite s hb offset n sent ≡ bind (refuseIf (lacksRoom s old size) NOSPC) (λ _. passed o) = rw (e₁, d₁, d₂, d₃) in
       let result : Checked ℕ → Result = λ y. settle s (failChanging s hb) y (λ o. writeDone s c o offset (take (min n mostTransferBytes) sent)) .result in
       let A = answer-to σ p q r s L I x (Call.Write h offset n bytes) k in
       by-room (x .call) (replyTo s x) (Call.Write h offset n bytes) _ A (BlocksMissing p r s L old size) (missing? old size)
-      (λ b. subst (λ (y : Checked ℕ). Says (result y) 28)
-      (sym (checks ∙ ap (λ (t : Bool). bind (refuseIf t 28) (λ _. passed o)) (missing-yes old size b))) (changing-says s hb 28))
-      (λ b. subst (λ (y : Checked ℕ). Says (result y) 0) (sym (checks ∙ ap (λ (t : Bool). bind (refuseIf t 28) (λ _. passed o)) (missing-no old size b)))
+      (λ b. subst (λ (y : Checked ℕ). Says (result y) NOSPC)
+      (sym (checks ∙ ap (λ (t : Bool). bind (refuseIf t NOSPC) (λ _. passed o)) (missing-yes old size b))) (changing-says s hb NOSPC))
+      (λ b. subst (λ (y : Checked ℕ). Says (result y) 0) (sym (checks ∙ ap (λ (t : Bool). bind (refuseIf t NOSPC) (λ _. passed o)) (missing-no old size b)))
       (wrote-says _ _ _))
 
   pub write-nothing : (x : Request) (h : Part) (offset : ℕ) (bytes : Part) (o : ℕ) → Asks x (Call.Write h offset 0 bytes)
@@ -180,17 +180,17 @@ module _ (σ p q r : ℕ) (s : Store) (L : Ledger) (I : Inv σ p q r s L) where
       (λ c. yes (inr (inr c)))
       (λ c. no (λ x. ⊎-elim a (λ y. ⊎-elim b c y) x))))
 
-  room-full : (size : ℕ) → RoomMissing σ p q r s L size → roomForNew s size ≡ refused 28
+  room-full : (size : ℕ) → RoomMissing σ p q r s L size → roomForNew s size ≡ refused NOSPC
   unfolding roomForNew availableObject availableName availableCount freeNameCount
   room-full size (_⊎_.inl a) = rw (lowest-count (objects s) (isAvailable s) (sym objects-left ∙ a))
   room-full size (_⊎_.inr (_⊎_.inl b)) = objects-first (availableObject s)
     where
-      objects-first : (x : Option ℕ) → roomBy x (availableName s) (lacksRoom s 0 size) ≡ refused 28
+      objects-first : (x : Option ℕ) → roomBy x (availableName s) (lacksRoom s 0 size) ≡ refused NOSPC
       objects-first none = refl
       objects-first (some o) = rw (lowest-count (names s) (λ n. not (isUsedName s n)) (sym names-left ∙ b))
   room-full size (_⊎_.inr (_⊎_.inr c)) = both (availableObject s) (availableName s)
     where
-      both : (x y : Option ℕ) → roomBy x y (lacksRoom s 0 size) ≡ refused 28
+      both : (x y : Option ℕ) → roomBy x y (lacksRoom s 0 size) ≡ refused NOSPC
       both none y = refl
       both (some o) none = refl
       both (some o) (some n) = rw (missing-yes 0 size (omega arith))
@@ -221,8 +221,8 @@ module _ (σ p q r : ℕ) (s : Store) (L : Ledger) (I : Inv σ p q r s L) where
       let result : Checked (ℕ × Target) → Result = λ y. settle s (failChanging s h) y (λ p. createEdit s c (p .0) text (settableOf manner) (p .1)) .result in
       let A = answer-to σ p q r s L I x (Call.Create place manner) k in
       by-room (x .call) (replyTo s x) (Call.Create place manner) _ A (RoomMissing σ p q r s L size) (room? size)
-      (λ m. subst (λ (y : Checked (ℕ × Target)). Says (result y) 28)
-      (sym (checks ∙ ap (λ (t : Checked (ℕ × ℕ)). bind (isNew t) (λ t. passed (d, t))) (room-full size m))) (changing-says s h 28))
+      (λ m. subst (λ (y : Checked (ℕ × Target)). Says (result y) NOSPC)
+      (sym (checks ∙ ap (λ (t : Checked (ℕ × ℕ)). bind (isNew t) (λ t. passed (d, t))) (room-full size m))) (changing-says s h NOSPC))
       (λ m. let (y, e) = room-there size m in
       subst (λ (y : Checked (ℕ × Target)). Says (result y) 0) (sym (checks ∙ ap (λ (t : Checked (ℕ × ℕ)). bind (isNew t) (λ t. passed (d, t))) e))
       (created-says _ _ _))
@@ -247,12 +247,12 @@ module _ (σ p q r : ℕ) (s : Store) (L : Ledger) (I : Inv σ p q r s L) where
       let o = nameAt s n .child in
       let old = sizeOf s o in
       let size = sizeSet (a .size) (sizeOf s o) in
-      let rest : Bool → Checked (ℕ × Target) = λ t. bind (bind (refuseIf t 28) (λ _. passed (existing o))) (λ t. passed (d, t)) in
+      let rest : Bool → Checked (ℕ × Target) = λ t. bind (bind (refuseIf t NOSPC) (λ _. passed (existing o))) (λ t. passed (d, t)) in
       let checks : checkCreate s h text (How.Unchecked a) ≡ rest (lacksRoom s old size) = rw (e₁, e₂, e₃, e₄) in
       let result : Checked (ℕ × Target) → Result = λ y. settle s (failChanging s h) y (λ p. createEdit s c (p .0) text a (p .1)) .result in
       let A = answer-to σ p q r s L I x (Call.Create place (How.Unchecked a)) k in
       by-room (x .call) (replyTo s x) (Call.Create place (How.Unchecked a)) _ A (BlocksMissing p r s L old size) (missing? old size)
-      (λ m. subst (λ (y : Checked (ℕ × Target)). Says (result y) 28) (sym (checks ∙ ap rest (missing-yes old size m))) (changing-says s h 28))
+      (λ m. subst (λ (y : Checked (ℕ × Target)). Says (result y) NOSPC) (sym (checks ∙ ap rest (missing-yes old size m))) (changing-says s h NOSPC))
       (λ m. subst (λ (y : Checked (ℕ × Target)). Says (result y) 0) (sym (checks ∙ ap rest (missing-no old size m)))
       (created-says _ _ _))
 
@@ -272,7 +272,7 @@ module _ (σ p q r : ℕ) (s : Store) (L : Ledger) (I : Inv σ p q r s L) where
       (λ p. createdIn s (newEdit s c 2 (p .1) (p .2) (p .0) text a) (p .0) (p .1)) .result in
       let A = answer-to σ p q r s L I x (Call.Mkdir place a) k in
       by-room (x .call) (replyTo s x) (Call.Mkdir place a) _ A (RoomMissing σ p q r s L 0) (room? 0)
-      (λ m. subst (λ (y : Checked (ℕ × ℕ × ℕ)). Says (result y) 28) (sym (checks ∙ ap rest (room-full 0 m))) (changing-says s h 28))
+      (λ m. subst (λ (y : Checked (ℕ × ℕ × ℕ)). Says (result y) NOSPC) (sym (checks ∙ ap rest (room-full 0 m))) (changing-says s h NOSPC))
       (λ m. let (y, e) = room-there 0 m in
       subst (λ (y : Checked (ℕ × ℕ × ℕ)). Says (result y) 0) (sym (checks ∙ ap rest e))
       (created-says _ _ _))

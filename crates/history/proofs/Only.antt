@@ -9,6 +9,7 @@ use native.Mathlib.Omega.{arith}
 use lib.Dec.{lit<}
 use lib.ListN.{length}
 use borrow.Author.Tests.{eqb-true}
+use Rattle.kinds.specs.Numbers.{NOSPC, NOTSUPP}
 use Rattle.kinds.specs.declared.object.Context.{Context}
 use Rattle.kinds.specs.declared.call.Part.{Part}
 use Rattle.kinds.specs.declared.call.Settable.{Settable}
@@ -73,7 +74,7 @@ says r n t e = record { status = e; some = λ z. subst Shows z t }
 
 -- ---- a status that is not NOSPC, or is it and room was asked for
 abbrev Told : Store → Request → ℕ → Type 0
-Told s x n = (n < 4294967296) × (n ≡ 28 → (m : Room) × AsksStore s x m)
+Told s x n = (n < 4294967296) × (n ≡ NOSPC → (m : Room) × AsksStore s x m)
 
 module _ (s : Store) (x : Request) where
   Q : ℕ → Type 0
@@ -83,21 +84,21 @@ module _ (s : Store) (x : Request) where
   unfolding Q
   plain n d = (d .1, λ e. absurd (d .2 e))
 
-  asks : (m : Room) → AsksStore s x m → Q 28
+  asks : (m : Room) → AsksStore s x m → Q NOSPC
   unfolding Q
   asks m a = (lit< tt, λ e. (m, a))
 
   -- ---- what a reply with the status NOSPC tells of the checks
   Found : Type 0
-  Found = isStatus 28 (replyTo s x) ≡ true → (m : Room) × AsksStore s x m
+  Found = isStatus NOSPC (replyTo s x) ≡ true → (m : Room) × AsksStore s x m
 
   by-checks : {A : Type 0} {a : Arguments} (fail : ℕ → Result) (c : Checked A) (go : A → Done) → ((n : ℕ) → Says (fail n) n) → Tells Q c
       → Answer (x .call) (replyTo s x) a (settle s fail c go .result) → ((y : A) → Says (go y .result) 0) → Found
   unfolding Q Found
   by-checks {a} fail (refused n) go f h A g e =
       let z = h n refl in
-      z .1 (eqb-true n 28 (sym (status-of (x .call) (replyTo s x) a (fail n) A n 28 (f n) (z .0)) ∙ e))
-  by-checks {a} fail (passed y) go f h A g e = true-false (sym e ∙ status-of (x .call) (replyTo s x) a (go y .result) A 0 28 (g y) (lit< tt))
+      z .1 (eqb-true n NOSPC (sym (status-of (x .call) (replyTo s x) a (fail n) A n NOSPC (f n) (z .0)) ∙ e))
+  by-checks {a} fail (passed y) go f h A g e = true-false (sym e ∙ status-of (x .call) (replyTo s x) a (go y .result) A 0 NOSPC (g y) (lit< tt))
 
   -- a failure that shows attributes, and one that shows a change
   showing : {A : Type 0} {c : Checked A} {a : Arguments} (h : List ℕ) (go : A → Done) → Tells Q c
@@ -120,7 +121,7 @@ module _ (s : Store) (x : Request) where
       resultBytes accepted statusOf Found at
   asks-room Call.Null k A e =
       let six = A .xid ∷ 1 ∷ 0 ∷ 0 ∷ 0 ∷ 0 ∷ [] in
-      true-false (sym e ∙ short-silent (replyTo s x) (omega (arith, ap length (A .is), words-length six, ap length (append-nil (words six)))) 28)
+      true-false (sym e ∙ short-silent (replyTo s x) (omega (arith, ap length (A .is), words-length six, ap length (append-nil (words six)))) NOSPC)
   asks-room (Call.Getattr h) k A e = by-checks dead (reach s (at h)) _ dead-says (reach-tells Q plain s (at h)) A (λ o. says _ 0 tt refl) e
   asks-room (Call.Setattr h a g) k A e =
       changing (at h) _
@@ -155,14 +156,15 @@ module _ (s : Store) (x : Request) where
   asks-room (Call.Fsinfo h) k A e = showing (at h) _ (reach-tells Q plain s (at h)) A (λ o. says _ 0 tt refl) e
   asks-room (Call.Pathconf h) k A e = showing (at h) _ (reach-tells Q plain s (at h)) A (λ o. says _ 0 tt refl) e
   asks-room (Call.Commit h) k A e = changing (at h) _ (regular-tells Q plain s (at h)) A (λ o. says _ 0 tt refl) e
-  asks-room Call.Unserved k A e = true-false (sym e ∙ status-of (x .call) (replyTo s x) Call.Unserved (dead 10004) A 10004 28 (dead-says 10004) (lit< tt))
+  asks-room Call.Unserved k A e =
+      true-false (sym e ∙ status-of (x .call) (replyTo s x) Call.Unserved (dead NOTSUPP) A NOTSUPP NOSPC (dead-says NOTSUPP) (lit< tt))
 
 -- whatever is answered NOSPC asks for room that is missing
-pub only-room : (σ p q r : ℕ) (s : Store) (L : Ledger) → Inv σ p q r s L → (x : Request) → isStatus 28 (replyTo s x) ≡ true
+pub only-room : (σ p q r : ℕ) (s : Store) (L : Ledger) → Inv σ p q r s L → (x : Request) → isStatus NOSPC (replyTo s x) ≡ true
     → (m : Room) × AsksStore s x m × Missing σ p q r (record { store = s; ledger = L }) m
 unfolding Found
 only-room σ p q r s L I x e = ⊎-elim
-    (λ (i : Idle s x). true-false (sym e ∙ i .silent 28))
+    (λ (i : Idle s x). true-false (sym e ∙ i .silent NOSPC))
     (λ (k : (a : Arguments) × Asks x a).
     let (m, y) = asks-room s x (k .0) (k .1) (answer-to σ p q r s L I x (k .0) (k .1)) e in
     (m, y, room σ p q r s L I x y .nospc .0 e))

@@ -10,7 +10,7 @@ use lib.ListN.{length, getD, replicate, length-append}
 use borrow.Author.Tests.{le-leb, lt-leb, ne-eqb}
 use Rattle.kinds.specs.declared.object.Attributes.{Attributes}
 use Rattle.kinds.specs.declared.object.Change.{Change}
-use Rattle.kinds.specs.Numbers.{zeroWords}
+use Rattle.kinds.specs.Numbers.{zeroWords, mostFileBytes, mostNameBytes, handleLength, mostTransferBytes, fileSystemProperties}
 use Rattle.spec.specs.Bytes.{part, beAt, bytesOf, words, opaqueBytes}
 use Rattle.spec.specs.Count.{bit}
 use Rattle.spec.specs.Replies.{resultBytes, fattr3, postOp, wccData, wccOption, entriesBytes, hyper}
@@ -98,28 +98,29 @@ words-between xs ys rest =
     ∙ part-whole (words ys) (4 * length ys) (words-length ys)
 
 -- the handle behind the words ws and its length
-pub handle-at : (reply : List ℕ) (xid : ℕ) (ws rest : List ℕ) (stamp o g at : ℕ) → Begins reply xid (ws ++ (12 ∷ stamp ∷ o ∷ g ∷ [])) rest
+pub handle-at : (reply : List ℕ) (xid : ℕ) (ws rest : List ℕ) (stamp o g at : ℕ) → Begins reply xid (ws ++ (handleLength ∷ stamp ∷ o ∷ g ∷ [])) rest
     → at ≡ 24 + 4 * length ws → handleAt reply at ≡ handleBytes stamp o g
 handle-at reply xid ws rest stamp o g at b e =
     let hs = stamp ∷ o ∷ g ∷ [] in
     let six = xid ∷ 1 ∷ 0 ∷ 0 ∷ 0 ∷ 0 ∷ [] in
-    let n : beAt reply at 4 ≡ 12 =
+    let n : beAt reply at 4 ≡ handleLength =
     ap (λ (x : ℕ). beAt reply x 4) e
-    ∙ word-of reply xid (ws ++ (12 ∷ hs)) rest b (length ws) (omega (arith, length-append ws (12 ∷ hs))) (omega (arith, middle ws 12 hs))
-    ∙ middle ws 12 hs in
-    let split : words (xid ∷ 1 ∷ 0 ∷ 0 ∷ 0 ∷ 0 ∷ ws ++ (12 ∷ hs)) ≡ words ((six ++ (ws ++ (12 ∷ []))) ++ hs) = ap (λ (x : List ℕ). words (six ++ x))
-    (sym (append-assoc ws (12 ∷ []) hs)) in
-    let l : length (six ++ (ws ++ (12 ∷ []))) ≡ 7 + length ws = omega (arith, length-append ws (12 ∷ [])) in
+    ∙ word-of reply xid (ws ++ (handleLength ∷ hs)) rest b (length ws) (omega (arith, length-append ws (handleLength ∷ hs)))
+    (omega (arith, middle ws handleLength hs))
+    ∙ middle ws handleLength hs in
+    let split : words (xid ∷ 1 ∷ 0 ∷ 0 ∷ 0 ∷ 0 ∷ ws ++ (handleLength ∷ hs)) ≡ words ((six ++ (ws ++ (handleLength ∷ []))) ++ hs) =
+    ap (λ (x : List ℕ). words (six ++ x)) (sym (append-assoc ws (handleLength ∷ []) hs)) in
+    let l : length (six ++ (ws ++ (handleLength ∷ []))) ≡ 7 + length ws = omega (arith, length-append ws (handleLength ∷ [])) in
     ap (λ (x : ℕ). part reply (at + 4) x) n
-    ∙ ap₂ (λ (x : List ℕ) (y : ℕ). part x y 12) (b ∙ ap (λ (x : List ℕ). x ++ rest) split) (omega (arith, ap (λ (x : ℕ). 4 * x) l))
-    ∙ words-between (six ++ (ws ++ (12 ∷ []))) hs rest
+    ∙ ap₂ (λ (x : List ℕ) (y : ℕ). part x y handleLength) (b ∙ ap (λ (x : List ℕ). x ++ rest) split) (omega (arith, ap (λ (x : ℕ). 4 * x) l))
+    ∙ words-between (six ++ (ws ++ (handleLength ∷ []))) hs rest
   where
     middle : (xs : List ℕ) (y : ℕ) (ys : List ℕ) → getD (xs ++ (y ∷ ys)) (length xs) 0 ≡ y
     middle [] y ys = refl
     middle (x ∷ xs) y ys = middle xs y ys
 
 -- ---- the results as words
-opaque-handle : (stamp o g : ℕ) → opaqueBytes (handleBytes stamp o g) ≡ words (12 ∷ stamp ∷ o ∷ g ∷ [])
+opaque-handle : (stamp o g : ℕ) → opaqueBytes (handleBytes stamp o g) ≡ words (handleLength ∷ stamp ∷ o ∷ g ∷ [])
 unfolding opaqueBytes words bytesOf
 opaque-handle stamp o g = refl
 
@@ -163,8 +164,11 @@ starts p (listed a es eof) n =
 starts p (gotRoom a total free objects available) n =
     only-words p (gotRoom a total free objects available)
     (postOp a ++ hyper total ++ hyper free ++ hyper free ++ hyper objects ++ hyper available ++ hyper available ++ (0 ∷ [])) refl
-starts p (gotLimits a) n = only-words p (gotLimits a) (postOp a ++ (4096 ∷ 4096 ∷ 1 ∷ 4096 ∷ 4096 ∷ 1 ∷ 4096 ∷ hyper 8192) ++ (0 ∷ 1 ∷ 0x18 ∷ [])) refl
-starts p (gotNaming a) n = only-words p (gotNaming a) (postOp a ++ (1 ∷ 32 ∷ 1 ∷ 0 ∷ 0 ∷ 1 ∷ [])) refl
+starts p (gotLimits a) n =
+    only-words p (gotLimits a)
+    (postOp a ++ (mostTransferBytes ∷ mostTransferBytes ∷ 1 ∷ mostTransferBytes ∷ mostTransferBytes ∷ 1 ∷ mostTransferBytes ∷ hyper mostFileBytes)
+    ++ (0 ∷ 1 ∷ fileSystemProperties ∷ [])) refl
+starts p (gotNaming a) n = only-words p (gotNaming a) (postOp a ++ (1 ∷ mostNameBytes ∷ 1 ∷ 0 ∷ 0 ∷ 1 ∷ [])) refl
 starts p (committed c verifier) n = only-words p (committed c verifier) (wccData c ++ hyper verifier) refl
 
 -- a reply's status, and whether it is OK
@@ -184,15 +188,15 @@ pub made-is : (xid p stamp o g : ℕ) (a : Attributes) (d : Change) → handleAt
 unfolding resultBytes
 made-is xid p stamp o g a d =
     handle-at _ xid (0 ∷ 1 ∷ []) (words (postOp a ++ wccData d)) stamp o g 32
-    (begins xid (0 ∷ 1 ∷ 12 ∷ stamp ∷ o ∷ g ∷ []) (words (postOp a ++ wccData d)) _
+    (begins xid (0 ∷ 1 ∷ handleLength ∷ stamp ∷ o ∷ g ∷ []) (words (postOp a ++ wccData d)) _
     (ap (λ (x : List ℕ). words (0 ∷ 1 ∷ []) ++ x ++ words (postOp a ++ wccData d)) (opaque-handle stamp o g)
-    ∙ ap (λ (x : List ℕ). x ++ words (postOp a ++ wccData d)) (sym (words-append (0 ∷ 1 ∷ []) (12 ∷ stamp ∷ o ∷ g ∷ []))))) refl
+    ∙ ap (λ (x : List ℕ). x ++ words (postOp a ++ wccData d)) (sym (words-append (0 ∷ 1 ∷ []) (handleLength ∷ stamp ∷ o ∷ g ∷ []))))) refl
 
 pub found-is : (xid p stamp o g : ℕ) (a d : Attributes) → handleAt (accepted xid 0 (resultBytes p (found (handleBytes stamp o g) a d))) 28
     ≡ handleBytes stamp o g
 unfolding resultBytes
 found-is xid p stamp o g a d =
     handle-at _ xid (0 ∷ []) (words (postOp a ++ postOp d)) stamp o g 28
-    (begins xid (0 ∷ 12 ∷ stamp ∷ o ∷ g ∷ []) (words (postOp a ++ postOp d)) _
+    (begins xid (0 ∷ handleLength ∷ stamp ∷ o ∷ g ∷ []) (words (postOp a ++ postOp d)) _
     (ap (λ (x : List ℕ). words (0 ∷ []) ++ x ++ words (postOp a ++ postOp d)) (opaque-handle stamp o g)
-    ∙ ap (λ (x : List ℕ). x ++ words (postOp a ++ postOp d)) (sym (words-append (0 ∷ []) (12 ∷ stamp ∷ o ∷ g ∷ []))))) refl
+    ∙ ap (λ (x : List ℕ). x ++ words (postOp a ++ postOp d)) (sym (words-append (0 ∷ []) (handleLength ∷ stamp ∷ o ∷ g ∷ []))))) refl

@@ -7,6 +7,7 @@ use native.Mathlib.Omega.{arith}
 use lib.Dec.{eqb, lit<}
 use lib.ListN.{length, take, length-take}
 use borrow.Author.Tests.{eqb-false}
+use Rattle.kinds.specs.Numbers.{mostFileBytes, mostTransferBytes}
 use Rattle.kinds.specs.declared.object.Context.{Context}
 use Rattle.kinds.specs.declared.call.SetSize.{SetSize}
 use Rattle.kinds.specs.declared.call.SetSize.the-variants as SetSize
@@ -36,7 +37,8 @@ use Rattle.history.proofs.Inv.{Inv, Keeps, keeps-refl, keeps-trans, goo
 pub seen-live : (s : Store) (o : ℕ) → o < objects s → isLive s o ≡ true → Live (view s) o
 seen-live s o l e = omega (arith, kind-at s o l, live-true s o e)
 
-pub resize-to : (σ p q r : ℕ) (s : Store) (L : Ledger) → Inv σ p q r s L → (o : ℕ) (z : SetSize) → (isGiven z ≡ true → view s .kind o ≡ 1) → sizeSet z 0 ≤ 8192
+pub resize-to : (σ p q r : ℕ) (s : Store) (L : Ledger) → Inv σ p q r s L → (o : ℕ) (z : SetSize) → (isGiven z ≡ true → view s .kind o ≡ 1)
+    → sizeSet z 0 ≤ mostFileBytes
     → need (sizeSet z (sizeOf s o)) - need (sizeOf s o) ≤ freeBlockCount s → Keeps σ p q r s (resizeTo s o z) L
 resize-to σ p q r s L I o SetSize.Keep k m h = keeps-refl σ p q r s L I
 resize-to σ p q r s L I o (SetSize.To n) k m h = resize-inv σ p q r s L I o n (k refl) m h
@@ -64,13 +66,13 @@ module _ (σ p q r : ℕ) (s : Store) (L : Ledger) (I : Inv σ p q r s L) (c : C
       go (passed o) e = setattr-edit h a g o f (setattr-passed s h a g o e)
 
   -- ---- WRITE
-  write-some : (o offset : ℕ) (xs : List ℕ) → view s .kind o ≡ 1 → Below 256 xs → offset + length xs ≤ 8192
+  write-some : (o offset : ℕ) (xs : List ℕ) → view s .kind o ≡ 1 → Below 256 xs → offset + length xs ≤ mostFileBytes
       → need (grown s o offset (length xs)) - need (sizeOf s o) ≤ freeBlockCount s → Keeps σ p q r s (writeEdit s c o offset xs) L
   unfolding writeEdit
   write-some o offset xs k b m room =
       let n = live-in s o (omega arith) in
       let size = grown s o offset (length xs) in
-      let small : size ≤ 8192 = omega (arith, good-size-small s o (I .valid .good-objects o n)) in
+      let small : size ≤ mostFileBytes = omega (arith, good-size-small s o (I .valid .good-objects o n)) in
       let first = resize-inv σ p q r s L I o size k small room in
       let t = resize s o size in
       let l : Live (view t) o = omega (arith, first .kinds o (omega arith)) in
@@ -83,18 +85,19 @@ module _ (σ p q r : ℕ) (s : Store) (L : Ledger) (I : Inv σ p q r s L) (c : C
       keeps-trans σ p q r s t _ L L first (keeps-trans σ p q r t u _ L L second third)
 
   write-edit : (h : List ℕ) (offset count : ℕ) (bytes : List ℕ) (o : ℕ) → Below 256 bytes → WritePassed s h offset count bytes o
-      → Keeps σ p q r s (writeStore s c o offset (take (min count 4096) bytes)) L
+      → Keeps σ p q r s (writeStore s c o offset (take (min count mostTransferBytes) bytes)) L
   unfolding writeStore
   write-edit h offset count bytes o b w =
-      let xs = take (min count 4096) bytes in
-      let n : length xs ≡ min count 4096 = omega (arith, length-take (min count 4096) bytes, w .counted) in
+      let xs = take (min count mostTransferBytes) bytes in
+      let n : length xs ≡ min count mostTransferBytes = omega (arith, length-take (min count mostTransferBytes) bytes, w .counted) in
       let K : Bool → Type 0 = λ t. Keeps σ p q r s (cond t s (writeEdit s c o offset xs)) L in
       by-bool (eqb (length xs) 0)
       (λ t. subst K (sym t) (keeps-refl σ p q r s L I))
       (λ t. let z = eqb-false (length xs) 0 t in
       let some : 0 < count = count-some count (λ e. z (omega arith)) in
       subst K (sym t)
-      (write-some o offset xs (kind-at s o (w .reached .below) ∙ w .regular) (below-take 256 bytes (min count 4096) (lit< tt) b) (omega (arith, w .fits some))
+      (write-some o offset xs (kind-at s o (w .reached .below) ∙ w .regular) (below-take 256 bytes (min count mostTransferBytes) (lit< tt) b)
+      (omega (arith, w .fits some))
       (subst (λ (y : ℕ). need (grown s o offset y) - need (sizeOf s o) ≤ freeBlockCount s) (sym n) (w .room some))))
     where
       count-some : (k : ℕ) → (k ≡ 0 → ⊥) → 0 < k
@@ -106,6 +109,6 @@ module _ (σ p q r : ℕ) (s : Store) (L : Ledger) (I : Inv σ p q r s L) (c : C
   write-keeps h offset count bytes b = go (checkWrite s h offset count bytes) refl
     where
       go : (x : Checked ℕ) → checkWrite s h offset count bytes ≡ x
-          → Keeps σ p q r s (settle s (failChanging s h) x (λ o. writeDone s c o offset (take (min count 4096) bytes)) .store) L
+          → Keeps σ p q r s (settle s (failChanging s h) x (λ o. writeDone s c o offset (take (min count mostTransferBytes) bytes)) .store) L
       go (refused status) e = keeps-refl σ p q r s L I
       go (passed o) e = write-edit h offset count bytes o b (write-passed s h offset count bytes o e)

@@ -10,7 +10,9 @@ use native.Mathlib.Omega.{arith}
 use lib.Dec.{eqb, leb, ltb, lit<}
 use lib.ListN.{length}
 use borrow.Author.Tests.{eqb-true, eqb-false, ltb-false, not-true, not-false}
-use Rattle.kinds.specs.Numbers.{mostNameBytes, mostTransferBytes, listingCost, entryFixedCost}
+use Rattle.kinds.specs.Numbers.{NOENT, ACCES, EXIST, NOTDIR, INVAL, FBIG, NOSPC, NAMETOOLONG, NOTEMPTY, STALE, BADHANDLE}
+use Rattle.kinds.specs.Numbers.{NOT-SYNC, BAD-COOKIE, NOTSUPP, TOOSMALL, mostNameBytes}
+use Rattle.kinds.specs.Numbers.{mostTransferBytes, listingCost, entryFixedCost, mostFileBytes, handleLength}
 use Rattle.kinds.specs.declared.call.Settable.{Settable}
 use Rattle.kinds.specs.declared.call.Guard.{Guard}
 use Rattle.kinds.specs.declared.call.How.{How}
@@ -36,7 +38,7 @@ Tells P c = (status : ℕ) → c ≡ refused status → P status
 
 -- an error other than NOSPC
 abbrev pub Plain : ℕ → Type 0
-Plain n = (0 < n) × (n < 4294967296) × (n ≢ 28)
+Plain n = (0 < n) × (n < 4294967296) × (n ≢ NOSPC)
 
 -- ---- checks in order
 module _ (P : ℕ → Type 0) where
@@ -73,58 +75,58 @@ module _ (P : ℕ → Type 0) where
 
 -- ---- the checks of each procedure
 module _ (P : ℕ → Type 0) (plain : (n : ℕ) → Plain n → P n) (s : Store) where
-  noent : P 2
-  noent = plain 2 (lit< tt, lit< tt, omega arith)
+  noent : P NOENT
+  noent = plain NOENT (lit< tt, lit< tt, omega arith)
 
-  acces : P 13
-  acces = plain 13 (lit< tt, lit< tt, omega arith)
+  acces : P ACCES
+  acces = plain ACCES (lit< tt, lit< tt, omega arith)
 
-  exist : P 17
-  exist = plain 17 (lit< tt, lit< tt, omega arith)
+  exist : P EXIST
+  exist = plain EXIST (lit< tt, lit< tt, omega arith)
 
-  notdir : P 20
-  notdir = plain 20 (lit< tt, lit< tt, omega arith)
+  notdir : P NOTDIR
+  notdir = plain NOTDIR (lit< tt, lit< tt, omega arith)
 
-  inval : P 22
-  inval = plain 22 (lit< tt, lit< tt, omega arith)
+  inval : P INVAL
+  inval = plain INVAL (lit< tt, lit< tt, omega arith)
 
-  stale : P 70
-  stale = plain 70 (lit< tt, lit< tt, omega arith)
+  stale : P STALE
+  stale = plain STALE (lit< tt, lit< tt, omega arith)
 
-  bad-handle : P 10001
-  bad-handle = plain 10001 (lit< tt, lit< tt, omega arith)
+  bad-handle : P BADHANDLE
+  bad-handle = plain BADHANDLE (lit< tt, lit< tt, omega arith)
 
-  too-small : P 10005
-  too-small = plain 10005 (lit< tt, lit< tt, omega arith)
+  too-small : P TOOSMALL
+  too-small = plain TOOSMALL (lit< tt, lit< tt, omega arith)
 
   pub reach-tells : (h : List ℕ) → Tells P (reach s h)
   unfolding reach
   reach-tells h =
-      tells-if P (not (eqb (length h) 12)) 10001 _ (λ _. bad-handle) (λ _.
-      tells-if P (leb (objects s) (beAt h 4 4)) 10001 _ (λ _. bad-handle) (λ _.
-      tells-if P (not (eqb (beAt h 0 4) (stamp s))) 70 _ (λ _. stale) (λ _.
-      tells-if P (not (isLive s (beAt h 4 4))) 70 _ (λ _. stale) (λ _.
-      tells-if P (not (eqb (beAt h 8 4) (objectAt s (beAt h 4 4) .generation))) 70 _ (λ _. stale) (λ _. tells-passed P _)))))
+      tells-if P (not (eqb (length h) handleLength)) BADHANDLE _ (λ _. bad-handle) (λ _.
+      tells-if P (leb (objects s) (beAt h 4 4)) BADHANDLE _ (λ _. bad-handle) (λ _.
+      tells-if P (not (eqb (beAt h 0 4) (stamp s))) STALE _ (λ _. stale) (λ _.
+      tells-if P (not (isLive s (beAt h 4 4))) STALE _ (λ _. stale) (λ _.
+      tells-if P (not (eqb (beAt h 8 4) (objectAt s (beAt h 4 4) .generation))) STALE _ (λ _. stale) (λ _. tells-passed P _)))))
 
   directory-tells : (h : List ℕ) → Tells P (reachDirectory s h)
   unfolding reachDirectory
-  directory-tells h = tells-bind P (reach s h) _ (reach-tells h) (λ d _. tells-if P (not (isDirectory s d)) 20 _ (λ _. notdir) (λ _. tells-passed P _))
+  directory-tells h = tells-bind P (reach s h) _ (reach-tells h) (λ d _. tells-if P (not (isDirectory s d)) NOTDIR _ (λ _. notdir) (λ _. tells-passed P _))
 
   pub regular-tells : (h : List ℕ) → Tells P (reachRegular s h)
   unfolding reachRegular
-  regular-tells h = tells-bind P (reach s h) _ (reach-tells h) (λ o _. tells-if P (not (isRegular s o)) 22 _ (λ _. inval) (λ _. tells-passed P _))
+  regular-tells h = tells-bind P (reach s h) _ (reach-tells h) (λ o _. tells-if P (not (isRegular s o)) INVAL _ (λ _. inval) (λ _. tells-passed P _))
 
   name-tells : (text : List ℕ) → Tells P (checkName text)
   unfolding checkName
   name-tells text =
-      tells-if P (eqb (length text) 0) 13 _ (λ _. acces) (λ _.
-      tells-if P (not (leb (length text) mostNameBytes)) 63 _ (λ _. plain 63 (lit< tt, lit< tt, omega arith)) (λ _.
-      tells-last P (not (goodBytes text)) 13 acces))
+      tells-if P (eqb (length text) 0) ACCES _ (λ _. acces) (λ _.
+      tells-if P (not (leb (length text) mostNameBytes)) NAMETOOLONG _ (λ _. plain NAMETOOLONG (lit< tt, lit< tt, omega arith)) (λ _.
+      tells-last P (not (goodBytes text)) ACCES acces))
 
   new-tells : (d : ℕ) (text : List ℕ) (invalid : Bool) → Tells P (checkNew s d text invalid)
   unfolding checkNew
   new-tells d text invalid =
-      tells-bind P (checkName text) _ (name-tells text) (λ _ _. tells-if P (isDots text) 17 _ (λ _. exist) (λ _. tells-last P invalid 22 inval))
+      tells-bind P (checkName text) _ (name-tells text) (λ _ _. tells-if P (isDots text) EXIST _ (λ _. exist) (λ _. tells-last P invalid INVAL inval))
 
   in-tells : (d : ℕ) (text : List ℕ) → Tells P (checkIn s d text)
   unfolding checkIn lookIn
@@ -133,8 +135,8 @@ module _ (P : ℕ → Type 0) (plain : (n : ℕ) → Plain n → P n) (s : Store
       tells-cond P (isDot text) (passed d) _ (tells-passed P d)
       (tells-cond P (isDotDot text) (passed (parent s d)) _ (tells-passed P (parent s d)) (child (findName s d text))))
     where
-      child : (o : Option ℕ) → Tells P (childOf s (present 2 o))
-      child none = tells-refused P 2 noent
+      child : (o : Option ℕ) → Tells P (childOf s (present NOENT o))
+      child none = tells-refused P NOENT noent
       child (some n) = tells-passed P _
 
   pub lookup-tells : (h text : List ℕ) → Tells P (checkLookup s h text)
@@ -147,22 +149,22 @@ module _ (P : ℕ → Type 0) (plain : (n : ℕ) → Plain n → P n) (s : Store
   unfolding checkEntry
   entry-tells d text dots told =
       tells-bind P (checkName text) _ (name-tells text) (λ _ _.
-      tells-if P (isDots text) dots _ (λ _. told) (λ _. tells-present P 2 (findName s d text) noent))
+      tells-if P (isDots text) dots _ (λ _. told) (λ _. tells-present P NOENT (findName s d text) noent))
 
   pub remove-tells : (h text : List ℕ) → Tells P (checkRemove s h text)
   unfolding checkRemove
   remove-tells h text =
       tells-bind P (reachDirectory s h) _ (directory-tells h) (λ d _.
-      tells-bind P (checkEntry s d text 13) _ (entry-tells d text 13 acces) (λ n _.
-      tells-if P (isDirectory s (nameAt s n .child)) 13 _ (λ _. acces) (λ _. tells-passed P _)))
+      tells-bind P (checkEntry s d text ACCES) _ (entry-tells d text ACCES acces) (λ n _.
+      tells-if P (isDirectory s (nameAt s n .child)) ACCES _ (λ _. acces) (λ _. tells-passed P _)))
 
   pub rmdir-tells : (h text : List ℕ) → Tells P (checkRmdir s h text)
   unfolding checkRmdir
   rmdir-tells h text =
       tells-bind P (reachDirectory s h) _ (directory-tells h) (λ d _.
-      tells-bind P (checkEntry s d text 22) _ (entry-tells d text 22 inval) (λ n _.
-      tells-if P (not (isDirectory s (nameAt s n .child))) 20 _ (λ _. notdir) (λ _.
-      tells-if P (hasEntries s (nameAt s n .child)) 66 _ (λ _. plain 66 (lit< tt, lit< tt, omega arith)) (λ _. tells-passed P _))))
+      tells-bind P (checkEntry s d text INVAL) _ (entry-tells d text INVAL inval) (λ n _.
+      tells-if P (not (isDirectory s (nameAt s n .child))) NOTDIR _ (λ _. notdir) (λ _.
+      tells-if P (hasEntries s (nameAt s n .child)) NOTEMPTY _ (λ _. plain NOTEMPTY (lit< tt, lit< tt, omega arith)) (λ _. tells-passed P _))))
 
   pub rename-tells : (h text g title : List ℕ) → Tells P (checkRename s h text g title)
   unfolding checkRename checkMove
@@ -171,66 +173,66 @@ module _ (P : ℕ → Type 0) (plain : (n : ℕ) → Plain n → P n) (s : Store
       tells-bind P (reachDirectory s g) _ (directory-tells g) (λ e _.
       tells-bind P (checkName text) _ (name-tells text) (λ _ _.
       tells-bind P (checkName title) _ (name-tells title) (λ _ _.
-      tells-if P (isDots text || isDots title) 22 _ (λ _. inval) (λ _.
-      tells-bind P (present 2 (findName s d text)) _ (tells-present P 2 (findName s d text) noent) (λ n _.
-      tells-bind P (absent 17 (findName s e title)) _ (tells-absent P 17 (findName s e title) exist) (λ _ _.
-      tells-if P (isWithin s (nameAt s n .child) e) 22 _ (λ _. inval) (λ _. tells-passed P _))))))))
+      tells-if P (isDots text || isDots title) INVAL _ (λ _. inval) (λ _.
+      tells-bind P (present NOENT (findName s d text)) _ (tells-present P NOENT (findName s d text) noent) (λ n _.
+      tells-bind P (absent EXIST (findName s e title)) _ (tells-absent P EXIST (findName s e title) exist) (λ _ _.
+      tells-if P (isWithin s (nameAt s n .child) e) INVAL _ (λ _. inval) (λ _. tells-passed P _))))))))
 
   listing-tells : (head each limit : ℕ) (es : List Entry) → Tells P (checkListing head each limit es)
   unfolding checkListing
   listing-tells head each limit es =
-      tells-if P (ltb limit head) 10005 _ (λ _. too-small) (λ _.
-      tells-if P (not (isNothing es) && isNothing (fitting each (limit - head) es)) 10005 _ (λ _. too-small) (λ _. tells-passed P _))
+      tells-if P (ltb limit head) TOOSMALL _ (λ _. too-small) (λ _.
+      tells-if P (not (isNothing es) && isNothing (fitting each (limit - head) es)) TOOSMALL _ (λ _. too-small) (λ _. tells-passed P _))
 
   pub readdir-tells : (h : List ℕ) (cookie verifier count : ℕ) → Tells P (checkReaddir s h cookie verifier count)
   unfolding checkReaddir checkReaddirIn
   readdir-tells h cookie verifier count =
       tells-bind P (reachDirectory s h) _ (directory-tells h) (λ d _.
       tells-bind P (checkReaddirIn s d cookie verifier count) _
-      (tells-if P (not (eqb verifier 0)) 10003 _ (λ _. plain 10003 (lit< tt, lit< tt, omega arith)) (λ _.
+      (tells-if P (not (eqb verifier 0)) BAD-COOKIE _ (λ _. plain BAD-COOKIE (lit< tt, lit< tt, omega arith)) (λ _.
       listing-tells listingCost entryFixedCost (min count mostTransferBytes) (entriesAbove cookie (entries s d)))) (λ _ _. tells-passed P _))
 
   -- ---- those that ask for room
   pub setattr-tells : (h : List ℕ) (a : Settable) (g : Guard)
       → ((o : ℕ) → reach s h ≡ passed o → differs g (objectAt s o .ctime) ≡ false → badAttributes a ≡ false
-      → isGiven (a .size) && isDirectory s o ≡ false → P 28)
+      → isGiven (a .size) && isDirectory s o ≡ false → P NOSPC)
       → Tells P (checkSetattr s h a g)
   unfolding checkSetattr
   setattr-tells h a g full =
       tells-bind P (reach s h) _ (reach-tells h) (λ o e₁.
-      tells-if P (differs g (objectAt s o .ctime)) 10002 _ (λ _. plain 10002 (lit< tt, lit< tt, omega arith)) (λ e₂.
-      tells-if P (badAttributes a) 22 _ (λ _. inval) (λ e₃.
-      tells-if P (isGiven (a .size) && isDirectory s o) 22 _ (λ _. inval) (λ e₄.
-      tells-if P (lacksRoom s (sizeOf s o) (sizeSet (a .size) (sizeOf s o))) 28 _ (λ _. full o e₁ e₂ e₃ e₄) (λ _. tells-passed P _)))))
+      tells-if P (differs g (objectAt s o .ctime)) NOT-SYNC _ (λ _. plain NOT-SYNC (lit< tt, lit< tt, omega arith)) (λ e₂.
+      tells-if P (badAttributes a) INVAL _ (λ _. inval) (λ e₃.
+      tells-if P (isGiven (a .size) && isDirectory s o) INVAL _ (λ _. inval) (λ e₄.
+      tells-if P (lacksRoom s (sizeOf s o) (sizeSet (a .size) (sizeOf s o))) NOSPC _ (λ _. full o e₁ e₂ e₃ e₄) (λ _. tells-passed P _)))))
 
   pub write-tells : (h : List ℕ) (offset n : ℕ) (bytes : List ℕ)
-      → ((o : ℕ) → reachRegular s h ≡ passed o → n ≡ length bytes → 0 < n → offset + min n mostTransferBytes ≤ 8192 → P 28)
+      → ((o : ℕ) → reachRegular s h ≡ passed o → n ≡ length bytes → 0 < n → offset + min n mostTransferBytes ≤ mostFileBytes → P NOSPC)
       → Tells P (checkWrite s h offset n bytes)
   unfolding checkWrite
   write-tells h offset n bytes full =
       let z = min n mostTransferBytes in
       tells-bind P (reachRegular s h) _ (regular-tells h) (λ o e₁.
-      tells-if P (not (eqb n (length bytes))) 22 _ (λ _. inval) (λ e₂.
-      tells-if P (not (eqb n 0) && ltb 8192 (offset + z)) 27 _ (λ _. plain 27 (lit< tt, lit< tt, omega arith)) (λ e₃.
-      tells-if P (not (eqb n 0) && lacksRoom s (sizeOf s o) (grown s o offset z)) 28 _
+      tells-if P (not (eqb n (length bytes))) INVAL _ (λ _. inval) (λ e₂.
+      tells-if P (not (eqb n 0) && ltb mostFileBytes (offset + z)) FBIG _ (λ _. plain FBIG (lit< tt, lit< tt, omega arith)) (λ e₃.
+      tells-if P (not (eqb n 0) && lacksRoom s (sizeOf s o) (grown s o offset z)) NOSPC _
       (λ e₄. let m = and-both (not (eqb n 0)) (lacksRoom s (sizeOf s o) (grown s o offset z)) e₄ .0 in
       full o e₁ (eqb-true n (length bytes) (not-false (eqb n (length bytes)) e₂)) (some-bytes n (eqb-false n 0 (not-true (eqb n 0) m)))
-      (ltb-false 8192 (offset + z) (sym (ap (λ (t : Bool). t && ltb 8192 (offset + z)) m) ∙ e₃)))
+      (ltb-false mostFileBytes (offset + z) (sym (ap (λ (t : Bool). t && ltb mostFileBytes (offset + z)) m) ∙ e₃)))
       (λ _. tells-passed P _))))
     where
       some-bytes : (n : ℕ) → n ≢ 0 → 0 < n
       some-bytes zero d = absurd (d refl)
       some-bytes (suc n) d = omega arith
 
-  room-tells : (size : ℕ) → P 28 → Tells P (roomForNew s size)
+  room-tells : (size : ℕ) → P NOSPC → Tells P (roomForNew s size)
   unfolding roomForNew
   room-tells size full =
-      tells-bind P (present 28 (availableObject s)) _ (tells-present P 28 (availableObject s) full) (λ o _.
-      tells-bind P (present 28 (availableName s)) _ (tells-present P 28 (availableName s) full) (λ n _.
-      tells-if P (lacksRoom s 0 size) 28 _ (λ _. full) (λ _. tells-passed P _)))
+      tells-bind P (present NOSPC (availableObject s)) _ (tells-present P NOSPC (availableObject s) full) (λ o _.
+      tells-bind P (present NOSPC (availableName s)) _ (tells-present P NOSPC (availableName s) full) (λ n _.
+      tells-if P (lacksRoom s 0 size) NOSPC _ (λ _. full) (λ _. tells-passed P _)))
 
-  target-tells : (unchecked : Bool) (a : Settable) (f : Option ℕ) → (f ≡ none → P 28)
-      → ((n : ℕ) → f ≡ some n → unchecked && isRegular s (nameAt s n .child) ≡ true → P 28) → Tells P (targetOf s unchecked a f)
+  target-tells : (unchecked : Bool) (a : Settable) (f : Option ℕ) → (f ≡ none → P NOSPC)
+      → ((n : ℕ) → f ≡ some n → unchecked && isRegular s (nameAt s n .child) ≡ true → P NOSPC) → Tells P (targetOf s unchecked a f)
   unfolding checkExisting
   target-tells unchecked a none fresh old = new (roomForNew s (sizeSet (a .size) 0)) (room-tells (sizeSet (a .size) 0) (fresh refl))
     where
@@ -239,15 +241,15 @@ module _ (P : ℕ → Type 0) (plain : (n : ℕ) → Plain n → P n) (s : Store
       new (passed y) h = tells-passed P _
   target-tells unchecked a (some n) fresh old =
       let o = nameAt s n .child in
-      tells-if P (not (unchecked && isRegular s o)) 17 _ (λ _. exist) (λ e.
-      tells-if P (lacksRoom s (sizeOf s o) (sizeSet (a .size) (sizeOf s o))) 28 _ (λ _. old n refl (not-false (unchecked && isRegular s o) e)) (λ _.
+      tells-if P (not (unchecked && isRegular s o)) EXIST _ (λ _. exist) (λ e.
+      tells-if P (lacksRoom s (sizeOf s o) (sizeSet (a .size) (sizeOf s o))) NOSPC _ (λ _. old n refl (not-false (unchecked && isRegular s o) e)) (λ _.
       tells-passed P _))
 
   pub create-tells : (h text : List ℕ) (manner : How)
       → ((d : ℕ) (a : Settable) → (manner ≡ How.Unchecked a) ⊎ (manner ≡ How.Guarded a) → reachDirectory s h ≡ passed d
-      → checkNew s d text (badAttributes a) ≡ passed tt → findName s d text ≡ none → P 28)
+      → checkNew s d text (badAttributes a) ≡ passed tt → findName s d text ≡ none → P NOSPC)
       → ((d n : ℕ) (a : Settable) → manner ≡ How.Unchecked a → reachDirectory s h ≡ passed d
-      → checkNew s d text (badAttributes a) ≡ passed tt → findName s d text ≡ some n → isRegular s (nameAt s n .child) ≡ true → P 28)
+      → checkNew s d text (badAttributes a) ≡ passed tt → findName s d text ≡ some n → isRegular s (nameAt s n .child) ≡ true → P NOSPC)
       → Tells P (checkCreate s h text manner)
   unfolding checkCreate checkAttributed
   create-tells h text manner fresh old =
@@ -261,20 +263,20 @@ module _ (P : ℕ → Type 0) (plain : (n : ℕ) → Plain n → P n) (s : Store
       how d e (How.Guarded a) w =
           tells-bind P (checkNew s d text (badAttributes a)) _ (new-tells d text (badAttributes a)) (λ _ f.
           target-tells false a (findName s d text) (fresh d a (inr w) e f) (λ n x y. true-false (sym y)))
-      how d e (How.Exclusive verifier) w = tells-refused P 10004 (plain 10004 (lit< tt, lit< tt, omega arith))
+      how d e (How.Exclusive verifier) w = tells-refused P NOTSUPP (plain NOTSUPP (lit< tt, lit< tt, omega arith))
 
   pub mkdir-tells : (h text : List ℕ) (a : Settable)
-      → ((d : ℕ) → reachDirectory s h ≡ passed d → checkNew s d text (badAttributes a || isGiven (a .size)) ≡ passed tt → findName s d text ≡ none → P 28)
+      → ((d : ℕ) → reachDirectory s h ≡ passed d → checkNew s d text (badAttributes a || isGiven (a .size)) ≡ passed tt → findName s d text ≡ none → P NOSPC)
       → Tells P (checkMkdir s h text a)
   unfolding checkMkdir
   mkdir-tells h text a full =
       let invalid = badAttributes a || isGiven (a .size) in
       tells-bind P (reachDirectory s h) _ (directory-tells h) (λ d e₁.
       tells-bind P (checkNew s d text invalid) _ (new-tells d text invalid) (λ _ e₂.
-      tells-bind P (absent 17 (findName s d text)) _ (tells-absent P 17 (findName s d text) exist) (λ _ e₃.
+      tells-bind P (absent EXIST (findName s d text)) _ (tells-absent P EXIST (findName s d text) exist) (λ _ e₃.
       tells-bind P (roomForNew s 0) _ (room-tells 0 (full d e₁ e₂ (nothing (findName s d text) e₃))) (λ p _. tells-passed P _))))
     where
-      nothing : (o : Option ℕ) → absent 17 o ≡ passed tt → o ≡ none
+      nothing : (o : Option ℕ) → absent EXIST o ≡ passed tt → o ≡ none
       nothing none e = refl
       nothing (some n) e = let z : _≡_ {A = ℕ} 0 1 = cc in absurd (omega arith)
 
@@ -288,7 +290,7 @@ Sure c = Tells Failing c
 plainly : (n : ℕ) → Plain n → Failing n
 plainly n x = (x .0, x .1)
 
-full : Failing 28
+full : Failing NOSPC
 full = (lit< tt, lit< tt)
 
 module _ (s : Store) (h text : List ℕ) where

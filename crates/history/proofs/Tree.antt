@@ -6,13 +6,14 @@ use Prim.Native.Nat.{ℕ, zero, suc, _≤_, _<_}
 use native.Mathlib.Decide.{ℕ-discrete, decLt}
 use native.Mathlib.Omega.{arith}
 use lib.ListN.{length, drop, length-drop}
+use Rattle.kinds.specs.Numbers.{mostObjects}
 use Rattle.spec.specs.Check.{mostNames}
 use Rattle.spec.specs.Count.{sum}
 use Rattle.history.proofs.Sum.{ind, ind-yes, ind-le, pigeon}
 use Rattle.history.proofs.View.{View, Live, Used, Names, At, namings, entries, Path, not-named, named-once, entry-once}
 
 pub record Flat (P Q : ℕ) (v : View) : Type 0 where
-  pub few : P ≤ 64
+  pub few : P ≤ mostObjects
   pub root : v .kind 0 ≡ 2
   pub past : (i : ℕ) → Live v i → i < P
   pub rows : (q : ℕ) → Used v q → q < Q

@@ -1,17 +1,17 @@
--- The two object records that need no store: a root as format makes it, and a free record.
+-- The object records that need no store: one without blocks, a root as format makes it, and a free record.
 use Prim.Native.Nat.{ℕ}
 use lib.ListN.{replicate}
 use Rattle.kinds.specs.Numbers.{FREE, DIRECTORY, fileBlocks, unusedBlock}
 use Rattle.kinds.specs.declared.object.Time.{Time}
 use Rattle.kinds.specs.declared.object.Object.{Object}
 
--- "Format gives a root of mode 493, ids 0, times from the clock, every generation 0"; "a directory's size 0 with no blocks"
-abbrev pub rootObject : Time → Object
-rootObject clock =
+-- of a kind and a mode: ids 0, no blocks, all times from one clock
+abbrev pub plainObject : ℕ → ℕ → Time → Object
+plainObject kind mode clock =
     record {
-      kind = DIRECTORY;
+      kind = kind;
       generation = 0;
-      mode = 493;
+      mode = mode;
       uid = 0;
       gid = 0;
       size = 0;
@@ -20,6 +20,10 @@ rootObject clock =
       ctime = clock;
       blocks = replicate fileBlocks unusedBlock;
     }
+
+-- "Format gives a root of mode 493, ids 0, times from the clock, every generation 0"; "a directory's size 0 with no blocks"
+abbrev pub rootObject : Time → Object
+rootObject clock = plainObject DIRECTORY 493 clock
 
 -- 0 0, the time of a record that is free
 abbrev pub noTime : Time

@@ -8,7 +8,7 @@ use native.Mathlib.Omega.{arith}
 use lib.Dec.{eqb, lit<}
 use lib.ListN.{length, take, length-take}
 use borrow.Author.Tests.{eqb-false}
-use Rattle.kinds.specs.Numbers.{REGULAR, DIRECTORY, mostTransferBytes}
+use Rattle.kinds.specs.Numbers.{REGULAR, DIRECTORY, mostTransferBytes, mostFileBytes}
 use Rattle.kinds.specs.declared.object.Object.{Object}
 use Rattle.kinds.specs.declared.object.Context.{Context}
 use Rattle.kinds.specs.declared.call.Part.{Part}
@@ -64,7 +64,7 @@ use Rattle.laws.proofs.Valid.{LiveObject, GoodName, Live, Used, Valid, 
 pub regular-of : (r : ℕ) (v : Object) → LiveObject r v → v .kind ≢ DIRECTORY → v .kind ≡ REGULAR
 regular-of r v l n = ⊎-elim (λ p. p .0) (λ p. absurd (n (p .0))) (l .size)
 
-size-small : (s : Store) (o : ℕ) → LiveObject (blocks s) (objectAt s o) → sizeOf s o ≤ 8192
+size-small : (s : Store) (o : ℕ) → LiveObject (blocks s) (objectAt s o) → sizeOf s o ≤ mostFileBytes
 unfolding sizeOf
 size-small s o v = live-size (blocks s) (objectAt s o) v
 
@@ -85,7 +85,7 @@ module _ (s : Store) (g : GoodRecords s) where
   tree-refl = kept-structure s s (kept-refl s (g .sound)) .tree
 
   -- a size, where one is given
-  pub resize-to : (o : ℕ) (x : SetSize) → o < objects s → (isGiven x ≡ true → objectAt s o .kind ≡ REGULAR) → sizeSet x 0 ≤ 8192
+  pub resize-to : (o : ℕ) (x : SetSize) → o < objects s → (isGiven x ≡ true → objectAt s o .kind ≡ REGULAR) → sizeSet x 0 ≤ mostFileBytes
       → need (sizeSet x (sizeOf s o)) - need (sizeOf s o) ≤ freeBlockCount s → StillGood s (resizeTo s o x) × SameTree s (resizeTo s o x)
   resize-to o SetSize.Keep l k small room = (still-refl s g, tree-refl)
   resize-to o (SetSize.To n) l k small room =
@@ -108,13 +108,13 @@ module _ (s t : Store) (a : StillGood s t) where
 
 -- WRITE of bytes that fit, where there is room
 module _ (s : Store) (g : GoodRecords s) (c : Context) (k : GoodClock (c .clock)) where
-  pub write-edit : (o offset : ℕ) (xs : List ℕ) → o < objects s → objectAt s o .kind ≡ REGULAR → Below 256 xs → offset + length xs ≤ 8192
+  pub write-edit : (o offset : ℕ) (xs : List ℕ) → o < objects s → objectAt s o .kind ≡ REGULAR → Below 256 xs → offset + length xs ≤ mostFileBytes
       → need (grown s o offset (length xs)) - need (sizeOf s o) ≤ freeBlockCount s → StillGood s (writeEdit s c o offset xs)
   unfolding writeEdit
   write-edit o offset xs l reg w fits room =
       let live = live-at s g o l (omega arith) in
       let size = grown s o offset (length xs) in
-      let small : size ≤ 8192 = omega (arith, size-small s o live) in
+      let small : size ≤ mostFileBytes = omega (arith, size-small s o live) in
       let t = resize s o size in
       let r = resize-still s g o size l reg small room in
       let tree = resize-tree s o size (g .sound) l live small room in
@@ -204,7 +204,7 @@ module _ (s : Store) (c : Context) (v : Valid s) (b : Below 256 s) (k : GoodCloc
       (sizes .1 .kind d m ∙ ap (λ (y : Object). y .kind)
       (e .other-objects d below (λ q. omega (arith, room .object-free, ap (λ (i : ℕ). objectAt s i .kind) q)))) dir
 
-  existing-edit : (a : Settable) (o : ℕ) (x : SetSize) → o < objects s → objectAt s o .kind ≡ REGULAR → sizeSet x 0 ≤ 8192
+  existing-edit : (a : Settable) (o : ℕ) (x : SetSize) → o < objects s → objectAt s o .kind ≡ REGULAR → sizeSet x 0 ≤ mostFileBytes
       → need (sizeSet x (sizeOf s o)) - need (sizeOf s o) ≤ freeBlockCount s → StillGood s (existingEdit s c o x)
   existing-edit a o SetSize.Keep l reg small room = still-refl s records
   existing-edit a o (SetSize.To n) l reg small room =

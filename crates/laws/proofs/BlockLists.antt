@@ -6,6 +6,7 @@ use Prim.Native.Nat.{ℕ, _+_, _-_, _≤_, _<_, min}
 use native.Mathlib.Omega.{arith}
 use lib.ListN.{length, take, drop, getD, length-append, length-take, length-drop, List·getD-append}
 use lib.Seq.{getD-take, getD-drop, getD-append-add}
+use Rattle.kinds.specs.Numbers.{mostFileBytes}
 use Rattle.spec.specs.Image.{Store, blocks, objectAt}
 use Rattle.spec.specs.Room.{sizeOf, need, held, isFreeBlock, freeBlocks, freeBlockCount}
 use Rattle.laws.proofs.Bytes.{lt-or-le}
@@ -36,7 +37,7 @@ range-drop m n xs f k h =
     rw (getD-drop n xs k 0) (f (n + k) (omega arith))
 
 -- ---- an object's blocks: as many as its size needs
-pub held-length : (s : Store) (o : ℕ) → FitsObject (objectAt s o) → sizeOf s o ≤ 8192 → length (held s o) ≡ need (sizeOf s o)
+pub held-length : (s : Store) (o : ℕ) → FitsObject (objectAt s o) → sizeOf s o ≤ mostFileBytes → length (held s o) ≡ need (sizeOf s o)
 unfolding held
 held-length s o f h = length-take (need (sizeOf s o)) (objectAt s o .blocks) ∙ omega (arith, f .long, need-few (sizeOf s o) h)
 

@@ -7,6 +7,7 @@ use native.Mathlib.Nat.{add-zero}
 use lib.Dec.{eqb}
 use lib.ListN.{length, length-replicate}
 use borrow.Author.Tests.{eqb-false}
+use Rattle.kinds.specs.Layout.{blockLength}
 use Rattle.spec.specs.Bytes.{overlay, zeros}
 use Rattle.spec.specs.Edits.{clearBlocks, clearTail, writeThrough, writeFile}
 use Rattle.spec.specs.Image.{Store, blocks, blockStart, objectAt}
@@ -24,10 +25,10 @@ unfolding clearBlocks
 clear-blocks s [] h f = kept-refl s h
 clear-blocks s (r ∷ rs) h f =
     let b : r < blocks s = f 0 (omega arith) in
-    let z = length-replicate {A = ℕ} 512 0 in
+    let z = length-replicate {A = ℕ} blockLength 0 in
     let w = h .shaped in
-    let a = put-bytes s (blockStart s r) (zeros 512) h (omega arith) (omega arith) (below-zeros 512) in
-    let t = overlay s (blockStart s r) (zeros 512) in
+    let a = put-bytes s (blockStart s r) (zeros blockLength) h (omega arith) (omega arith) (below-zeros blockLength) in
+    let t = overlay s (blockStart s r) (zeros blockLength) in
     kept-trans s t (clearBlocks t rs) a
     (clear-blocks t rs (a .sound) (λ k l. rw (a .shape .blocks) (f (suc k) (omega arith))))
 
@@ -35,7 +36,7 @@ clear-blocks s (r ∷ rs) h f =
 pub clear-append : (s : Store) (xs ys : List ℕ) → clearBlocks s (xs ++ ys) ≡ clearBlocks (clearBlocks s xs) ys
 unfolding clearBlocks
 clear-append s [] ys = refl
-clear-append s (r ∷ rs) ys = clear-append (overlay s (blockStart s r) (zeros 512)) rs ys
+clear-append s (r ∷ rs) ys = clear-append (overlay s (blockStart s r) (zeros blockLength)) rs ys
 
 -- ---- the place of a file's byte: in the block that holds it
 module _ (s : Store) (o : ℕ) (h : Sound s) (v : LiveObject (blocks s) (objectAt s o)) where
@@ -43,10 +44,10 @@ module _ (s : Store) (o : ℕ) (h : Sound s) (v : LiveObject (blocks s) (objectA
   unfolding byteAt
   place-start i = omega arith
 
-  pub place-end : (i : ℕ) → i < sizeOf s o → byteAt s o i + (512 - i % 512) ≤ length s
+  pub place-end : (i : ℕ) → i < sizeOf s o → byteAt s o i + (blockLength - i % blockLength) ≤ length s
   unfolding byteAt sizeOf
   place-end i l =
-      let b = v .held (i / 512) (omega arith) in
+      let b = v .held (i / blockLength) (omega arith) in
       let w = h .shaped in
       omega arith
 
@@ -54,12 +55,12 @@ module _ (s : Store) (o : ℕ) (h : Sound s) (v : LiveObject (blocks s) (objectA
   pub clear-tail : (start end : ℕ) → start ≤ sizeOf s o → RecordsKept s (clearTail s o start end)
   unfolding clearTail byteAt sizeOf
   clear-tail start end l =
-      by-bool (eqb (start % 512) 0)
+      by-bool (eqb (start % blockLength) 0)
       (λ e. rw e (kept-refl s h))
-      (λ e. let d = eqb-false (start % 512) 0 e in
-      let b = v .held (start / 512) (omega arith) in
+      (λ e. let d = eqb-false (start % blockLength) 0 e in
+      let b = v .held (start / blockLength) (omega arith) in
       let w = h .shaped in
-      let n = min (end - start) (512 - start % 512) in
+      let n = min (end - start) (blockLength - start % blockLength) in
       rw e (put-bytes s (byteAt s o start) (zeros n) h (omega arith) (rw length-replicate (omega arith)) (below-zeros n)))
 
 -- ---- bytes at given places

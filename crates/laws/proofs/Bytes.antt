@@ -1,5 +1,5 @@
 -- The laws of parts, overlays and big-endian numbers. Assumes nothing.
-use mathlib.Core.Path.{_≡_, refl, sym, ap, ap₂, _∙_, subst}
+use mathlib.Core.Path.{_≡_, refl, sym, ap, ap₂, _∙_}
 use mathlib.Core.Bool.{Bool, true, false, _&&_}
 use borrow.Author.Tests.{eq-eqb, eqb-true}
 use mathlib.Core.List.{List, [], _∷_, _++_, append-assoc, append-nil}
@@ -9,12 +9,11 @@ use native.Mathlib.Decide.{decLt}
 use native.Mathlib.Omega.{arith}
 use native.Mathlib.Nat.{div-one, add-zero, mod-eq-of-lt, add-assoc, pow-succ', one-le-pow, add-mul, mul-assoc}
 use native.Mathlib.Numerals.{add-one, towards-suc}
-use lib.ListN.{take-append-drop, length, take, drop, getD, set, length-append, length-take, length-drop, length-set}
-use lib.Seq.{getD-take, set-split, append-snoc, take-suc, getD-drop, take-at, take-length, drop-at, take-take, drop-drop, take-add, take-append-le}
-use lib.Seq.{drop-append-le, drop-append-add, take-append-add, length-take-le, drop-cons, sets-eq, length-paste-head}
+use lib.ListN.{take-append-drop, length, take, drop, getD, set, length-append, length-take, length-drop}
+use lib.Seq.{getD-take, set-split, append-snoc, take-suc, getD-drop, take-at, take-length, take-take, drop-drop, take-add, take-append-le}
+use lib.Seq.{drop-append-le, drop-append-add, drop-cons, sets-eq}
 use lib.Arith.{mod-mul}
-use lib.Dec.{lit<, lit≤, eqb}
-use lib.Pow.{pow-pos}
+use lib.Dec.{lit<, eqb}
 use Rattle.spec.specs.Bytes.{part, overlay, digits, beOf, bytesOf, beAt, sameBytes}
 
 -- ---- numbers, by cases
@@ -128,16 +127,6 @@ module _ (b : List ℕ) (at : ℕ) (xs : List ℕ) (h : at + length xs ≤ lengt
       ∙ ap (λ (l : List ℕ). take at b ++ xs ++ ys ++ l)
       (behind (take at b ++ xs) rest (at + length xs) (length ys) head-length ∙ drop-drop (length ys) (at + length xs) b)
       ∙ simp (append-assoc, length-append, add-assoc)
-
-  -- the second of two overlays at one place hides the first
-  pub overlay-again : (ys : List ℕ) → length xs ≡ length ys → overlay (overlay b at xs) at ys ≡ overlay b at ys
-  unfolding overlay
-  overlay-again ys e =
-      let rest = drop (at + length xs) b in
-      ap (λ (l : List ℕ). take at l ++ ys ++ drop (at + length ys) (overlay b at xs)) (append-assoc (take at b) xs rest)
-      ∙ ap (λ (l : List ℕ). l ++ ys ++ drop (at + length ys) (overlay b at xs)) (take-at (take at b) (xs ++ rest) at front-length)
-      ∙ ap (λ (l : List ℕ). take at b ++ ys ++ l)
-      (drop-at (take at b ++ xs) rest (at + length ys) (head-length ∙ ap (λ (k : ℕ). at + k) e) ∙ ap (λ (k : ℕ). drop (at + k) b) e)
 
 -- a store that has xs at a place, and then gets ys behind them: one step of a run of writes
 pub overlay-more : (b : List ℕ) (at : ℕ) (xs ys : List ℕ) (s s′ : List ℕ) (n : ℕ) → at + n ≤ length b → length xs ≡ n

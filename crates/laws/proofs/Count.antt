@@ -1,8 +1,8 @@
 -- The laws of sums, counts and searches over the numbers below a bound. Assumes nothing.
 use mathlib.Core.Path.{_≡_, refl, sym, ap, ap₂, _∙_}
 use mathlib.Core.Logic.{_≢_, by-cases, ⊎-elim}
-use mathlib.Core.Bool.{Bool, true, false, _&&_, _||_, cond, or-true, and-false}
-use mathlib.Core.Option.{Option, some, none}
+use mathlib.Core.Bool.{Bool, true, false, _&&_, cond, or-true, and-false}
+use mathlib.Core.Option.{some, none}
 use mathlib.Core.List.{List, [], _∷_, _++_, append-nil}
 use Prim.Native.Nat.{ℕ, zero, suc, _+_, _≤_, _<_}
 use native.Mathlib.Nat.{not-suc-le-zero}
@@ -267,16 +267,3 @@ module _ (p : ℕ → Bool) where
       (λ t. let o = times-passing p n i h in let z : times i (passing n p) ≡ 0 = rw (first-none (passing n p) e) (times-nothing i) in
       absurd (omega (arith, ap bit t)))
       (λ t. t)
-
-  -- nothing below what is found passes
-  pub lowest-least : (n k i : ℕ) → lowest n p ≡ some k → i < k → p i ≡ false
-  lowest-least n k i e h = lowest-none k i (before n k (lowest k p) refl e) h
-    where
-      before : (n k : ℕ) (x : Option ℕ) → lowest k p ≡ x → lowest n p ≡ some k → lowest k p ≡ none
-      before n k none q e = q
-      before n k (some j) q e =
-          let a = lowest-passes k j q in
-          let b = lowest-passes n k e in
-          let same : _≡_ {A = Option ℕ} (some k) (some j) = sym e ∙ lowest-stays k n j (omega arith) q in
-          let z : k ≡ j = cc in
-          absurd (omega arith)

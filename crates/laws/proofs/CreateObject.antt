@@ -6,7 +6,7 @@ use Prim.Native.Nat.{ℕ, _^_, _≤_, _<_}
 use native.Mathlib.Omega.{arith}
 use native.Mathlib.Decide.{ℕ-discrete}
 use lib.ListN.{length}
-use Rattle.kinds.specs.Numbers.{DIRECTORY}
+use Rattle.kinds.specs.Numbers.{DIRECTORY, spentGeneration, mostNameBytes}
 use Rattle.kinds.specs.declared.object.Object.{Object}
 use Rattle.spec.specs.Bytes.{part}
 use Rattle.spec.specs.Count.{times}
@@ -42,7 +42,7 @@ generation-fits g v h f =
       halves = f .halves;
     }
 
-pub generation-live : (r g : ℕ) (v : Object) → g < 4294967295 → LiveObject r v → LiveObject r (withGeneration g v)
+pub generation-live : (r g : ℕ) (v : Object) → g < spentGeneration → LiveObject r v → LiveObject r (withGeneration g v)
 unfolding withGeneration
 generation-live r g v h f =
     record { generation = h; mode = f .mode; atime = f .atime; mtime = f .mtime; ctime = f .ctime; size = f .size; held = f .held; rest = f .rest }
@@ -53,7 +53,7 @@ unfolding held sizeOf
 no-blocks s o e = rw e
 
 module _ (s : Store) (o n : ℕ) (v : Object) (d : ℕ) (text : List ℕ) (h : Sound s) (l : o < objects s) (k : n < names s)
-    (f : FitsObject v) (c : d < 2 ^ 32) (g : length text ≤ 32) (b : Below 256 text) where
+    (f : FitsObject v) (c : d < 2 ^ 32) (g : length text ≤ mostNameBytes) (b : Below 256 text) where
   -- the record that the object gets
   abbrev made : Object
   made = withGeneration (objectAt s o .generation) v
@@ -80,7 +80,7 @@ module _ (s : Store) (o n : ℕ) (v : Object) (d : ℕ) (text : List ℕ) (h : S
       ∙ object-written s o made (omega (arith, h .shaped)) l .blocks at m z
 
   -- a live object of a generation that may be given out
-  pub create-object-objects : LiveObject (blocks s) v → objectAt s o .generation < 4294967295 → GoodObjects s → GoodObjects (createObject s o n v d text)
+  pub create-object-objects : LiveObject (blocks s) v → objectAt s o .generation < spentGeneration → GoodObjects s → GoodObjects (createObject s o n v d text)
   create-object-objects live low =
       good-objects-set s (createObject s o n v d text) o made (create-object .shape) (create-object .object) (create-object .other-objects)
       (_⊎_.inr (generation-live (blocks s) (objectAt s o .generation) v low live))

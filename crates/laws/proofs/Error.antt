@@ -3,7 +3,7 @@ use mathlib.Core.Path.{_≡_, refl, ap}
 use mathlib.Core.Option.{Option}
 use mathlib.Core.Logic.{_≢_, _⊎_, ⊎-elim}
 use mathlib.Core.List.{List}
-use Prim.Native.Nat.{ℕ, _*_, min}
+use Prim.Native.Nat.{ℕ, min}
 use native.Mathlib.Omega.{arith}
 use lib.ListN.{take}
 use Rattle.kinds.specs.Numbers.{OK, DIRECTORY, mostTransferBytes}
@@ -19,7 +19,7 @@ use Rattle.spec.specs.Bytes.{part, overlay, digits, beOf, beAt, bytesOf, words}
 use Rattle.spec.specs.Checked.{Checked, refused, passed}
 use Rattle.spec.specs.Edits.{removeObject}
 use Rattle.spec.specs.Handles.{reach, handleOf, attributes, change}
-use Rattle.spec.specs.Image.{Store, objects, blocks}
+use Rattle.spec.specs.Image.{Store, objects}
 use Rattle.spec.specs.Procedures.{cut, act}
 use Rattle.spec.specs.Procedures.Attributes.{getattr, checkSetattr, setattrEdit, edited, setattr, grantedBits, access}
 use Rattle.spec.specs.Procedures.Data.{reachRegular, readResult, read, checkWrite, writeDone, write, commit}
@@ -27,12 +27,11 @@ use Rattle.spec.specs.Procedures.Listing.{checkReaddir, readdir}
 use Rattle.spec.specs.Procedures.Names.{checkLookup, lookup, touchDirectory, newEdit, createdIn, Target, new, existing, settableOf, checkCreate}
 use Rattle.spec.specs.Procedures.Names.{createEdit, create, checkMkdir, mkdir}
 use Rattle.spec.specs.Procedures.Removal.{checkRemove, checkRmdir, removeFrom, remove, rmdir, checkRename, renameEdit, failRenaming, renamedTo, rename}
-use Rattle.spec.specs.Procedures.Volume.{fsstat, fsinfo, pathconf}
+use Rattle.spec.specs.Procedures.Volume.{roomResult, fsstat, fsinfo, pathconf}
 use Rattle.spec.specs.Replies.{resultBytes}
 use Rattle.spec.specs.Results.{Result, null, dead, failed, changed, renamed, gotAttributes, found, granted, gotBytes, wrote, created, listed, gotRoom}
 use Rattle.spec.specs.Results.{gotLimits, gotNaming, committed, Done, unchanged, failShowing, failChanging, settle}
 use Rattle.spec.specs.Rpc.{accepted}
-use Rattle.spec.specs.Room.{freeBlockCount, availableCount}
 
 -- the status of a result: OK, or that of the check that refused
 unfoldable pub statusOf : Result → ℕ
@@ -156,9 +155,7 @@ module _ (s : Store) (h : List ℕ) where
 
   pub fsstat-store : fsstat s h .store ≡ s
   unfolding fsstat
-  fsstat-store =
-      settle-unchanged s (failShowing s h) (reach s h)
-      (λ o. gotRoom (attributes s o) (512 * blocks s) (512 * freeBlockCount s) (objects s) (availableCount s))
+  fsstat-store = settle-unchanged s (failShowing s h) (reach s h) (roomResult s)
 
   pub fsinfo-store : fsinfo s h .store ≡ s
   unfolding fsinfo
@@ -196,9 +193,6 @@ act-kept s c call (Arguments.Fsinfo h) n = fsinfo-store s (cut call h)
 act-kept s c call (Arguments.Pathconf h) n = pathconf-store s (cut call h)
 act-kept s c call (Arguments.Commit h) n = commit-store s (cut call h) c
 act-kept s c call Arguments.Unserved n = refl
-
-pub act-error : (s : Store) (c : Context) (call : List ℕ) (a : Arguments) → statusOf (act s c call a .result) ≢ OK → act s c call a .store ≡ s
-act-error s c call a n = act-kept s c call a (_⊎_.inl n)
 
 -- ---- the status word of a reply
 -- where the status is OK, the word behind the reply's header is 0, but for NULL's, which has none

@@ -5,6 +5,7 @@ use Prim.Native.Nat.{ℕ, zero, suc, _+_, _/_, _%_, _≤_, _<_}
 use native.Mathlib.Omega.{arith}
 use native.Mathlib.Nat.{add-zero, zero-add}
 use lib.ListN.{length, getD}
+use Rattle.kinds.specs.Layout.{blockLength}
 use Rattle.spec.specs.Bytes.{part, overlay}
 use Rattle.spec.specs.Edits.{writeThrough, readThrough, writeFile, readFile}
 use Rattle.spec.specs.Image.{Store, objects, blocks, objectAt}
@@ -17,11 +18,11 @@ use Rattle.laws.proofs.Structure.{kept-structure, byteAt-same}
 use Rattle.laws.proofs.Valid.{LiveObject}
 
 -- bytes of a file within one block lie one after the other
-pub byteAt-next : (s : Store) (o i j : ℕ) → i % 512 + j < 512 → byteAt s o (i + j) ≡ byteAt s o i + j
+pub byteAt-next : (s : Store) (o i j : ℕ) → i % blockLength + j < blockLength → byteAt s o (i + j) ≡ byteAt s o i + j
 unfolding byteAt
 byteAt-next s o i j h =
-    let e : (i + j) / 512 ≡ i / 512 = omega arith in
-    let f : (i + j) % 512 ≡ i % 512 + j = omega arith in
+    let e : (i + j) / blockLength ≡ i / blockLength = omega arith in
+    let f : (i + j) % blockLength ≡ i % blockLength + j = omega arith in
     rw (e, f) (omega arith)
 
 -- ---- at places that lie one after the other
@@ -47,12 +48,12 @@ write-run place s i p (x ∷ xs) f h =
     ∙ overlay-join s p (x ∷ []) (omega arith) xs
 
 -- ---- within one block
-pub read-in-block : (s : Store) (o offset n : ℕ) → offset % 512 + n ≤ 512 → byteAt s o offset + n ≤ length s
+pub read-in-block : (s : Store) (o offset n : ℕ) → offset % blockLength + n ≤ blockLength → byteAt s o offset + n ≤ length s
     → readFile s o offset n ≡ part s (byteAt s o offset) n
 unfolding readFile
 read-in-block s o offset n h k = read-run (byteAt s o) s offset (byteAt s o offset) n (λ j l. byteAt-next s o offset j (omega arith)) k
 
-pub write-in-block : (s : Store) (o offset : ℕ) (xs : List ℕ) → offset % 512 + length xs ≤ 512 → byteAt s o offset + length xs ≤ length s
+pub write-in-block : (s : Store) (o offset : ℕ) (xs : List ℕ) → offset % blockLength + length xs ≤ blockLength → byteAt s o offset + length xs ≤ length s
     → writeFile s o offset xs ≡ overlay s (byteAt s o offset) xs
 unfolding writeFile
 write-in-block s o offset xs h k = write-run (byteAt s o) s offset (byteAt s o offset) xs (λ j l. byteAt-next s o offset j (omega arith)) k

@@ -9,7 +9,8 @@ use native.Mathlib.Nat.{add-zero}
 use native.Mathlib.Decide.{ℕ-discrete}
 use lib.Dec.{lit<, lit≤}
 use lib.ListN.{length, length-append, length-replicate}
-use Rattle.kinds.specs.Layout.{objectsHead, namesHead, blocksHead, objectLength, nameRecordLength}
+use Rattle.kinds.specs.Layout.{objectsHead, namesHead, blocksHead, objectLength, nameRecordLength, blockLength}
+use Rattle.kinds.specs.Numbers.{nanosecondsEnd, mostObjects, mostNameRecords, mostBlocks}
 use Rattle.kinds.specs.Objects.{rootObject, freeObject}
 use Rattle.kinds.specs.declared.object.Time.{Time}
 use Rattle.kinds.specs.declared.object.Object.{Object}
@@ -35,11 +36,11 @@ use Rattle.laws.proofs.Zeros.{part-zeros}
 pub record FormatAsked (mark p q r : ℕ) (clock : Time) : Type 0 where
   pub mark-fits : mark < 2 ^ 32
   pub some-object : 1 ≤ p
-  pub few-objects : p ≤ 64
-  pub few-names : q ≤ 128
-  pub few-blocks : r ≤ 1024
+  pub few-objects : p ≤ mostObjects
+  pub few-names : q ≤ mostNameRecords
+  pub few-blocks : r ≤ mostBlocks
   pub seconds : clock .seconds < 2 ^ 32
-  pub nanoseconds : clock .nanoseconds < 1000000000
+  pub nanoseconds : clock .nanoseconds < nanosecondsEnd
 
 module _ (mark p q r : ℕ) (clock : Time) (h : FormatAsked mark p q r clock) where
   -- its sections, one after the other
@@ -61,7 +62,7 @@ module _ (mark p q r : ℕ) (clock : Time) (h : FormatAsked mark p q r clock) wh
   blocks-begin : List ℕ
   blocks-begin = names-end ++ words (r ∷ [])
 
-  counted-length : length counted ≡ 12
+  counted-length : length counted ≡ objectsHead
   unfolding counted words bytesOf
   counted-length = refl
 
@@ -88,7 +89,7 @@ module _ (mark p q r : ℕ) (clock : Time) (h : FormatAsked mark p q r clock) wh
   -- a part of the front is a part of the whole
   in-blocks-begin : (i w : ℕ) → i + w ≤ blocksHead + objectLength * p + nameRecordLength * q → part (formatted mark p q r clock) i w ≡ part blocks-begin i w
   unfolding formatted counted front objects-end names-begin names-end blocks-begin
-  in-blocks-begin i w l = part-left blocks-begin (zeros (512 * r)) i w (omega (arith, blocks-begin-length))
+  in-blocks-begin i w l = part-left blocks-begin (zeros (blockLength * r)) i w (omega (arith, blocks-begin-length))
 
   in-names-end : (i w : ℕ) → i + w ≤ namesHead + objectLength * p + nameRecordLength * q → part (formatted mark p q r clock) i w ≡ part names-end i w
   unfolding blocks-begin
@@ -107,14 +108,14 @@ module _ (mark p q r : ℕ) (clock : Time) (h : FormatAsked mark p q r clock) wh
   in-front i w l =
       in-objects-end i w (omega (arith, h .some-object)) ∙ part-left front (zeros (objectLength * (p - 1))) i w (omega (arith, front-length))
 
-  in-counted : (i w : ℕ) → i + w ≤ 12 → part (formatted mark p q r clock) i w ≡ part counted i w
+  in-counted : (i w : ℕ) → i + w ≤ objectsHead → part (formatted mark p q r clock) i w ≡ part counted i w
   unfolding front
   in-counted i w l = in-front i w (omega arith) ∙ part-left counted (objectBytes (rootObject clock)) i w (omega (arith, counted-length))
 
   -- ---- its counts
   pub formatted-length : length (formatted mark p q r clock) ≡ imageLength p q r
   unfolding formatted counted front objects-end names-begin names-end blocks-begin
-  formatted-length = length-append blocks-begin (zeros (512 * r)) ∙ rw (blocks-begin-length, length-replicate)
+  formatted-length = length-append blocks-begin (zeros (blockLength * r)) ∙ rw (blocks-begin-length, length-replicate)
 
   pub formatted-volumes : volumes (formatted mark p q r clock) ≡ 1
   unfolding volumes beAt counted words bytesOf part
@@ -167,7 +168,7 @@ module _ (mark p q r : ℕ) (clock : Time) (h : FormatAsked mark p q r clock) wh
   pub formatted-root : objectAt (formatted mark p q r clock) 0 ≡ rootObject clock
   unfolding objectAt front
   formatted-root =
-      object-part (formatted mark p q r clock) 12
+      object-part (formatted mark p q r clock) objectsHead
       ∙ ap (λ (x : List ℕ). objectFrom x 0)
       (in-front objectsHead objectLength (lit≤ tt) ∙ part-right counted (objectBytes (rootObject clock)) objectsHead 0 objectLength counted-length ∙
       part-whole (objectBytes (rootObject clock)) objectLength (object-length (rootObject clock)))

@@ -4,6 +4,7 @@ use mathlib.Core.Logic.{_⊎_}
 use Prim.Native.Nat.{ℕ, _+_, _≤_, _<_}
 use native.Mathlib.Omega.{arith}
 use lib.ListN.{length}
+use Rattle.kinds.specs.Numbers.{mostFileBytes}
 use Rattle.kinds.specs.declared.object.Object.{Object}
 use Rattle.spec.specs.Count.{sum}
 use Rattle.spec.specs.Image.{Store, objects, blocks, objectAt}
@@ -17,7 +18,7 @@ use Rattle.laws.proofs.RecordRange.{objectAt-fits}
 use Rattle.laws.proofs.Valid.{GoodObject, live-size}
 
 -- a good object's size is at most 8,192, and its blocks are in range
-pub good-size-small : (s : Store) (o : ℕ) → GoodObject (blocks s) (objectAt s o) → sizeOf s o ≤ 8192
+pub good-size-small : (s : Store) (o : ℕ) → GoodObject (blocks s) (objectAt s o) → sizeOf s o ≤ mostFileBytes
 unfolding sizeOf
 good-size-small s o (_⊎_.inl f) = omega (arith, ap (λ (v : Object). v .size) f)
 good-size-small s o (_⊎_.inr l) = live-size (blocks s) (objectAt s o) l

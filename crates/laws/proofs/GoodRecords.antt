@@ -5,7 +5,7 @@ use mathlib.Core.List.{List}
 use Prim.Native.Nat.{ℕ, _+_, _-_, _^_, _≤_, _<_}
 use native.Mathlib.Omega.{arith}
 use lib.ListN.{length}
-use Rattle.kinds.specs.Numbers.{REGULAR, DIRECTORY}
+use Rattle.kinds.specs.Numbers.{REGULAR, DIRECTORY, nanosecondsEnd, mostFileBytes, spentGeneration}
 use Rattle.kinds.specs.declared.object.Time.{Time}
 use Rattle.kinds.specs.declared.object.Object.{Object}
 use Rattle.kinds.specs.declared.call.Settable.{Settable}
@@ -42,7 +42,7 @@ pub record StillGood (s t : Store) : Type 0 where
 -- a clock as the entries accept it
 pub record GoodClock (t : Time) : Type 0 where
   pub seconds : t .seconds < 2 ^ 32
-  pub nanoseconds : t .nanoseconds < 1000000000
+  pub nanoseconds : t .nanoseconds < nanosecondsEnd
 
 pub clock-fits : (t : Time) → GoodClock t → FitsTime t
 clock-fits t h = record { seconds = h .seconds; nanoseconds = omega (arith, h .nanoseconds) }
@@ -93,7 +93,7 @@ module _ (s : Store) (g : GoodRecords s) where
         };
       }
 
-  pub resize-still : (o size : ℕ) → o < objects s → objectAt s o .kind ≡ REGULAR → size ≤ 8192 → need size - need (sizeOf s o) ≤ freeBlockCount s
+  pub resize-still : (o size : ℕ) → o < objects s → objectAt s o .kind ≡ REGULAR → size ≤ mostFileBytes → need size - need (sizeOf s o) ≤ freeBlockCount s
       → StillGood s (resize s o size)
   resize-still o size l k small room =
       let v = live-at o l (omega arith) in
@@ -124,7 +124,7 @@ module _ (s : Store) (g : GoodRecords s) where
         };
       }
 
-  pub create-object-still : (o n : ℕ) (v : Object) (d : ℕ) (text : List ℕ) → o < objects s → objectAt s o .kind ≡ 0 → objectAt s o .generation < 4294967295
+  pub create-object-still : (o n : ℕ) (v : Object) (d : ℕ) (text : List ℕ) → o < objects s → objectAt s o .kind ≡ 0 → objectAt s o .generation < spentGeneration
       → n < names s → FitsObject v → LiveObject (blocks s) v → v .size ≡ 0 → d < objects s → objectAt s d .kind ≡ DIRECTORY → GoodName text → Below 256 text
       → StillGood s (createObject s o n v d text)
   create-object-still o n v d text l free low k f live empty below kind good b =

@@ -9,7 +9,7 @@ use Rattle.spec.specs.Bytes.{part, bytesOf, beAt, words}
 use Rattle.spec.specs.Checked.{passed}
 use Rattle.spec.specs.Handles.{handleOf, reach, reachDirectory}
 use Rattle.spec.specs.Image.{Store, stamp, objects, objectAt}
-use Rattle.kinds.specs.Numbers.{DIRECTORY}
+use Rattle.kinds.specs.Numbers.{DIRECTORY, handleLength}
 use Rattle.laws.proofs.Bytes.{be-bytes}
 use Rattle.laws.proofs.Kept.{Sound}
 use Rattle.laws.proofs.Passed.{Reached}
@@ -22,7 +22,7 @@ pub reached-passes : (s : Store) (h : List ℕ) (o : ℕ) → Reached s h o → 
 unfolding reach
 reached-passes s h o r =
     rw (
-      eq-eqb (length h) 12 (r .handle-length),
+      eq-eqb (length h) handleLength (r .handle-length),
       r .is-object,
       lt-leb (objects s) o (r .below),
       eq-eqb (beAt h 0 4) (stamp s) (r .same-stamp),
@@ -33,11 +33,6 @@ reached-passes s h o r =
 pub directory-passes : (s : Store) (h : List ℕ) (d : ℕ) → Reached s h d → objectAt s d .kind ≡ DIRECTORY → reachDirectory s h ≡ passed d
 unfolding reachDirectory
 directory-passes s h d r k = rw (reached-passes s h d r, true-directory s d k)
-
--- an object's own handle
-pub handle-long : (s : Store) (o : ℕ) → length (handleOf s o) ≡ 12
-unfolding handleOf words bytesOf
-handle-long s o = refl
 
 stamp-below : (s : Store) → Sound s → stamp s < 2 ^ 32
 unfolding stamp

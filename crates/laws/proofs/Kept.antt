@@ -7,7 +7,8 @@ use native.Mathlib.Omega.{arith}
 use native.Mathlib.Nat.{add-zero, add-assoc}
 use native.Mathlib.Decide.{ℕ-discrete}
 use lib.ListN.{length, length-append, length-replicate}
-use Rattle.kinds.specs.Layout.{nameRecordLength}
+use Rattle.kinds.specs.Layout.{nameRecordLength, lengthOffset, textOffset}
+use Rattle.kinds.specs.Numbers.{mostNameBytes}
 use Rattle.kinds.specs.declared.object.Object.{Object}
 use Rattle.spec.specs.Bytes.{part, overlay, beAt, bytesOf, zeros}
 use Rattle.spec.specs.Image.{Store, objects, names, objectStart, nameStart, blockStart, objectAt, putObject, Name, nameBytes, nameAt, nameLength, putName}
@@ -25,7 +26,7 @@ use Rattle.laws.proofs.Writes.{object-written, name-written, blocks-wri
 pub record Sound (s : Store) : Type 0 where
   pub shaped : Shaped s
   pub bytes : Below 256 s
-  pub short : (n : ℕ) → n < names s → nameLength s n ≤ 32
+  pub short : (n : ℕ) → n < names s → nameLength s n ≤ mostNameBytes
 
 -- name record n means the same in both stores, and is padded in the second where it is in the first
 pub record NameKept (s t : Store) (n : ℕ) : Type 0 where
@@ -86,27 +87,28 @@ shaped-same s t e h =
 pub valid-sound : (s : Store) → Valid s → Below 256 s → Sound s
 valid-sound s v b = record { shaped = v .shaped; bytes = b; short = λ n l. short-of n (v .good-names n l) }
   where
-    short-of : (n : ℕ) → GoodNameRecord s n → nameLength s n ≤ 32
+    short-of : (n : ℕ) → GoodNameRecord s n → nameLength s n ≤ mostNameBytes
     short-of n (_⊎_.inl f) = omega (arith, f .empty)
     short-of n (_⊎_.inr u) = u .short
 
 -- ---- a name record whose 44 bytes are the same
-pub kept-by-bytes : (s t : Store) (n : ℕ) → objects t ≡ objects s → nameLength s n ≤ 32
+pub kept-by-bytes : (s t : Store) (n : ℕ) → objects t ≡ objects s → nameLength s n ≤ mostNameBytes
     → part t (nameStart s n) nameRecordLength ≡ part s (nameStart s n) nameRecordLength → NameKept s t n
 unfolding nameAt nameLength
 kept-by-bytes s t n e l b =
     let at = nameStart s n in
     let w = length-by-part s t at nameRecordLength (omega arith) b in
-    let k = beAt s (at + 8) 4 in
+    let k = beAt s (at + lengthOffset) 4 in
     record {
       all = rw e (name-by-part s t at nameRecordLength (omega arith) b);
       long = rw e w;
-      padded = λ z. rw (e, w) (rw (add-assoc at 12 k)
-          (sym (part-part t at nameRecordLength (12 + k) (32 - k) (omega arith)) ∙ ap (λ (x : List ℕ). part x (12 + k) (32 - k)) b ∙ part-part s at
-          nameRecordLength (12 + k) (32 - k) (omega arith) ∙ (rw (add-assoc at 12 k) at z)));
+      padded = λ z. rw (e, w) (rw (add-assoc at textOffset k)
+          (sym (part-part t at nameRecordLength (textOffset + k) (mostNameBytes - k) (omega arith))
+          ∙ ap (λ (x : List ℕ). part x (textOffset + k) (mostNameBytes - k)) b ∙ part-part s at
+          nameRecordLength (textOffset + k) (mostNameBytes - k) (omega arith) ∙ (rw (add-assoc at textOffset k) at z)));
     }
 
-sound-of : (s t : Store) → Sound s → SameShape s t → Below 256 t → ((m : ℕ) → m < names s → nameLength t m ≤ 32) → Sound t
+sound-of : (s t : Store) → Sound s → SameShape s t → Below 256 t → ((m : ℕ) → m < names s → nameLength t m ≤ mostNameBytes) → Sound t
 sound-of s t h e b f =
     record { shaped = shaped-same s t e (h .shaped); bytes = b; short = λ m (l : m < names t). f m (omega (arith, e .names)) }
 
@@ -131,15 +133,16 @@ put-object s o v h l f =
     }
 
 -- the bytes behind a name that was written
-name-padded : (x : Name) → length (x .text) ≤ 32 → part (nameBytes x) (12 + length (x .text)) (32 - length (x .text)) ≡ zeros (32 - length (x .text))
+name-padded : (x : Name) → length (x .text) ≤ mostNameBytes
+    → part (nameBytes x) (textOffset + length (x .text)) (mostNameBytes - length (x .text)) ≡ zeros (mostNameBytes - length (x .text))
 unfolding nameBytes
 name-padded x h =
     let k = length (x .text) in
     let front = bytesOf 4 (x .directory) ++ bytesOf 4 (x .child) ++ bytesOf 4 k ++ x .text in
-    let z = zeros (32 - k) in
-    ap (λ (i : ℕ). part (front ++ z) i (32 - k)) (sym (add-zero (12 + k)))
-    ∙ part-right front z (12 + k) 0 (32 - k) (simp (length-append, bytes-length) (omega arith))
-    ∙ part-whole z (32 - k) (length-replicate (32 - k) 0)
+    let z = zeros (mostNameBytes - k) in
+    ap (λ (i : ℕ). part (front ++ z) i (mostNameBytes - k)) (sym (add-zero (textOffset + k)))
+    ∙ part-right front z (textOffset + k) 0 (mostNameBytes - k) (simp (length-append, bytes-length) (omega arith))
+    ∙ part-whole z (mostNameBytes - k) (length-replicate (mostNameBytes - k) 0)
 
 pub put-name : (s : Store) (n : ℕ) (x : Name) → Sound s → n < names s → FitsName x → Below 256 (x .text) → NameSet s n x (putName s n x)
 unfolding putName
@@ -165,9 +168,9 @@ put-name s n x h l f g =
       name = record {
         all = nameAt-same s n x fits f;
         long = long;
-        padded = rw (q .shape .objects, long) (rw (add-assoc (nameStart s n) 12 c)
-            (sym (part-part t (nameStart s n) nameRecordLength (12 + c) (32 - c) (omega (arith, f .text)))
-            ∙ ap (λ (y : List ℕ). part y (12 + c) (32 - c)) (bytes-same s n x fits f) ∙ name-padded x (f .text)));
+        padded = rw (q .shape .objects, long) (rw (add-assoc (nameStart s n) textOffset c)
+            (sym (part-part t (nameStart s n) nameRecordLength (textOffset + c) (mostNameBytes - c) (omega (arith, f .text)))
+            ∙ ap (λ (y : List ℕ). part y (textOffset + c) (mostNameBytes - c)) (bytes-same s n x fits f) ∙ name-padded x (f .text)));
       };
       other-names = kept;
     }
@@ -225,17 +228,6 @@ object-kept s t u o v h a b =
       sound = b .sound;
       object = b .each-object o (rw (a .shape .objects) h) ∙ a .object;
       other-objects = λ i l d. b .each-object i (rw (a .shape .objects) l) ∙ a .other-objects i l d;
-      each-name = λ m l. name-kept-trans s t u m (a .each-name m l) (b .each-name m (rw (a .shape .names) l));
-    }
-
--- the same object is set twice
-pub object-set-twice : (s t u : Store) (o : ℕ) (v w : Object) → ObjectSet s o v t → ObjectSet t o w u → ObjectSet s o w u
-object-set-twice s t u o v w a b =
-    record {
-      shape = same-trans s t u (a .shape) (b .shape);
-      sound = b .sound;
-      object = b .object;
-      other-objects = λ i l d. b .other-objects i (rw (a .shape .objects) l) d ∙ a .other-objects i l d;
       each-name = λ m l. name-kept-trans s t u m (a .each-name m l) (b .each-name m (rw (a .shape .names) l));
     }
 

@@ -2,12 +2,13 @@
 use mathlib.Core.Path.{_≡_, refl, sym, ap, _∙_}
 use mathlib.Core.Bool.{Bool, true, false, cond}
 use mathlib.Core.List.{List, [], _∷_, _++_, map, map-append, append-assoc}
-use Prim.Native.Nat.{ℕ, zero, suc, _+_, _-_, _*_, _≤_, _<_}
+use Prim.Native.Nat.{ℕ, zero, suc, _+_, _-_, _≤_}
 use native.Mathlib.Omega.{arith}
 use native.Mathlib.Numerals.{add-one}
 use lib.Dec.{ltb, leb}
 use lib.ListN.{length, take, drop, length-append, take-append-drop}
 use borrow.Author.Tests.{leb-true}
+use Rattle.kinds.specs.Numbers.{entryFixedCost}
 use Rattle.spec.specs.Count.{passing}
 use Rattle.spec.specs.Results.{Entry}
 use Rattle.spec.specs.Procedures.Listing.{entriesAbove, entryCost, fitting}
@@ -57,7 +58,7 @@ module _ {A : Type 0} (f : ℕ → A) (p : ℕ → Bool) where
       ∙ ap (λ (l : List ℕ). map f l ++ map f (drop i (passing m p))) (passing-front p n m h)
 
 -- ---- what an entry costs
-pub entry-length : (e : Entry) → length (entryBytes e) ≡ entryCost 24 e
+pub entry-length : (e : Entry) → length (entryBytes e) ≡ entryCost entryFixedCost e
 unfolding entryBytes
 entry-length e = rw (length-append, length-append, words-length, opaque-length, words-length) (omega arith)
 
@@ -70,11 +71,11 @@ fitting-front each room (e ∷ es) =
     (λ t. rw t (ap (λ (l : List Entry). e ∷ l) (fitting-front each (room - entryCost each e) es)))
     (λ t. rw t)
 
-pub fitting-bytes : (room : ℕ) (es : List Entry) → length (entriesBytes (fitting 24 room es)) ≤ room
+pub fitting-bytes : (room : ℕ) (es : List Entry) → length (entriesBytes (fitting entryFixedCost room es)) ≤ room
 unfolding fitting entriesBytes
 fitting-bytes room [] = omega arith
 fitting-bytes room (e ∷ es) =
-    by-bool (leb (entryCost 24 e) room)
-    (λ t. let rest = fitting-bytes (room - entryCost 24 e) es in let l = leb-true (entryCost 24 e) room t in
+    by-bool (leb (entryCost entryFixedCost e) room)
+    (λ t. let rest = fitting-bytes (room - entryCost entryFixedCost e) es in let l = leb-true (entryCost entryFixedCost e) room t in
     rw (t, length-append, entry-length) (omega arith))
     (λ t. rw t (omega arith))

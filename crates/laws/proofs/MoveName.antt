@@ -6,7 +6,7 @@ use Prim.Native.Nat.{ℕ, _^_, _≤_, _<_}
 use native.Mathlib.Omega.{arith}
 use native.Mathlib.Decide.{ℕ-discrete}
 use lib.ListN.{length}
-use Rattle.kinds.specs.Numbers.{DIRECTORY}
+use Rattle.kinds.specs.Numbers.{DIRECTORY, mostNameBytes}
 use Rattle.kinds.specs.declared.object.Object.{Object}
 use Rattle.spec.specs.Bytes.{part}
 use Rattle.spec.specs.Edits.{moveName}
@@ -23,7 +23,7 @@ use Rattle.laws.proofs.Writes.{name-written}
 abbrev pub movedName : Store → ℕ → ℕ → List ℕ → Name
 movedName s n d text = record { directory = d; child = nameAt s n .child; text = text }
 
-module _ (s : Store) (n d : ℕ) (text : List ℕ) (h : Sound s) (l : n < names s) (f : d < 2 ^ 32) (g : length text ≤ 32) (b : Below 256 text) where
+module _ (s : Store) (n d : ℕ) (text : List ℕ) (h : Sound s) (l : n < names s) (f : d < 2 ^ 32) (g : length text ≤ mostNameBytes) (b : Below 256 text) where
   pub move-name : NameSet s n (movedName s n d text) (moveName s n d text)
   unfolding moveName
   move-name =

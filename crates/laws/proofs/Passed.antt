@@ -10,7 +10,7 @@ use lib.Dec.{eqb, leb, ltb}
 use lib.ListN.{length}
 use borrow.Author.Tests.{leb-true, leb-false, ltb-true, ltb-false, eqb-true, eqb-false, eq-eqb, not-true, not-false}
 use Rattle.kinds.specs.Numbers.{REGULAR, DIRECTORY, NOENT, ACCES, EXIST, NOTDIR, INVAL, FBIG, NOSPC, NAMETOOLONG, NOTEMPTY, STALE, BADHANDLE}
-use Rattle.kinds.specs.Numbers.{NOT-SYNC, mostTransferBytes}
+use Rattle.kinds.specs.Numbers.{NOT-SYNC, mostTransferBytes, mostFileBytes, spentGeneration, mostNameBytes, handleLength}
 use Rattle.kinds.specs.declared.call.SetSize.the-variants as SetSize
 use Rattle.kinds.specs.declared.call.Settable.{Settable}
 use Rattle.kinds.specs.declared.call.Guard.{Guard}
@@ -73,7 +73,7 @@ same-passed a b e = cc
 -- ---- handles
 -- "Other length, or object not below P: BADHANDLE. Other stamp, free, or other generation: STALE.": none of these
 pub record Reached (s : Store) (h : List ℕ) (o : ℕ) : Type 0 where
-  pub handle-length : length h ≡ 12
+  pub handle-length : length h ≡ handleLength
   pub is-object : beAt h 4 4 ≡ o
   pub below : o < objects s
   pub same-stamp : beAt h 0 4 ≡ stamp s
@@ -83,14 +83,14 @@ pub record Reached (s : Store) (h : List ℕ) (o : ℕ) : Type 0 where
 pub reach-passed : (s : Store) (h : List ℕ) (o : ℕ) → reach s h ≡ passed o → Reached s h o
 unfolding reach
 reach-passed s h o e =
-    refuse-passed (not (eqb (length h) 12)) BADHANDLE _ o e (λ t₁ e₁.
+    refuse-passed (not (eqb (length h) handleLength)) BADHANDLE _ o e (λ t₁ e₁.
     refuse-passed (leb (objects s) (beAt h 4 4)) BADHANDLE _ o e₁ (λ t₂ e₂.
     refuse-passed (not (eqb (beAt h 0 4) (stamp s))) STALE _ o e₂ (λ t₃ e₃.
     refuse-passed (not (isLive s (beAt h 4 4))) STALE _ o e₃ (λ t₄ e₄.
     refuse-passed (not (eqb (beAt h 8 4) (objectAt s (beAt h 4 4) .generation))) STALE _ o e₄ (λ t₅ e₅.
     let q : beAt h 4 4 ≡ o = same-passed (beAt h 4 4) o e₅ in
     record {
-      handle-length = eqb-true (length h) 12 (not-false (eqb (length h) 12) t₁);
+      handle-length = eqb-true (length h) handleLength (not-false (eqb (length h) handleLength) t₁);
       is-object = q;
       below = rw q at (leb-false (objects s) (beAt h 4 4) t₂);
       same-stamp = eqb-true (beAt h 0 4) (stamp s) (not-false (eqb (beAt h 0 4) (stamp s)) t₃);
@@ -119,7 +119,7 @@ regular-passed s h o e =
 -- "name (empty ACCES; over 32 NAMETOOLONG; byte 0 or 0x2F ACCES)": none of these
 pub record NamePassed (text : List ℕ) : Type 0 where
   pub some-byte : 1 ≤ length text
-  pub short : length text ≤ 32
+  pub short : length text ≤ mostNameBytes
   pub bytes : goodBytes text ≡ true
 
 pub name-passed : {B P : Type 0} (text : List ℕ) (k : Unit {0} → Checked B) (b : B) → bind (checkName text) k ≡ passed b
@@ -128,9 +128,9 @@ unfolding checkName
 name-passed text k b e f =
     by-bool (eqb (length text) 0)
     (λ t. absurd (refused-passed ACCES b (rw t at e)))
-    (λ t. by-bool (leb (length text) 32)
+    (λ t. by-bool (leb (length text) mostNameBytes)
     (λ u. by-bool (goodBytes text)
-    (λ w. f (record { some-byte = omega (arith, eqb-false (length text) 0 t); short = leb-true (length text) 32 u; bytes = w }) (rw (t, u, w) at e))
+    (λ w. f (record { some-byte = omega (arith, eqb-false (length text) 0 t); short = leb-true (length text) mostNameBytes u; bytes = w }) (rw (t, u, w) at e))
     (λ w. absurd (refused-passed ACCES b (rw (t, u, w) at e))))
     (λ u. absurd (refused-passed NAMETOOLONG b (rw (t, u) at e))))
 
@@ -193,17 +193,18 @@ pub record NewRoom (s : Store) (size o n : ℕ) : Type 0 where
   pub lowest-name : availableName s ≡ some n
   pub object-below : o < objects s
   pub object-free : objectAt s o .kind ≡ 0
-  pub generation-low : objectAt s o .generation < 4294967295
+  pub generation-low : objectAt s o .generation < spentGeneration
   pub name-below : n < names s
   pub name-free : nameLength s n ≡ 0
   pub room : need size ≤ freeBlockCount s
 
-pub available-object : (s : Store) (o : ℕ) → availableObject s ≡ some o → (o < objects s) × (objectAt s o .kind ≡ 0) × (objectAt s o .generation < 4294967295)
+pub available-object : (s : Store) (o : ℕ) → availableObject s ≡ some o
+    → (o < objects s) × (objectAt s o .kind ≡ 0) × (objectAt s o .generation < spentGeneration)
 unfolding availableObject isAvailable
 available-object s o e =
     let p = lowest-passes (isAvailable s) (objects s) o e in
-    let a = and-both (not (isLive s o)) (ltb (objectAt s o .generation) 4294967295) (p .passes) in
-    (p .below, live-false s o (not-true (isLive s o) (a .0)), ltb-true (objectAt s o .generation) 4294967295 (a .1))
+    let a = and-both (not (isLive s o)) (ltb (objectAt s o .generation) spentGeneration) (p .passes) in
+    (p .below, live-false s o (not-true (isLive s o) (a .0)), ltb-true (objectAt s o .generation) spentGeneration (a .1))
 
 pub available-name : (s : Store) (n : ℕ) → availableName s ≡ some n → (n < names s) × (nameLength s n ≡ 0)
 unfolding availableName
@@ -264,7 +265,7 @@ pub record WritePassed (s : Store) (h : List ℕ) (offset count : ℕ) (bytes : 
   pub reached : Reached s h o
   pub regular : objectAt s o .kind ≡ REGULAR
   pub counted : count ≡ length bytes
-  pub fits : 0 < count → offset + min count mostTransferBytes ≤ 8192
+  pub fits : 0 < count → offset + min count mostTransferBytes ≤ mostFileBytes
   pub room : 0 < count → need (grown s o offset (min count mostTransferBytes)) - need (sizeOf s o) ≤ freeBlockCount s
 
 pub write-passed : (s : Store) (h : List ℕ) (offset count : ℕ) (bytes : List ℕ) (o : ℕ) → checkWrite s h offset count bytes ≡ passed o
@@ -273,7 +274,7 @@ unfolding checkWrite
 write-passed s h offset count bytes o e =
     bind-passed (reachRegular s h) _ o e (λ i e₁ f₁.
     refuse-passed (not (eqb count (length bytes))) INVAL _ o f₁ (λ t₂ f₂.
-    refuse-passed (not (eqb count 0) && ltb 8192 (offset + min count mostTransferBytes)) FBIG _ o f₂ (λ t₃ f₃.
+    refuse-passed (not (eqb count 0) && ltb mostFileBytes (offset + min count mostTransferBytes)) FBIG _ o f₂ (λ t₃ f₃.
     refuse-passed (not (eqb count 0) && lacksRoom s (sizeOf s i) (grown s i offset (min count mostTransferBytes))) NOSPC _ o f₃ (λ t₄ f₄.
     let q : i ≡ o = same-passed i o f₄ in
     let r = regular-passed s h i e₁ in
@@ -281,8 +282,8 @@ write-passed s h offset count bytes o e =
       reached = r .0;
       regular = r .1;
       counted = eqb-true count (length bytes) (not-false (eqb count (length bytes)) t₂);
-      fits = λ p. ltb-false 8192 (offset + min count mostTransferBytes)
-          (rest-false (not (eqb count 0)) (ltb 8192 (offset + min count mostTransferBytes)) t₃ (true-nonzero count p));
+      fits = λ p. ltb-false mostFileBytes (offset + min count mostTransferBytes)
+          (rest-false (not (eqb count 0)) (ltb mostFileBytes (offset + min count mostTransferBytes)) t₃ (true-nonzero count p));
       room = λ p. room-passed s (sizeOf s i) (grown s i offset (min count mostTransferBytes))
           (rest-false (not (eqb count 0)) (lacksRoom s (sizeOf s i) (grown s i offset (min count mostTransferBytes))) t₄ (true-nonzero count p));
     } in

@@ -1,31 +1,16 @@
--- An object without blocks, owned by 0 and with all its times from one clock: what a root and a new object start from. Assumes nothing.
+-- An object without blocks, with ids 0 and all its times from one clock: what a root and a new object start from. Assumes nothing.
 use mathlib.Core.Path.{_≡_, refl}
 use mathlib.Core.Logic.{_⊎_}
 use Prim.Native.Nat.{ℕ, _^_, _≤_, _<_}
 use native.Mathlib.Omega.{arith}
 use lib.Dec.{lit<, lit≤}
-use lib.ListN.{replicate, getD-replicate}
-use Rattle.kinds.specs.Numbers.{REGULAR, DIRECTORY}
+use lib.ListN.{getD-replicate}
+use Rattle.kinds.specs.Numbers.{REGULAR, DIRECTORY, nanosecondsEnd, fileBlocks, unusedBlock, mostMode}
+use Rattle.kinds.specs.Objects.{plainObject}
 use Rattle.kinds.specs.declared.object.Time.{Time}
-use Rattle.kinds.specs.declared.object.Object.{Object}
 use Rattle.laws.proofs.Records.{FitsTime, FitsObject}
 use Rattle.laws.proofs.Valid.{GoodSize, LiveObject}
 use Rattle.laws.proofs.WordRange.{below-same}
-
-abbrev pub plainObject : ℕ → ℕ → Time → Object
-plainObject kind mode clock =
-    record {
-      kind = kind;
-      generation = 0;
-      mode = mode;
-      uid = 0;
-      gid = 0;
-      size = 0;
-      atime = clock;
-      mtime = clock;
-      ctime = clock;
-      blocks = replicate 16 65535;
-    }
 
 pub plain-fits : (kind mode : ℕ) (clock : Time) → kind < 2 ^ 32 → mode < 2 ^ 32 → FitsTime clock → FitsObject (plainObject kind mode clock)
 plain-fits kind mode clock k m c =
@@ -40,10 +25,10 @@ plain-fits kind mode clock k m c =
       mtime = c;
       ctime = c;
       long = refl;
-      halves = below-same (2 ^ 16) 16 65535 (lit< tt) (lit< tt);
+      halves = below-same (2 ^ 16) fileBlocks unusedBlock (lit< tt) (lit< tt);
     }
 
-pub plain-live : (r kind mode : ℕ) (clock : Time) → (kind ≡ REGULAR) ⊎ (kind ≡ DIRECTORY) → mode ≤ 4095 → clock .nanoseconds < 1000000000
+pub plain-live : (r kind mode : ℕ) (clock : Time) → (kind ≡ REGULAR) ⊎ (kind ≡ DIRECTORY) → mode ≤ mostMode → clock .nanoseconds < nanosecondsEnd
     → LiveObject r (plainObject kind mode clock)
 plain-live r kind mode clock k m c =
     record {
@@ -54,7 +39,7 @@ plain-live r kind mode clock k m c =
       ctime = c;
       size = of-kind k;
       held = λ j b. absurd (omega arith);
-      rest = λ j b d. getD-replicate 16 j 65535 0 d;
+      rest = λ j b d. getD-replicate fileBlocks j unusedBlock 0 d;
     }
   where
     of-kind : (kind ≡ REGULAR) ⊎ (kind ≡ DIRECTORY) → GoodSize (plainObject kind mode clock)

@@ -1,12 +1,12 @@
 -- That numbers read from bytes fit, and that writes keep bytes bytes. Assumes nothing.
-use mathlib.Core.Path.{_≡_, refl, sym, ap, ap₂, _∙_, subst}
+use mathlib.Core.Path.{_≡_, refl, sym, ap, ap₂, _∙_}
 use mathlib.Core.List.{List, [], _∷_, _++_}
 use Prim.Native.Nat.{ℕ, zero, suc, _+_, _*_, _/_, _%_, _^_, _≤_, _<_}
 use native.Mathlib.Omega.{arith}
 use native.Mathlib.Nat.{mod-lt, add-zero, add-suc, suc-add, zero-add, pow-suc, pow-le-pow-right, lt-of-lt-of-le, mul-add-div-right, div-eq-of-lt, one-le-pow}
 use lib.Arith.{digits-lt}
-use lib.Dec.{lit<, lit≤}
-use lib.ListN.{length, take, drop, getD, length-take, length-drop}
+use lib.Dec.{lit<}
+use lib.ListN.{length, take, drop, getD, length-take}
 use Rattle.spec.specs.Bytes.{part, overlay, digits, beOf, bytesOf, beAt}
 use Rattle.laws.proofs.Bytes.{part-cons, be-add}
 

@@ -1,17 +1,20 @@
 -- That records read from bytes fit their places, and that writes of records keep bytes bytes. Assumes nothing.
 use mathlib.Core.Path.{_≡_}
-use mathlib.Core.List.{List, [], _∷_, _++_}
+use mathlib.Core.List.{List, [], _∷_}
 use Prim.Native.Nat.{ℕ, zero, suc, _+_, _*_, _^_, _≤_, _<_}
 use native.Mathlib.Omega.{arith}
 use lib.Dec.{lit<}
 use lib.ListN.{length, getD, replicate, length-take}
+use Rattle.kinds.specs.Layout.{generationOffset, modeOffset, uidOffset, gidOffset, sizeOffset, atimeOffset, mtimeOffset, ctimeOffset, blocksOffset}
+use Rattle.kinds.specs.Layout.{nanosecondsOffset, childOffset, lengthOffset, textOffset}
+use Rattle.kinds.specs.Numbers.{fileBlocks, mostNameBytes}
 use Rattle.kinds.specs.declared.object.Object.{Object}
 use Rattle.spec.specs.Bytes.{part, beAt, bytesOf}
 use Rattle.spec.specs.Image.{Store, objectStart, nameStart, halvesAt, halvesBytes, timeAt, timeBytes, headBytes, timesBytes, objectFrom, objectBytes}
 use Rattle.spec.specs.Image.{objectAt, putObject, Name, nameFrom, nameBytes, nameAt, nameLength, putName}
 use Rattle.laws.proofs.Bytes.{part-length}
 use Rattle.laws.proofs.Range.{Below, below-append, below-drop, below-take, below-bytes, below-overlay, be-below}
-use Rattle.laws.proofs.Records.{FitsTime, FitsObject, halves-count}
+use Rattle.laws.proofs.Records.{FitsObject, halves-count}
 use Rattle.laws.proofs.Names.{FitsName}
 
 pub one-below : (m x : ℕ) → x < m → Below m (x ∷ [])
@@ -32,35 +35,31 @@ objectAt-fits s o f =
     let at = objectStart o in
     record {
       kind = be-below s at 4 f;
-      generation = be-below s (at + 4) 4 f;
-      mode = be-below s (at + 8) 4 f;
-      uid = be-below s (at + 12) 4 f;
-      gid = be-below s (at + 16) 4 f;
-      size = be-below s (at + 20) 4 f;
-      atime = record { seconds = be-below s (at + 24) 4 f; nanoseconds = be-below s (at + 24 + 4) 4 f };
-      mtime = record { seconds = be-below s (at + 32) 4 f; nanoseconds = be-below s (at + 32 + 4) 4 f };
-      ctime = record { seconds = be-below s (at + 40) 4 f; nanoseconds = be-below s (at + 40 + 4) 4 f };
-      long = halves-count s (at + 48) 16;
-      halves = halves-below s (at + 48) 16 f;
+      generation = be-below s (at + generationOffset) 4 f;
+      mode = be-below s (at + modeOffset) 4 f;
+      uid = be-below s (at + uidOffset) 4 f;
+      gid = be-below s (at + gidOffset) 4 f;
+      size = be-below s (at + sizeOffset) 4 f;
+      atime = record { seconds = be-below s (at + atimeOffset) 4 f; nanoseconds = be-below s (at + atimeOffset + nanosecondsOffset) 4 f };
+      mtime = record { seconds = be-below s (at + mtimeOffset) 4 f; nanoseconds = be-below s (at + mtimeOffset + nanosecondsOffset) 4 f };
+      ctime = record { seconds = be-below s (at + ctimeOffset) 4 f; nanoseconds = be-below s (at + ctimeOffset + nanosecondsOffset) 4 f };
+      long = halves-count s (at + blocksOffset) fileBlocks;
+      halves = halves-below s (at + blocksOffset) fileBlocks f;
     }
 
 pub below-part : (m : ℕ) (b : List ℕ) (at n : ℕ) → 0 < m → Below m b → Below m (part b at n)
 unfolding part
 below-part m b at n p f = below-take m _ n p (below-drop m b at f)
 
-pub nameAt-fits : (s : Store) (n : ℕ) → Below 256 s → nameLength s n ≤ 32 → FitsName (nameAt s n)
+pub nameAt-fits : (s : Store) (n : ℕ) → Below 256 s → nameLength s n ≤ mostNameBytes → FitsName (nameAt s n)
 unfolding nameAt nameFrom nameLength part
 nameAt-fits s n f h =
-    record { directory = be-below s (nameStart s n) 4 f; child = be-below s (nameStart s n + 4) 4 f; text = simp length-take (omega arith) }
+    record { directory = be-below s (nameStart s n) 4 f; child = be-below s (nameStart s n + childOffset) 4 f; text = simp length-take (omega arith) }
 
--- the text of a name record is bytes, and as long as the record says
-pub text-below : (s : Store) (n : ℕ) → Below 256 s → Below 256 (nameAt s n .text)
-unfolding nameAt nameFrom
-text-below s n f = below-part 256 s (nameStart s n + 12) (beAt s (nameStart s n + 8) 4) (lit< tt) f
-
-pub text-length : (s : Store) (n : ℕ) → nameStart s n + 12 + nameLength s n ≤ length s → length (nameAt s n .text) ≡ nameLength s n
+-- the text of a name record is as long as the record says
+pub text-length : (s : Store) (n : ℕ) → nameStart s n + textOffset + nameLength s n ≤ length s → length (nameAt s n .text) ≡ nameLength s n
 unfolding nameAt nameFrom nameLength
-text-length s n h = part-length s (nameStart s n + 12) (beAt s (nameStart s n + 8) 4) h
+text-length s n h = part-length s (nameStart s n + textOffset) (beAt s (nameStart s n + lengthOffset) 4) h
 
 -- a write keeps bytes bytes
 halves-bytes : (n : ℕ) (xs : List ℕ) → Below 256 (halvesBytes n xs)

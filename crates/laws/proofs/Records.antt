@@ -8,9 +8,9 @@ use native.Mathlib.Nat.{add-zero, add-assoc, eq-or-lt-of-le, le-of-suc-le-suc}
 use lib.Dec.{lit≤}
 use lib.Seq.{take-suc, take-all, getD-append-seam}
 use lib.ListN.{length, take, getD, length-append, List·getD-append}
-use Rattle.kinds.specs.Numbers.{fileBlocks}
 use Rattle.kinds.specs.Layout.{generationOffset, modeOffset, uidOffset, gidOffset, sizeOffset, atimeOffset, mtimeOffset, ctimeOffset, blocksOffset}
 use Rattle.kinds.specs.Layout.{objectLength, nanosecondsOffset}
+use Rattle.kinds.specs.Numbers.{fileBlocks}
 use Rattle.kinds.specs.declared.object.Time.{Time}
 use Rattle.kinds.specs.declared.object.Object.{Object}
 use Rattle.spec.specs.Bytes.{beOf, part, overlay, beAt, bytesOf}
@@ -33,7 +33,7 @@ pub record FitsObject (v : Object) : Type 0 where
   pub atime : FitsTime (v .atime)
   pub mtime : FitsTime (v .mtime)
   pub ctime : FitsTime (v .ctime)
-  pub long : length (v .blocks) ≡ 16
+  pub long : length (v .blocks) ≡ fileBlocks
   pub halves : (k : ℕ) → getD (v .blocks) k 0 < 2 ^ 16
 
 -- ---- lengths
@@ -89,9 +89,9 @@ object-part b at = sym (cc (
   be-part b at objectLength (mtimeOffset + nanosecondsOffset) 4 (lit≤ tt),
   be-part b at objectLength ctimeOffset 4 (lit≤ tt),
   be-part b at objectLength (ctimeOffset + nanosecondsOffset) 4 (lit≤ tt),
-  add-assoc at 24 4,
-  add-assoc at 32 4,
-  add-assoc at 40 4,
+  add-assoc at atimeOffset nanosecondsOffset,
+  add-assoc at mtimeOffset nanosecondsOffset,
+  add-assoc at ctimeOffset nanosecondsOffset,
   halves-part b at objectLength blocksOffset fileBlocks (lit≤ tt),
 ))
 
@@ -120,14 +120,15 @@ halves-again n xs (suc k) h l f =
     (ap (λ (q : ℕ). beOf (part (halvesBytes n xs) q 2)) (omega arith) ∙ ap beOf (half-at n xs k h) ∙ be-bytes 2 (getD xs k 0) (f k))
     ∙ sym (take-suc xs k 0 l)
 
-blocks-again : (v : Object) → FitsObject v → halvesAt (objectBytes v) 48 16 ≡ v .blocks
+blocks-again : (v : Object) → FitsObject v → halvesAt (objectBytes v) blocksOffset fileBlocks ≡ v .blocks
 unfolding objectBytes headBytes timesBytes timeBytes bytesOf
 blocks-again v f =
-    sym (halves-part (objectBytes v) 48 32 0 16 (lit≤ tt))
-    ∙ ap (λ (x : List ℕ). halvesAt x 0 16)
-    (part-right (headBytes v ++ timesBytes v) (halvesBytes 16 (v .blocks)) 48 0 32 refl ∙ part-whole (halvesBytes 16 (v .blocks)) 32
-    (halves-length 16 (v .blocks)))
-    ∙ halves-again 16 (v .blocks) 16 (lit≤ tt) (omega arith) (f .halves) ∙ take-all 16 (v .blocks) (omega arith)
+    sym (halves-part (objectBytes v) blocksOffset (2 * fileBlocks) 0 fileBlocks (lit≤ tt))
+    ∙ ap (λ (x : List ℕ). halvesAt x 0 fileBlocks)
+    (part-right (headBytes v ++ timesBytes v) (halvesBytes fileBlocks (v .blocks)) blocksOffset 0 (2 * fileBlocks) refl
+    ∙ part-whole (halvesBytes fileBlocks (v .blocks)) (2 * fileBlocks)
+    (halves-length fileBlocks (v .blocks)))
+    ∙ halves-again fileBlocks (v .blocks) fileBlocks (lit≤ tt) (omega arith) (f .halves) ∙ take-all fileBlocks (v .blocks) (omega arith)
 
 pub object-again : (v : Object) → FitsObject v → objectFrom (objectBytes v) 0 ≡ v
 unfolding objectFrom timeAt objectBytes headBytes timesBytes timeBytes bytesOf halvesBytes beAt part

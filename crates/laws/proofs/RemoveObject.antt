@@ -6,17 +6,16 @@ use Prim.Native.Nat.{ℕ, _+_, _^_, _<_}
 use native.Mathlib.Omega.{arith}
 use native.Mathlib.Decide.{ℕ-discrete}
 use lib.Dec.{lit<, lit≤}
-use lib.ListN.{length}
+use Rattle.kinds.specs.Numbers.{fileBlocks, spentGeneration}
 use Rattle.kinds.specs.Objects.{freeObject}
 use Rattle.kinds.specs.declared.object.Object.{Object}
 use Rattle.spec.specs.Count.{times}
 use Rattle.spec.specs.Edits.{clearBlocks, removeObject}
 use Rattle.spec.specs.Image.{Store, objects, names, blocks, objectAt, putObject, nameAt, freeName}
-use Rattle.spec.specs.Room.{held, uses, freeBlockCount}
+use Rattle.spec.specs.Room.{held, uses}
 use Rattle.laws.proofs.BlockLists.{InRange}
 use Rattle.laws.proofs.BlockWrites.{clear-blocks}
 use Rattle.laws.proofs.CreateObject.{no-blocks}
-use Rattle.laws.proofs.FreeCount.{free-count-set}
 use Rattle.laws.proofs.GoodKept.{good-objects-set, record-kept, uses-object-set}
 use Rattle.laws.proofs.Kept.{Sound, NameIs, BothSet, put-object, put-name, kept-object, object-name}
 use Rattle.laws.proofs.Records.{FitsObject}
@@ -36,14 +35,14 @@ free-fits g h =
       mtime = record { seconds = lit< tt; nanoseconds = lit< tt };
       ctime = record { seconds = lit< tt; nanoseconds = lit< tt };
       long = refl;
-      halves = below-same (2 ^ 16) 16 0 (lit< tt) (lit< tt);
+      halves = below-same (2 ^ 16) fileBlocks 0 (lit< tt) (lit< tt);
     }
 
 pub free-set : (t : Store) (n : ℕ) → NameIs t n freeName → FreeName t n
 free-set t n e = record { empty = e .long; all = e .all; padded = e .padded }
 
 module _ (s : Store) (n o : ℕ) (is : nameAt s n .child ≡ o) (h : Sound s) (l : n < names s) (k : o < objects s)
-    (low : objectAt s o .generation < 4294967295) (range : InRange (blocks s) (held s o)) where
+    (low : objectAt s o .generation < spentGeneration) (range : InRange (blocks s) (held s o)) where
   pub remove-object : BothSet s o (freeObject (objectAt s o .generation + 1)) n freeName (removeObject s n)
   unfolding removeObject
   remove-object =
@@ -95,15 +94,3 @@ module _ (s : Store) (n o : ℕ) (is : nameAt s n .child ≡ o) (h : Sound s) (l
       let u = remove-object-uses r in
       let q = once r (rw (remove-object .shape .blocks) at j) in
       omega arith
-
-  -- its blocks are free
-  pub remove-object-freed : BlocksUsedOnce s → (r : ℕ) → r < blocks s → 0 < times r (held s o) → uses (removeObject s n) r ≡ 0
-  remove-object-freed once r j p = let u = remove-object-uses r in let q = once r j in omega arith
-
-  pub remove-object-free-count : BlocksUsedOnce s → freeBlockCount (removeObject s n) ≡ freeBlockCount s + length (held s o)
-  remove-object-free-count once =
-      let t = removeObject s n in
-      let e = remove-object in
-      let c = free-count-set s t o once (remove-object-blocks once) (e .shape .blocks) (uses-object-set s t o k (e .shape .objects) (e .other-objects)) range
-      (rw removed-held (λ i p. absurd (omega arith))) in
-      omega (arith, ap length removed-held)

@@ -5,9 +5,9 @@ use mathlib.Core.List.{List, _++_}
 use Prim.Native.Nat.{ℕ, _+_, _-_, _^_, _≤_, _<_, min, max}
 use native.Mathlib.Omega.{arith}
 use lib.Dec.{lit<}
-use lib.ListN.{length, take, drop, getD, replicate, length-append, length-take, length-drop, length-replicate, getD-replicate, List·getD-eq-default}
+use lib.ListN.{length, take, drop, getD, replicate, length-append, length-take, length-replicate, getD-replicate, List·getD-eq-default}
 use lib.Seq.{take-take, take-at, getD-take, getD-append-add}
-use Rattle.kinds.specs.Numbers.{REGULAR}
+use Rattle.kinds.specs.Numbers.{REGULAR, mostBlocks, fileBlocks, unusedBlock, mostFileBytes}
 use Rattle.kinds.specs.declared.object.Object.{Object}
 use Rattle.spec.specs.Count.{times}
 use Rattle.spec.specs.Edits.{clearBlocks, clearTail, blockNumbers, withSize, resize}
@@ -18,7 +18,7 @@ use Rattle.laws.proofs.Bytes.{lt-or-le}
 use Rattle.laws.proofs.BlockWrites.{clear-blocks, clear-tail}
 use Rattle.laws.proofs.Count.{times-append}
 use Rattle.laws.proofs.FreeCount.{times-take, free-or-used, free-count-set}
-use Rattle.laws.proofs.GoodKept.{good-objects-set, uses-object-set, uses-at}
+use Rattle.laws.proofs.GoodKept.{good-objects-set, uses-object-set}
 use Rattle.laws.proofs.Kept.{Sound, ObjectSet, put-object, kept-trans, kept-object}
 use Rattle.laws.proofs.Range.{Below, below-append, below-take}
 use Rattle.laws.proofs.RecordRange.{objectAt-fits}
@@ -46,32 +46,33 @@ range-below : (m n : ℕ) (xs : List ℕ) → m ≤ n → 0 < n → InRange m xs
 range-below m n xs h p f k =
     ⊎-elim (λ (l : k < length xs). omega (arith, f k l)) (λ (l : length xs ≤ k). rw (List·getD-eq-default xs 0 l) p) (lt-or-le k (length xs))
 
-pub numbers-long : (rs : List ℕ) → length (blockNumbers rs) ≡ 16
+pub numbers-long : (rs : List ℕ) → length (blockNumbers rs) ≡ fileBlocks
 unfolding blockNumbers
 numbers-long rs = simp (length-take, length-append, length-replicate) (omega arith)
 
-pub numbers-held : (rs : List ℕ) (n : ℕ) → length rs ≡ n → n ≤ 16 → take n (blockNumbers rs) ≡ rs
+pub numbers-held : (rs : List ℕ) (n : ℕ) → length rs ≡ n → n ≤ fileBlocks → take n (blockNumbers rs) ≡ rs
 unfolding blockNumbers
-numbers-held rs n l h = take-take n 16 (rs ++ replicate 16 65535) h ∙ take-at rs (replicate 16 65535) n l
+numbers-held rs n l h = take-take n fileBlocks (rs ++ replicate fileBlocks unusedBlock) h ∙ take-at rs (replicate fileBlocks unusedBlock) n l
 
-pub numbers-rest : (rs : List ℕ) (k : ℕ) → length rs ≤ k → k < 16 → getD (blockNumbers rs) k 0 ≡ 65535
+pub numbers-rest : (rs : List ℕ) (k : ℕ) → length rs ≤ k → k < fileBlocks → getD (blockNumbers rs) k 0 ≡ unusedBlock
 unfolding blockNumbers
 numbers-rest rs k l h =
     let j = k - length rs in
     let e : k ≡ length rs + j = omega arith in
-    getD-take 16 (rs ++ replicate 16 65535) k 0 h ∙ ap (λ (i : ℕ). getD (rs ++ replicate 16 65535) i 0) e
-    ∙ getD-append-add rs (replicate 16 65535) j 0 ∙ getD-replicate 16 j 65535 0 (omega arith)
+    getD-take fileBlocks (rs ++ replicate fileBlocks unusedBlock) k 0 h ∙ ap (λ (i : ℕ). getD (rs ++ replicate fileBlocks unusedBlock) i 0) e
+    ∙ getD-append-add rs (replicate fileBlocks unusedBlock) j 0 ∙ getD-replicate fileBlocks j unusedBlock 0 (omega arith)
 
-numbers-fit : (m : ℕ) (rs : List ℕ) → m ≤ 1024 → InRange m rs → Below (2 ^ 16) (blockNumbers rs)
+numbers-fit : (m : ℕ) (rs : List ℕ) → m ≤ mostBlocks → InRange m rs → Below (2 ^ 16) (blockNumbers rs)
 unfolding blockNumbers
 numbers-fit m rs h f =
-    below-take (2 ^ 16) (rs ++ replicate 16 65535) 16 (lit< tt)
-    (below-append (2 ^ 16) rs (replicate 16 65535) (range-below m (2 ^ 16) rs (omega arith) (lit< tt) f) (below-same (2 ^ 16) 16 65535 (lit< tt) (lit< tt)))
+    below-take (2 ^ 16) (rs ++ replicate fileBlocks unusedBlock) fileBlocks (lit< tt)
+    (below-append (2 ^ 16) rs (replicate fileBlocks unusedBlock) (range-below m (2 ^ 16) rs (omega arith) (lit< tt) f)
+    (below-same (2 ^ 16) fileBlocks unusedBlock (lit< tt) (lit< tt)))
 
-module _ (s : Store) (o size : ℕ) (h : Sound s) (l : o < objects s) (v : LiveObject (blocks s) (objectAt s o)) (small : size ≤ 8192)
+module _ (s : Store) (o size : ℕ) (h : Sound s) (l : o < objects s) (v : LiveObject (blocks s) (objectAt s o)) (small : size ≤ mostFileBytes)
     (room : need size - need (sizeOf s o) ≤ freeBlockCount s) where
   -- ---- its blocks
-  old-small : sizeOf s o ≤ 8192
+  old-small : sizeOf s o ≤ mostFileBytes
   unfolding sizeOf
   old-small = live-size (blocks s) (objectAt s o) v
 
@@ -80,9 +81,6 @@ module _ (s : Store) (o size : ℕ) (h : Sound s) (l : o < objects s) (v : LiveO
 
   pub kept-length : length (keptBlocks s o size) ≡ min (need size) (need (sizeOf s o))
   kept-length = rw (length-take (need size) (held s o), old-length)
-
-  pub freed-length : length (freedBlocks s o size) ≡ need (sizeOf s o) - need size
-  freed-length = rw (length-drop (need size) (held s o), old-length)
 
   pub added-length : length (addedBlocks s o size) ≡ need size - need (sizeOf s o)
   added-length = rw (length-take (need size - need (sizeOf s o)) (freeBlocks s), free-length s) (omega arith)
@@ -165,21 +163,10 @@ module _ (s : Store) (o size : ℕ) (h : Sound s) (l : o < objects s) (v : LiveO
   added-free once r k =
       omega (arith, free-or-used s r k (once r k), times-take r (need size - need (sizeOf s o)) (freeBlocks s))
 
-  -- a block that is freed was used once, here
-  pub freed-used : (r : ℕ) → times r (freedBlocks s o size) ≤ uses s r
-  freed-used r =
-      omega (arith, times-take r (need size) (held s o), uses-at s o l r)
-
   pub resize-blocks : BlocksUsedOnce s → BlocksUsedOnce (resize s o size)
   resize-blocks once r k =
       let j : r < blocks s = rw (resize-object .shape .blocks) at k in
       omega (arith, resize-uses r, added-free once r j, once r j)
-
-  pub resize-added : BlocksUsedOnce s → (r : ℕ) → r < blocks s → 0 < times r (addedBlocks s o size) → uses (resize s o size) r ≡ 1
-  resize-added once r k p = omega (arith, resize-uses r, added-free once r k, freed-used r)
-
-  pub resize-freed : BlocksUsedOnce s → (r : ℕ) → r < blocks s → 0 < times r (freedBlocks s o size) → uses (resize s o size) r ≡ 0
-  resize-freed once r k p = omega (arith, resize-uses r, added-free once r k, freed-used r, once r k)
 
   pub resize-other : (r : ℕ) → times r (freedBlocks s o size) ≡ 0 → times r (addedBlocks s o size) ≡ 0 → uses (resize s o size) r ≡ uses s r
   resize-other r a b = omega (arith, resize-uses r)

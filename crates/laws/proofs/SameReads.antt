@@ -4,37 +4,19 @@ use mathlib.Core.Bool.{Bool, _&&_, not}
 use mathlib.Core.Option.{Option, some, none}
 use mathlib.Core.List.{List}
 use Prim.Native.Nat.{ℕ, _<_}
-use lib.Dec.{eqb, ltb}
+use lib.Dec.{eqb}
 use lib.ListN.{take}
 use Rattle.spec.specs.Count.{count, lowest, times}
-use Rattle.spec.specs.Image.{Store, objects, names, blocks, objectAt, Name, nameAt, nameLength}
-use Rattle.spec.specs.Room.{isLive, isRegular, isDirectory, sizeOf, need, held, uses, isFreeBlock, freeBlocks, freeBlockCount, isAvailable}
-use Rattle.spec.specs.Room.{availableCount, availableObject, isUsedName, availableName, freeNameCount, isNaming, namings, isIn, isNamed, findName}
-use Rattle.spec.specs.Room.{subdirectories, directoryOf, parent, above, byteAt}
-use Rattle.laws.proofs.Count.{by-bool, sum-ext, passing-ext, lowest-ext, lowest-passes}
+use Rattle.spec.specs.Image.{Store, objects, names, blocks, objectAt, Name, nameLength}
+use Rattle.spec.specs.Room.{sizeOf, need, held, uses, isFreeBlock, freeBlockCount}
+use Rattle.spec.specs.Room.{isUsedName, isNaming, namings, isIn, isNamed}
+use Rattle.spec.specs.Room.{directoryOf, parent, above, byteAt}
+use Rattle.laws.proofs.Count.{sum-ext, lowest-ext, lowest-passes}
 use Rattle.laws.proofs.Kept.{NameKept}
 use Rattle.laws.proofs.Searches.{count-ext, iterate-ext}
-use Rattle.laws.proofs.Valid.{Used, used-true}
 
 module _ (s t : Store) where
   -- ---- of an object
-  pub isLive-reads : (o : ℕ) → objectAt t o .kind ≡ objectAt s o .kind → isLive t o ≡ isLive s o
-  unfolding isLive
-  isLive-reads o e = ap (λ (k : ℕ). not (eqb k 0)) e
-
-  pub isRegular-reads : (o : ℕ) → objectAt t o .kind ≡ objectAt s o .kind → isRegular t o ≡ isRegular s o
-  unfolding isRegular
-  isRegular-reads o e = ap (λ (k : ℕ). eqb k 1) e
-
-  pub isDirectory-reads : (o : ℕ) → objectAt t o .kind ≡ objectAt s o .kind → isDirectory t o ≡ isDirectory s o
-  unfolding isDirectory
-  isDirectory-reads o e = ap (λ (k : ℕ). eqb k 2) e
-
-  pub isAvailable-reads : (o : ℕ) → objectAt t o .kind ≡ objectAt s o .kind → objectAt t o .generation ≡ objectAt s o .generation
-      → isAvailable t o ≡ isAvailable s o
-  unfolding isAvailable
-  isAvailable-reads o e f = ap₂ (λ (b : Bool) (g : ℕ). not b && ltb g 4294967295) (isLive-reads o e) f
-
   pub sizeOf-reads : (o : ℕ) → objectAt t o .size ≡ objectAt s o .size → sizeOf t o ≡ sizeOf s o
   unfolding sizeOf
   sizeOf-reads o e = e
@@ -74,36 +56,11 @@ module _ (s t : Store) where
   unfolding isFreeBlock
   isFreeBlock-reads r e = ap (λ (k : ℕ). eqb k 0) e
 
-  pub freeBlocks-reads : blocks t ≡ blocks s → ((r : ℕ) → r < blocks s → uses t r ≡ uses s r) → freeBlocks t ≡ freeBlocks s
-  unfolding freeBlocks
-  freeBlocks-reads p f = rw p (passing-ext (isFreeBlock t) (isFreeBlock s) (blocks s) (λ r l. isFreeBlock-reads r (f r l)))
-
   pub freeBlockCount-reads : blocks t ≡ blocks s → ((r : ℕ) → r < blocks s → uses t r ≡ uses s r) → freeBlockCount t ≡ freeBlockCount s
   unfolding freeBlockCount
   freeBlockCount-reads p f = rw p (count-ext (blocks s) (isFreeBlock t) (isFreeBlock s) (λ r l. isFreeBlock-reads r (f r l)))
 
-  -- ---- of all objects
-  module _ (p : objects t ≡ objects s) (f : (o : ℕ) → o < objects s → isAvailable t o ≡ isAvailable s o) where
-    pub availableObject-reads : availableObject t ≡ availableObject s
-    unfolding availableObject
-    availableObject-reads = rw p (lowest-ext (isAvailable t) (isAvailable s) (objects s) f)
-
-    pub availableCount-reads : availableCount t ≡ availableCount s
-    unfolding availableCount
-    availableCount-reads = rw p (count-ext (objects s) (isAvailable t) (isAvailable s) f)
-
   -- ---- of all name records
-  module _ (q : names t ≡ names s) (f : (n : ℕ) → n < names s → nameLength t n ≡ nameLength s n) where
-    pub availableName-reads : availableName t ≡ availableName s
-    unfolding availableName
-    availableName-reads =
-        rw q (lowest-ext (λ n. not (isUsedName t n)) (λ n. not (isUsedName s n)) (names s) (λ n l. ap not (isUsedName-reads n (f n l))))
-
-    pub freeNameCount-reads : freeNameCount t ≡ freeNameCount s
-    unfolding freeNameCount
-    freeNameCount-reads =
-        rw q (count-ext (names s) (λ n. not (isUsedName t n)) (λ n. not (isUsedName s n)) (λ n l. ap not (isUsedName-reads n (f n l))))
-
   module _ (q : names t ≡ names s) (f : (n : ℕ) → n < names s → NameKept s t n) where
     pub namings-reads : (o : ℕ) → namings t o ≡ namings s o
     unfolding namings
@@ -111,10 +68,6 @@ module _ (s t : Store) where
 
     pub entries-reads : (d : ℕ) (text : List ℕ) → count (names t) (isNamed t d text) ≡ count (names s) (isNamed s d text)
     entries-reads d text = rw q (count-ext (names s) (isNamed t d text) (isNamed s d text) (λ n l. isNamed-reads d text n (f n l)))
-
-    pub findName-reads : (d : ℕ) (text : List ℕ) → findName t d text ≡ findName s d text
-    unfolding findName
-    findName-reads d text = rw q (lowest-ext (isNamed t d text) (isNamed s d text) (names s) (λ n l. isNamed-reads d text n (f n l)))
 
     directoryOf-reads : (x : Option ℕ) → ((n : ℕ) → x ≡ some n → n < names s) → directoryOf t x ≡ directoryOf s x
     directoryOf-reads none g = refl
@@ -129,14 +82,3 @@ module _ (s t : Store) where
     pub above-reads : (k o : ℕ) → above t k o ≡ above s k o
     unfolding above
     above-reads k o = iterate-ext k (parent t) (parent s) o parent-reads
-
-    -- the directories in a directory; of the objects, only the types of those that are named
-    pub subdirectories-reads : ((n : ℕ) → n < names s → Used s n → objectAt t (nameAt s n .child) .kind ≡ objectAt s (nameAt s n .child) .kind)
-        → (d : ℕ) → subdirectories t d ≡ subdirectories s d
-    unfolding subdirectories isIn
-    subdirectories-reads g d =
-        rw q (count-ext (names s) (λ n. isIn t d n && isDirectory t (nameAt t n .child)) (λ n. isIn s d n && isDirectory s (nameAt s n .child)) (λ n l.
-        rw (isIn-reads d n (f n l), f n l .all)
-        (by-bool (isUsedName s n)
-        (λ u. rw (isDirectory-reads (nameAt s n .child) (g n l (used-true s n u))))
-        (λ u. rw u))))

@@ -8,6 +8,7 @@ use Prim.Native.Nat.{ℕ, _≤_, _<_}
 use lib.Dec.{ltb}
 use lib.ListN.{length}
 use borrow.Author.Tests.{ltb-false, ltb-true}
+use Rattle.kinds.specs.Numbers.{leastReplyBytes, mostCallBytes, nanosecondsEnd}
 use Rattle.kinds.specs.Reading.{Read, got, bad}
 use Rattle.kinds.specs.declared.object.Context.{Context}
 use Rattle.kinds.specs.declared.call.CallHeader.{CallHeader}
@@ -28,9 +29,9 @@ use Rattle.laws.proofs.Error.{statusOf, NotDone, act-kept, status-word}
 
 -- a procedure ran: every test before it passed
 pub record Ran (call : List ℕ) (s : Store) (space : List ℕ) (c : Context) : Type 0 where
-  pub space-long : 4224 ≤ length space
-  pub clock-valid : c .clock .nanoseconds < 1000000000
-  pub call-short : length call ≤ 8192
+  pub space-long : leastReplyBytes ≤ length space
+  pub clock-valid : c .clock .nanoseconds < nanosecondsEnd
+  pub call-short : length call ≤ mostCallBytes
   pub store-passes : passes s ≡ true
   pub head : CallHeader
   pub at : ℕ
@@ -43,12 +44,13 @@ pub record Ran (call : List ℕ) (s : Store) (space : List ℕ) (c : Context) : 
 
 module _ (call : List ℕ) (s : Store) (space : List ℕ) (c : Context) where
   -- the tests before the header
-  after-tests : ltb (length space) 4224 ≡ false → goodTime (c .clock) ≡ true → ltb 8192 (length call) ≡ false → passes s ≡ true
+  after-tests : ltb (length space) leastReplyBytes ≡ false → goodTime (c .clock) ≡ true → ltb mostCallBytes (length call) ≡ false → passes s ≡ true
       → serve call s space c ≡ outcome space s (complete s c call (header call 0))
   unfolding serve
   after-tests a b d e = rw (a, b, d, e)
 
-  module _ (a : ltb (length space) 4224 ≡ false) (b : goodTime (c .clock) ≡ true) (d : ltb 8192 (length call) ≡ false) (e : passes s ≡ true) where
+  module _ (a : ltb (length space) leastReplyBytes ≡ false) (b : goodTime (c .clock) ≡ true)
+      (d : ltb mostCallBytes (length call) ≡ false) (e : passes s ≡ true) where
     by-arguments : (h : CallHeader) (at : ℕ) → header call 0 ≡ got (Header.Call h) at → judge nfs h ≡ passed tt
         → (r : Read Arguments) → arguments (h .procedure) call at ≡ r → (serve call s space c .store ≡ s) ⊎ Ran call s space c
     unfolding goodTime
@@ -57,9 +59,9 @@ module _ (call : List ℕ) (s : Store) (space : List ℕ) (c : Context) where
         _⊎_.inl (ap (λ (o : Outcome). o .store) w)
     by-arguments h at q j (got asked next) f =
         _⊎_.inr (record {
-          space-long = ltb-false (length space) 4224 a;
-          clock-valid = ltb-true (c .clock .nanoseconds) 1000000000 b;
-          call-short = ltb-false 8192 (length call) d;
+          space-long = ltb-false (length space) leastReplyBytes a;
+          clock-valid = ltb-true (c .clock .nanoseconds) nanosecondsEnd b;
+          call-short = ltb-false mostCallBytes (length call) d;
           store-passes = e;
           head = h;
           at = at;
@@ -91,10 +93,10 @@ module _ (call : List ℕ) (s : Store) (space : List ℕ) (c : Context) where
   pub serve-ran : (serve call s space c .store ≡ s) ⊎ Ran call s space c
   unfolding serve
   serve-ran =
-      by-bool (ltb (length space) 4224)
+      by-bool (ltb (length space) leastReplyBytes)
       (λ a. _⊎_.inl (rw a))
       (λ a. by-bool (goodTime (c .clock))
-      (λ b. by-bool (ltb 8192 (length call))
+      (λ b. by-bool (ltb mostCallBytes (length call))
       (λ d. _⊎_.inl (rw (a, b, d)))
       (λ d. by-bool (passes s)
       (λ e. by-header a b d e (header call 0) refl)

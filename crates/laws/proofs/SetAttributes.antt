@@ -6,7 +6,8 @@ use Prim.Native.Nat.{ℕ, _^_, _≤_, _<_}
 use native.Mathlib.Omega.{arith}
 use lib.Dec.{ltb, lit<, lit≤}
 use borrow.Author.Tests.{ltb-false, leb-false}
-use Rattle.kinds.specs.Numbers.{REGULAR, DIRECTORY}
+use Rattle.kinds.specs.Numbers.{REGULAR, DIRECTORY, nanosecondsEnd, mostFileBytes, mostMode}
+use Rattle.kinds.specs.Objects.{plainObject}
 use Rattle.kinds.specs.declared.object.Time.{Time}
 use Rattle.kinds.specs.declared.object.Object.{Object}
 use Rattle.kinds.specs.declared.call.SetNumber.{SetNumber}
@@ -22,7 +23,7 @@ use Rattle.spec.specs.Procedures.Attributes.{isGiven, sizeSet, numberOver, badT
 use Rattle.spec.specs.Procedures.Names.{newObject}
 use Rattle.laws.proofs.GoodKept.{good-objects-set}
 use Rattle.laws.proofs.Kept.{Sound, ObjectSet, put-object}
-use Rattle.laws.proofs.PlainObject.{plainObject, plain-fits, plain-live}
+use Rattle.laws.proofs.PlainObject.{plain-fits, plain-live}
 use Rattle.laws.proofs.RecordRange.{objectAt-fits}
 use Rattle.laws.proofs.Records.{FitsTime, FitsObject}
 use Rattle.laws.proofs.Structure.{SameStructure, set-structure}
@@ -102,43 +103,43 @@ size-touches-fits a f =
 -- ---- attributes that the check of a store allows
 abbrev pub AllowedMode : SetNumber → Type 0
 AllowedMode SetNumber.Keep = Unit {0}
-AllowedMode (SetNumber.To n) = n ≤ 4095
+AllowedMode (SetNumber.To n) = n ≤ mostMode
 
 abbrev pub AllowedTime : SetTime → Type 0
 AllowedTime SetTime.Keep = Unit {0}
 AllowedTime SetTime.ToServer = Unit {0}
-AllowedTime (SetTime.ToClient t) = t .nanoseconds < 1000000000
+AllowedTime (SetTime.ToClient t) = t .nanoseconds < nanosecondsEnd
 
 pub record Allowed (a : Settable) : Type 0 where
   pub mode : AllowedMode (a .mode)
   pub atime : AllowedTime (a .atime)
   pub mtime : AllowedTime (a .mtime)
-  pub size : sizeSet (a .size) 0 ≤ 8192
+  pub size : sizeSet (a .size) 0 ≤ mostFileBytes
 
-allowed-mode : (x : SetNumber) → numberOver 4095 x ≡ false → AllowedMode x
+allowed-mode : (x : SetNumber) → numberOver mostMode x ≡ false → AllowedMode x
 allowed-mode SetNumber.Keep e = tt
-allowed-mode (SetNumber.To n) e = ltb-false 4095 n e
+allowed-mode (SetNumber.To n) e = ltb-false mostMode n e
 
 allowed-time : (x : SetTime) → badTime x ≡ false → AllowedTime x
 allowed-time SetTime.Keep e = tt
 allowed-time SetTime.ToServer e = tt
-allowed-time (SetTime.ToClient t) e = leb-false 1000000000 (t .nanoseconds) e
+allowed-time (SetTime.ToClient t) e = leb-false nanosecondsEnd (t .nanoseconds) e
 
 -- "INVAL for mode over 4,095, client nanoseconds of 1,000,000,000 or more, .. size over 8,192": what passes that test
 pub allowed : (a : Settable) → badAttributes a ≡ false → Allowed a
 unfolding badAttributes
 allowed a e =
-    let m = numberOver 4095 (a .mode) in
+    let m = numberOver mostMode (a .mode) in
     let x = badTime (a .atime) in
     let y = badTime (a .mtime) in
-    let b = or-none (m || x || y) (ltb 8192 (sizeSet (a .size) 0)) e in
+    let b = or-none (m || x || y) (ltb mostFileBytes (sizeSet (a .size) 0)) e in
     let c = or-none (m || x) y (b .0) in
     let d = or-none m x (c .0) in
     record {
       mode = allowed-mode (a .mode) (d .0);
       atime = allowed-time (a .atime) (d .1);
       mtime = allowed-time (a .mtime) (c .1);
-      size = ltb-false 8192 (sizeSet (a .size) 0) (b .1);
+      size = ltb-false mostFileBytes (sizeSet (a .size) 0) (b .1);
     }
 
 pub only-ctime-allowed : Allowed onlyCtime
@@ -152,18 +153,18 @@ unfolding sizeTouches
 size-touches-allowed a f =
     record { mode = f .mode; atime = f .atime; mtime = server-keeps (λ x. AllowedTime x) (isGiven (a .size)) (a .mtime) tt (f .mtime); size = f .size }
 
-mode-allowed : (x : SetNumber) (old : ℕ) → AllowedMode x → old ≤ 4095 → numberSet x old ≤ 4095
+mode-allowed : (x : SetNumber) (old : ℕ) → AllowedMode x → old ≤ mostMode → numberSet x old ≤ mostMode
 mode-allowed SetNumber.Keep old f h = h
 mode-allowed (SetNumber.To n) old f h = f
 
-time-allowed : (clock : Time) (x : SetTime) (old : Time) → clock .nanoseconds < 1000000000 → AllowedTime x → old .nanoseconds < 1000000000
-    → timeSet clock x old .nanoseconds < 1000000000
+time-allowed : (clock : Time) (x : SetTime) (old : Time) → clock .nanoseconds < nanosecondsEnd → AllowedTime x → old .nanoseconds < nanosecondsEnd
+    → timeSet clock x old .nanoseconds < nanosecondsEnd
 time-allowed clock SetTime.Keep old c f h = h
 time-allowed clock SetTime.ToServer old c f h = c
 time-allowed clock (SetTime.ToClient t) old c f h = f
 
 -- a live object stays as the check demands
-pub attributes-live : (r : ℕ) (clock : Time) (a : Settable) (v : Object) → clock .nanoseconds < 1000000000 → Allowed a
+pub attributes-live : (r : ℕ) (clock : Time) (a : Settable) (v : Object) → clock .nanoseconds < nanosecondsEnd → Allowed a
     → LiveObject r v → LiveObject r (withAttributes clock a v)
 unfolding withAttributes
 attributes-live r clock a v c f h =
@@ -193,7 +194,7 @@ module _ (s : Store) (clock : Time) (o : ℕ) (a : Settable) (h : Sound s) (l : 
   unfolding setAttributes
   set-attributes-data = object-written s o (withAttributes clock a (objectAt s o)) (omega (arith, h .shaped)) l .blocks
 
-  pub set-attributes-good : FitsTime clock → FitsSettable a → clock .nanoseconds < 1000000000 → Allowed a → LiveObject (blocks s) (objectAt s o)
+  pub set-attributes-good : FitsTime clock → FitsSettable a → clock .nanoseconds < nanosecondsEnd → Allowed a → LiveObject (blocks s) (objectAt s o)
       → GoodObjects s → GoodObjects (setAttributes s clock o a)
   set-attributes-good c f n g v =
       let e = set-attributes c f in
@@ -205,7 +206,7 @@ pub new-fits : (clock : Time) (kind : ℕ) (a : Settable) → FitsTime clock →
 unfolding newObject
 new-fits clock kind a c k f = attributes-fit clock a (plainObject kind 0 clock) c f (plain-fits kind 0 clock k (lit< tt) c)
 
-pub new-live : (r : ℕ) (clock : Time) (kind : ℕ) (a : Settable) → clock .nanoseconds < 1000000000 → Allowed a → (kind ≡ REGULAR) ⊎ (kind ≡ DIRECTORY)
+pub new-live : (r : ℕ) (clock : Time) (kind : ℕ) (a : Settable) → clock .nanoseconds < nanosecondsEnd → Allowed a → (kind ≡ REGULAR) ⊎ (kind ≡ DIRECTORY)
     → LiveObject r (newObject clock kind a)
 unfolding newObject
 new-live r clock kind a c f k = attributes-live r clock a (plainObject kind 0 clock) c f (plain-live r kind 0 clock k (lit≤ tt) c)

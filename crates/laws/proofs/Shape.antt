@@ -5,7 +5,8 @@ use mathlib.Core.List.{List}
 use Prim.Native.Nat.{ℕ, _+_, _≤_}
 use native.Mathlib.Omega.{arith}
 use lib.ListN.{length}
-use Rattle.spec.specs.Bytes.{overlay, beAt}
+use Rattle.kinds.specs.Layout.{objectsHead}
+use Rattle.spec.specs.Bytes.{overlay}
 use Rattle.spec.specs.Image.{Store, volumes, stamp, objects, names, blocks, objectStart, nameStart}
 use Rattle.laws.proofs.Bytes.{overlay-length}
 use Rattle.laws.proofs.Apart.{Apart, be-apart}
@@ -34,7 +35,7 @@ same-trans a b c p q =
     }
 
 -- a write behind the count of objects, and apart from the counts of names and of blocks
-module _ (s : Store) (at : ℕ) (xs : List ℕ) (h : at + length xs ≤ length s) (l : 12 ≤ at) (n : Apart at (length xs) (objectStart (objects s)) 4) where
+module _ (s : Store) (at : ℕ) (xs : List ℕ) (h : at + length xs ≤ length s) (l : objectsHead ≤ at) (n : Apart at (length xs) (objectStart (objects s)) 4) where
   names-apart : names (overlay s at xs) ≡ names s
   unfolding names
   names-apart = rw (objects-apart s at xs h l) (be-apart s at xs h (objectStart (objects s)) 4 n)

@@ -1,19 +1,18 @@
 -- Edits that leave names, types and generations as they were, and those that leave sizes and blocks too. Assumes nothing.
 use mathlib.Core.Path.{_≡_, ap, _∙_}
 use mathlib.Core.Logic.{by-cases}
-use mathlib.Core.List.{List}
 use Prim.Native.Nat.{ℕ, _<_}
 use native.Mathlib.Decide.{ℕ-discrete}
 use Rattle.kinds.specs.declared.object.Object.{Object}
 use Rattle.spec.specs.Image.{Store, objects, names, blocks, objectAt, nameAt}
-use Rattle.spec.specs.Room.{isLive, isRegular, isDirectory, sizeOf, held, uses, isFreeBlock, freeBlocks, freeBlockCount, isAvailable, availableCount}
-use Rattle.spec.specs.Room.{availableObject, isUsedName, availableName, freeNameCount, namings, findName, subdirectories, parent, above, byteAt}
-use Rattle.laws.proofs.GoodKept.{good-names-kept, used-of}
+use Rattle.spec.specs.Room.{sizeOf, held, uses, freeBlockCount}
+use Rattle.spec.specs.Room.{namings, parent, above, byteAt}
+use Rattle.laws.proofs.GoodKept.{good-names-kept}
 use Rattle.laws.proofs.Kept.{NameKept, RecordsKept, ObjectSet}
-use Rattle.laws.proofs.SameReads.{isLive-reads, isRegular-reads, isDirectory-reads, isAvailable-reads, sizeOf-reads, held-reads, byteAt-reads}
-use Rattle.laws.proofs.SameReads.{isUsedName-reads, uses-reads, isFreeBlock-reads, freeBlocks-reads, freeBlockCount-reads}
-use Rattle.laws.proofs.SameReads.{availableObject-reads, availableCount-reads, availableName-reads, freeNameCount-reads, namings-reads}
-use Rattle.laws.proofs.SameReads.{entries-reads, findName-reads, subdirectories-reads, parent-reads, above-reads}
+use Rattle.laws.proofs.SameReads.{sizeOf-reads, held-reads, byteAt-reads}
+use Rattle.laws.proofs.SameReads.{uses-reads, freeBlockCount-reads}
+use Rattle.laws.proofs.SameReads.{namings-reads}
+use Rattle.laws.proofs.SameReads.{entries-reads, parent-reads, above-reads}
 use Rattle.laws.proofs.Shape.{SameShape}
 use Rattle.laws.proofs.Valid.{Live, GoodNames, DistinctNames, NamedOnce, BlocksUsedOnce, LeadsToRoot}
 
@@ -72,52 +71,15 @@ kept-structure s t e =
     }
 
 module _ (s t : Store) (e : SameTree s t) where
-  -- ---- an object
-  pub isLive-same : (o : ℕ) → o < objects s → isLive t o ≡ isLive s o
-  isLive-same o l = isLive-reads s t o (e .kind o l)
-
-  pub isRegular-same : (o : ℕ) → o < objects s → isRegular t o ≡ isRegular s o
-  isRegular-same o l = isRegular-reads s t o (e .kind o l)
-
-  pub isDirectory-same : (o : ℕ) → o < objects s → isDirectory t o ≡ isDirectory s o
-  isDirectory-same o l = isDirectory-reads s t o (e .kind o l)
-
-  pub isAvailable-same : (o : ℕ) → o < objects s → isAvailable t o ≡ isAvailable s o
-  isAvailable-same o l = isAvailable-reads s t o (e .kind o l) (e .generation o l)
-
-  -- ---- free records
-  pub availableObject-same : availableObject t ≡ availableObject s
-  availableObject-same = availableObject-reads s t (e .shape .objects) isAvailable-same
-
-  pub availableCount-same : availableCount t ≡ availableCount s
-  availableCount-same = availableCount-reads s t (e .shape .objects) isAvailable-same
-
-  pub availableName-same : availableName t ≡ availableName s
-  availableName-same = availableName-reads s t (e .shape .names) (λ n l. e .name n l .long)
-
-  pub freeNameCount-same : freeNameCount t ≡ freeNameCount s
-  freeNameCount-same = freeNameCount-reads s t (e .shape .names) (λ n l. e .name n l .long)
-
   -- ---- names
-  pub isUsedName-same : (n : ℕ) → n < names s → isUsedName t n ≡ isUsedName s n
-  isUsedName-same n l = isUsedName-reads s t n (e .name n l .long)
-
   pub namings-same : (o : ℕ) → namings t o ≡ namings s o
   namings-same = namings-reads s t (e .shape .names) (e .name)
-
-  pub findName-same : (d : ℕ) (text : List ℕ) → findName t d text ≡ findName s d text
-  findName-same = findName-reads s t (e .shape .names) (e .name)
 
   pub parent-same : (o : ℕ) → parent t o ≡ parent s o
   parent-same = parent-reads s t (e .shape .names) (e .name)
 
   pub above-same : (k o : ℕ) → above t k o ≡ above s k o
   above-same = above-reads s t (e .shape .names) (e .name)
-
-  -- where every used name names an object in range
-  pub subdirectories-same : GoodNames s → (d : ℕ) → subdirectories t d ≡ subdirectories s d
-  subdirectories-same g =
-      subdirectories-reads s t (e .shape .names) (e .name) (λ n l u. e .kind (nameAt s n .child) (used-of s n u (g n l) .child))
 
   -- ---- the demands of the check on names
   live-before : (o : ℕ) → o < objects t → Live t o → Live s o
@@ -155,12 +117,6 @@ module _ (s t : Store) (e : SameStructure s t) where
   -- ---- blocks
   pub uses-same : (r : ℕ) → uses t r ≡ uses s r
   uses-same = uses-reads s t (e .tree .shape .objects) held-same
-
-  pub isFreeBlock-same : (r : ℕ) → isFreeBlock t r ≡ isFreeBlock s r
-  isFreeBlock-same r = isFreeBlock-reads s t r (uses-same r)
-
-  pub freeBlocks-same : freeBlocks t ≡ freeBlocks s
-  freeBlocks-same = freeBlocks-reads s t (e .tree .shape .blocks) (λ r _. uses-same r)
 
   pub freeBlockCount-same : freeBlockCount t ≡ freeBlockCount s
   freeBlockCount-same = freeBlockCount-reads s t (e .tree .shape .blocks) (λ r _. uses-same r)

@@ -2,21 +2,18 @@
 use mathlib.Core.Path.{_≡_, refl, sym, ap, _∙_}
 use mathlib.Core.Logic.{_≢_, by-cases}
 use mathlib.Core.Bool.{Bool, true}
-use mathlib.Core.List.{List}
 use Prim.Native.Nat.{ℕ, zero, suc, _+_, _≤_, _<_}
 use native.Mathlib.Omega.{arith}
 use native.Mathlib.Decide.{ℕ-discrete}
 use lib.Dec.{eqb}
-use lib.ListN.{length}
 use borrow.Author.Tests.{eq-eqb}
 use Rattle.spec.specs.Count.{bit, sum, count}
-use Rattle.spec.specs.Image.{Store, names, nameAt, nameLength}
-use Rattle.spec.specs.Room.{isUsedName, isNaming, namings, isIn, isNamed}
-use Rattle.laws.proofs.Bytes.{same-yes}
+use Rattle.spec.specs.Image.{Store, names, nameAt}
+use Rattle.spec.specs.Room.{isUsedName, isNaming, namings}
 use Rattle.laws.proofs.Count.{sum-at}
 use Rattle.laws.proofs.GoodKept.{used-of}
 use Rattle.laws.proofs.Tests.{and-true}
-use Rattle.laws.proofs.Valid.{Used, NamedOnce, DistinctNames, GoodNames, true-used}
+use Rattle.laws.proofs.Valid.{Used, NamedOnce, GoodNames, true-used}
 
 -- two terms are at most the sum
 pub sum-two : (n i j : ℕ) (f : ℕ → ℕ) → i < n → j < n → i ≢ j → f i + f j ≤ sum n f
@@ -41,12 +38,6 @@ naming-true : (s : Store) (o n : ℕ) → Used s n → nameAt s n .child ≡ o �
 unfolding isNaming
 naming-true s o n u e = and-true (isUsedName s n) (eqb (nameAt s n .child) o) (true-used s n u) (eq-eqb (nameAt s n .child) o e)
 
-named-true : (s : Store) (d : ℕ) (text : List ℕ) (n : ℕ) → Used s n → nameAt s n .directory ≡ d → nameAt s n .text ≡ text → length text ≡ nameLength s n
-    → isNamed s d text n ≡ true
-unfolding isNamed isIn
-named-true s d text n u e f g =
-    rw (true-used s n u, eq-eqb (nameAt s n .directory) d e, eq-eqb (nameLength s n) (length text) (sym g), same-yes (nameAt s n .text) text f)
-
 module _ (s : Store) (g : GoodNames s) where
   -- a used record of an object is the only one
   pub one-naming : NamedOnce s → (n m : ℕ) → n < names s → m < names s → Used s n → Used s m → nameAt s n .child ≡ nameAt s m .child → n ≡ m
@@ -57,21 +48,3 @@ module _ (s : Store) (g : GoodNames s) where
       one-passes (names s) (isNaming s o) n m
       (by-cases (ℕ-discrete o 0) (λ z. rw z (omega (arith, h .root))) (λ z. h .few o (v .child) z (v .child-live)))
       a b (naming-true s o n u refl) (naming-true s o m w (sym e))
-
-  -- the root has no name
-  pub child-not-root : NamedOnce s → (n : ℕ) → n < names s → Used s n → nameAt s n .child ≢ 0
-  unfolding namings
-  child-not-root h n a u e =
-      omega (arith, sum-at (names s) n (λ k. bit (isNaming s 0 k)) a, ap bit (naming-true s 0 n u e), h .root)
-
-  -- a used record with a directory and a name is the only one
-  pub one-named : DistinctNames s → (n m : ℕ) → n < names s → m < names s → Used s n → Used s m
-      → nameAt s n .directory ≡ nameAt s m .directory → nameAt s n .text ≡ nameAt s m .text → n ≡ m
-  one-named h n m a b u w e f =
-      let d = nameAt s n .directory in
-      let text = nameAt s n .text in
-      let v = used-of s n u (g n a) in
-      let x = used-of s m w (g m b) in
-      one-passes (names s) (isNamed s d text) n m (omega (arith, h n a u)) a b
-      (named-true s d text n u refl refl (v .exact))
-      (named-true s d text m w (sym e) (sym f) (ap length f ∙ x .exact))

@@ -3,14 +3,18 @@ use mathlib.Core.Path.{_≡_, refl, sym, ap, _∙_}
 use mathlib.Core.Logic.{_≢_, _⊎_, ⊎-elim}
 use mathlib.Core.Bool.{Bool, true, false, _&&_, not}
 use mathlib.Core.List.{List, [], _∷_}
-use Prim.Native.Nat.{ℕ, zero, suc, _+_, _-_, _≤_, _<_}
+use Prim.Native.Nat.{ℕ, zero, suc, _+_, _-_, _*_, _≤_, _<_}
 use native.Mathlib.Omega.{arith}
 use native.Mathlib.Nat.{add-zero}
 use lib.Dec.{eqb, leb, ltb, lit≤}
 use lib.ListN.{length, getD, length-take, length-drop}
 use borrow.Author.Tests.{ltb-true, ltb-false, leb-true, eqb-true, eqb-false, lt-ltb, le-ltb, le-leb, eq-eqb, ne-eqb, not-true}
 use Rattle.kinds.specs.Layout.{modeOffset, objectLength, nameRecordLength}
+use Rattle.kinds.specs.Layout.{generationOffset, uidOffset, gidOffset, sizeOffset, atimeOffset, mtimeOffset, ctimeOffset}
+use Rattle.kinds.specs.Layout.{blocksOffset, nanosecondsOffset, textOffset}
 use Rattle.kinds.specs.Numbers.{REGULAR, DIRECTORY}
+use Rattle.kinds.specs.Numbers.{nanosecondsEnd, mostObjects, mostNameRecords, mostBlocks, fileBlocks, unusedBlock, mostFileBytes}
+use Rattle.kinds.specs.Numbers.{spentGeneration, mostMode, mostNameBytes}
 use Rattle.kinds.specs.Objects.{freeObject}
 use Rattle.kinds.specs.declared.object.Object.{Object}
 use Rattle.spec.specs.Bytes.{part, beAt, zeros, sameBytes, allBytes}
@@ -34,26 +38,26 @@ use Rattle.laws.proofs.Zeros.{isZero-zeros, zeros-isZero, zero-within, 
 pub record Shaped (s : Store) : Type 0 where
   pub volume : volumes s ≡ 1
   pub some-object : 1 ≤ objects s
-  pub few-objects : objects s ≤ 64
-  pub few-names : names s ≤ 128
-  pub few-blocks : blocks s ≤ 1024
+  pub few-objects : objects s ≤ mostObjects
+  pub few-names : names s ≤ mostNameRecords
+  pub few-blocks : blocks s ≤ mostBlocks
   pub exact : length s ≡ imageLength (objects s) (names s) (blocks s)
 
 -- "a file's size at most 8,192"; "a directory's size 0 with no blocks"
 abbrev pub GoodSize : Object → Type 0
-GoodSize v = ((v .kind ≡ REGULAR) × (v .size ≤ 8192)) ⊎ ((v .kind ≡ DIRECTORY) × (v .size ≡ 0))
+GoodSize v = ((v .kind ≡ REGULAR) × (v .size ≤ mostFileBytes)) ⊎ ((v .kind ≡ DIRECTORY) × (v .size ≡ 0))
 
 -- a live object's record, in a store with r blocks
 pub record LiveObject (r : ℕ) (v : Object) : Type 0 where
-  pub generation : v .generation < 4294967295
-  pub mode : v .mode ≤ 4095
-  pub atime : v .atime .nanoseconds < 1000000000
-  pub mtime : v .mtime .nanoseconds < 1000000000
-  pub ctime : v .ctime .nanoseconds < 1000000000
+  pub generation : v .generation < spentGeneration
+  pub mode : v .mode ≤ mostMode
+  pub atime : v .atime .nanoseconds < nanosecondsEnd
+  pub mtime : v .mtime .nanoseconds < nanosecondsEnd
+  pub ctime : v .ctime .nanoseconds < nanosecondsEnd
   pub size : GoodSize v
   -- "its first ceil(size/512) block numbers in range and the rest 65535"
   pub held : (k : ℕ) → k < need (v .size) → getD (v .blocks) k 0 < r
-  pub rest : (k : ℕ) → need (v .size) ≤ k → k < 16 → getD (v .blocks) k 0 ≡ 65535
+  pub rest : (k : ℕ) → need (v .size) ≤ k → k < fileBlocks → getD (v .blocks) k 0 ≡ unusedBlock
 
 -- "a free object zero but for its generation"
 abbrev pub FreeObject : Object → Type 0
@@ -75,18 +79,18 @@ Used s n = 0 < nameLength s n
 -- "names 1 to 32 bytes, .. without 0 or 0x2F, not "." or "..""
 pub record GoodName (text : List ℕ) : Type 0 where
   pub some-byte : 1 ≤ length text
-  pub short : length text ≤ 32
+  pub short : length text ≤ mostNameBytes
   pub bytes : (k : ℕ) → k < length text → (getD text k 0 ≢ 0) × (getD text k 0 ≢ 0x2F)
   pub no-dot : text ≢ 0x2E ∷ []
   pub no-dots : text ≢ 0x2E ∷ 0x2E ∷ []
 
 -- the bytes of a name record behind its name are zero
 abbrev pub Padded : Store → ℕ → Type 0
-Padded s n = part s (nameStart s n + 12 + nameLength s n) (32 - nameLength s n) ≡ zeros (32 - nameLength s n)
+Padded s n = part s (nameStart s n + textOffset + nameLength s n) (mostNameBytes - nameLength s n) ≡ zeros (mostNameBytes - nameLength s n)
 
 -- "used names .., zero-padded, .. each joining a live directory to a live object"
 pub record UsedName (s : Store) (n : ℕ) : Type 0 where
-  pub short : nameLength s n ≤ 32
+  pub short : nameLength s n ≤ mostNameBytes
   pub exact : length (nameAt s n .text) ≡ nameLength s n
   pub good : GoodName (nameAt s n .text)
   pub padded : Padded s n
@@ -193,23 +197,24 @@ shaped s e =
     let p = objects s in
     let q = names s in
     let r = blocks s in
-    let a = and-both (eqb (volumes s) 1 && (leb 1 p && leb p 64 && leb q 128 && leb r 1024)) (eqb (length s) (imageLength p q r)) e in
-    let b = and-both (eqb (volumes s) 1) (leb 1 p && leb p 64 && leb q 128 && leb r 1024) (a .0) in
-    let c = and-both (leb 1 p && leb p 64 && leb q 128) (leb r 1024) (b .1) in
-    let d = and-both (leb 1 p && leb p 64) (leb q 128) (c .0) in
-    let f = and-both (leb 1 p) (leb p 64) (d .0) in
+    let a = and-both (eqb (volumes s) 1 && (leb 1 p && leb p mostObjects && leb q mostNameRecords && leb r mostBlocks))
+    (eqb (length s) (imageLength p q r)) e in
+    let b = and-both (eqb (volumes s) 1) (leb 1 p && leb p mostObjects && leb q mostNameRecords && leb r mostBlocks) (a .0) in
+    let c = and-both (leb 1 p && leb p mostObjects && leb q mostNameRecords) (leb r mostBlocks) (b .1) in
+    let d = and-both (leb 1 p && leb p mostObjects) (leb q mostNameRecords) (c .0) in
+    let f = and-both (leb 1 p) (leb p mostObjects) (d .0) in
     record {
       volume = eqb-true (volumes s) 1 (b .0);
       some-object = leb-true 1 p (f .0);
-      few-objects = leb-true p 64 (f .1);
-      few-names = leb-true q 128 (d .1);
-      few-blocks = leb-true r 1024 (c .1);
+      few-objects = leb-true p mostObjects (f .1);
+      few-names = leb-true q mostNameRecords (d .1);
+      few-blocks = leb-true r mostBlocks (c .1);
       exact = eqb-true (length s) (imageLength p q r) (a .1);
     }
 
-pub counts-true : (p q r : ℕ) → 1 ≤ p → p ≤ 64 → q ≤ 128 → r ≤ 1024 → goodCounts p q r ≡ true
+pub counts-true : (p q r : ℕ) → 1 ≤ p → p ≤ mostObjects → q ≤ mostNameRecords → r ≤ mostBlocks → goodCounts p q r ≡ true
 unfolding goodCounts
-counts-true p q r a b c d = rw (le-leb 1 p a, le-leb p 64 b, le-leb q 128 c, le-leb r 1024 d)
+counts-true p q r a b c d = rw (le-leb 1 p a, le-leb p mostObjects b, le-leb q mostNameRecords c, le-leb r mostBlocks d)
 
 pub shape-true : (s : Store) → Shaped s → goodShape s ≡ true
 unfolding goodShape
@@ -223,25 +228,25 @@ shape-true s h =
 -- ---- OBJECTS
 
 -- "a file's size at most 8,192", and so at most 16 blocks
-pub live-size : (r : ℕ) (v : Object) → LiveObject r v → v .size ≤ 8192
+pub live-size : (r : ℕ) (v : Object) → LiveObject r v → v .size ≤ mostFileBytes
 live-size r v h = ⊎-elim (λ a. a .1) (λ a. omega (arith, a .1)) (h .size)
 
-pub need-few : (size : ℕ) → size ≤ 8192 → need size ≤ 16
+pub need-few : (size : ℕ) → size ≤ mostFileBytes → need size ≤ fileBlocks
 need-few size h = omega arith
 
 size-good : (v : Object) → goodSize v ≡ true → GoodSize v
 unfolding goodSize
 size-good v e =
     ⊎-elim
-    (λ (a : eqb (v .kind) 1 && leb (v .size) 8192 ≡ true). let p = and-both (eqb (v .kind) 1) (leb (v .size) 8192) a in
-    _⊎_.inl (eqb-true (v .kind) 1 (p .0), leb-true (v .size) 8192 (p .1)))
+    (λ (a : eqb (v .kind) 1 && leb (v .size) mostFileBytes ≡ true). let p = and-both (eqb (v .kind) 1) (leb (v .size) mostFileBytes) a in
+    _⊎_.inl (eqb-true (v .kind) 1 (p .0), leb-true (v .size) mostFileBytes (p .1)))
     (λ (a : eqb (v .kind) 2 && eqb (v .size) 0 ≡ true). let p = and-both (eqb (v .kind) 2) (eqb (v .size) 0) a in
     _⊎_.inr (eqb-true (v .kind) 2 (p .0), eqb-true (v .size) 0 (p .1)))
-    (or-one (eqb (v .kind) 1 && leb (v .size) 8192) (eqb (v .kind) 2 && eqb (v .size) 0) e)
+    (or-one (eqb (v .kind) 1 && leb (v .size) mostFileBytes) (eqb (v .kind) 2 && eqb (v .size) 0) e)
 
 good-size : (v : Object) → GoodSize v → goodSize v ≡ true
 unfolding goodSize
-good-size v (_⊎_.inl a) = rw (eq-eqb (v .kind) 1 (a .0), le-leb (v .size) 8192 (a .1))
+good-size v (_⊎_.inl a) = rw (eq-eqb (v .kind) 1 (a .0), le-leb (v .size) mostFileBytes (a .1))
 good-size v (_⊎_.inr a) =
     rw (ne-eqb (v .kind) 1 (λ e. omega (arith, a .0)), eq-eqb (v .kind) 2 (a .0), eq-eqb (v .size) 0 (a .1))
 
@@ -249,115 +254,134 @@ block-held : (r : ℕ) (v : Object) (k : ℕ) → goodBlock r v k ≡ true → k
 unfolding goodBlock
 block-held r v k e h = ltb-true (getD (v .blocks) k 0) r (rw (lt-ltb k (need (v .size)) h) at e)
 
-block-rest : (r : ℕ) (v : Object) (k : ℕ) → goodBlock r v k ≡ true → need (v .size) ≤ k → getD (v .blocks) k 0 ≡ 65535
+block-rest : (r : ℕ) (v : Object) (k : ℕ) → goodBlock r v k ≡ true → need (v .size) ≤ k → getD (v .blocks) k 0 ≡ unusedBlock
 unfolding goodBlock
-block-rest r v k e h = eqb-true (getD (v .blocks) k 0) 65535 (rw (le-ltb k (need (v .size)) h) at e)
+block-rest r v k e h = eqb-true (getD (v .blocks) k 0) unusedBlock (rw (le-ltb k (need (v .size)) h) at e)
 
-block-good : (r : ℕ) (v : Object) (k : ℕ) → LiveObject r v → k < 16 → goodBlock r v k ≡ true
+block-good : (r : ℕ) (v : Object) (k : ℕ) → LiveObject r v → k < fileBlocks → goodBlock r v k ≡ true
 unfolding goodBlock
 block-good r v k h l =
     by-bool (ltb k (need (v .size)))
     (λ t. rw (t, lt-ltb (getD (v .blocks) k 0) r (h .held k (ltb-true k (need (v .size)) t))))
-    (λ t. rw (t, eq-eqb (getD (v .blocks) k 0) 65535 (h .rest k (ltb-false k (need (v .size)) t) l)))
+    (λ t. rw (t, eq-eqb (getD (v .blocks) k 0) unusedBlock (h .rest k (ltb-false k (need (v .size)) t) l)))
 
 pub live-object : (r : ℕ) (v : Object) → goodLive r v ≡ true → LiveObject r v
 unfolding goodLive goodTime
 live-object r v e =
-    let g = ltb (v .generation) 4294967295 in
-    let m = leb (v .mode) 4095 in
-    let x = ltb (v .atime .nanoseconds) 1000000000 in
-    let y = ltb (v .mtime .nanoseconds) 1000000000 in
-    let z = ltb (v .ctime .nanoseconds) 1000000000 in
-    let a = and-both (g && m && x && y && z && goodSize v) (every 16 (goodBlock r v)) e in
+    let g = ltb (v .generation) spentGeneration in
+    let m = leb (v .mode) mostMode in
+    let x = ltb (v .atime .nanoseconds) nanosecondsEnd in
+    let y = ltb (v .mtime .nanoseconds) nanosecondsEnd in
+    let z = ltb (v .ctime .nanoseconds) nanosecondsEnd in
+    let a = and-both (g && m && x && y && z && goodSize v) (every fileBlocks (goodBlock r v)) e in
     let b = and-both (g && m && x && y && z) (goodSize v) (a .0) in
     let c = and-both (g && m && x && y) z (b .0) in
     let d = and-both (g && m && x) y (c .0) in
     let f = and-both (g && m) x (d .0) in
     let i = and-both g m (f .0) in
     let w = size-good v (b .1) in
-    let small : v .size ≤ 8192 = ⊎-elim (λ q. q .1) (λ q. omega (arith, q .1)) w in
+    let small : v .size ≤ mostFileBytes = ⊎-elim (λ q. q .1) (λ q. omega (arith, q .1)) w in
     record {
-      generation = ltb-true (v .generation) 4294967295 (i .0);
-      mode = leb-true (v .mode) 4095 (i .1);
-      atime = ltb-true (v .atime .nanoseconds) 1000000000 (f .1);
-      mtime = ltb-true (v .mtime .nanoseconds) 1000000000 (d .1);
-      ctime = ltb-true (v .ctime .nanoseconds) 1000000000 (c .1);
+      generation = ltb-true (v .generation) spentGeneration (i .0);
+      mode = leb-true (v .mode) mostMode (i .1);
+      atime = ltb-true (v .atime .nanoseconds) nanosecondsEnd (f .1);
+      mtime = ltb-true (v .mtime .nanoseconds) nanosecondsEnd (d .1);
+      ctime = ltb-true (v .ctime .nanoseconds) nanosecondsEnd (c .1);
       size = w;
-      held = λ k (h : k < need (v .size)). block-held r v k (every-at (goodBlock r v) 16 k (a .1) (omega arith)) h;
-      rest = λ k h l. block-rest r v k (every-at (goodBlock r v) 16 k (a .1) l) h;
+      held = λ k (h : k < need (v .size)). block-held r v k (every-at (goodBlock r v) fileBlocks k (a .1) (omega arith)) h;
+      rest = λ k h l. block-rest r v k (every-at (goodBlock r v) fileBlocks k (a .1) l) h;
     }
 
 pub live-good : (r : ℕ) (v : Object) → LiveObject r v → goodLive r v ≡ true
 unfolding goodLive goodTime
 live-good r v h =
     rw (
-      lt-ltb (v .generation) 4294967295 (h .generation),
-      le-leb (v .mode) 4095 (h .mode),
-      lt-ltb (v .atime .nanoseconds) 1000000000 (h .atime),
-      lt-ltb (v .mtime .nanoseconds) 1000000000 (h .mtime),
-      lt-ltb (v .ctime .nanoseconds) 1000000000 (h .ctime),
+      lt-ltb (v .generation) spentGeneration (h .generation),
+      le-leb (v .mode) mostMode (h .mode),
+      lt-ltb (v .atime .nanoseconds) nanosecondsEnd (h .atime),
+      lt-ltb (v .mtime .nanoseconds) nanosecondsEnd (h .mtime),
+      lt-ltb (v .ctime .nanoseconds) nanosecondsEnd (h .ctime),
       good-size v (h .size),
     )
-    (every-all (goodBlock r v) 16 (λ k l. block-good r v k h l))
+    (every-all (goodBlock r v) fileBlocks (λ k l. block-good r v k h l))
 
 -- a live object's type is 1 or 2
 pub live-kind : (r : ℕ) (v : Object) → LiveObject r v → 0 < v .kind
 live-kind r v h = ⊎-elim (λ a. omega (arith, a .0)) (λ a. omega (arith, a .0)) (h .size)
 
 -- the record of a free object, from its bytes
-free-from : (s : Store) (at : ℕ) → beAt s at 4 ≡ 0 → part s (at + 8) (objectLength - modeOffset) ≡ zeros (objectLength - modeOffset)
-    → objectFrom s at ≡ freeObject (beAt s (at + 4) 4)
+free-from : (s : Store) (at : ℕ) → beAt s at 4 ≡ 0 → part s (at + modeOffset) (objectLength - modeOffset) ≡ zeros (objectLength - modeOffset)
+    → objectFrom s at ≡ freeObject (beAt s (at + generationOffset) 4)
 unfolding objectFrom timeAt
 free-from s at e z =
     λ i. record {
       kind = e i;
-      generation = beAt s (at + 4) 4;
-      mode = number (at + 8) 0 (omega arith) (omega arith) i;
-      uid = number (at + 12) 4 (omega arith) (omega arith) i;
-      gid = number (at + 16) 8 (omega arith) (omega arith) i;
-      size = number (at + 20) 12 (omega arith) (omega arith) i;
-      atime = record { seconds = number (at + 24) 16 (omega arith) (omega arith) i; nanoseconds = number (at + 24 + 4) 20 (omega arith) (omega arith) i };
-      mtime = record { seconds = number (at + 32) 24 (omega arith) (omega arith) i; nanoseconds = number (at + 32 + 4) 28 (omega arith) (omega arith) i };
-      ctime = record { seconds = number (at + 40) 32 (omega arith) (omega arith) i; nanoseconds = number (at + 40 + 4) 36 (omega arith) (omega arith) i };
-      blocks = halves-zero s (at + 48) 16 (within (at + 48) 40 32 (omega arith) (omega arith)) i;
+      generation = beAt s (at + generationOffset) 4;
+      mode = number modeOffset (lit≤ tt) (lit≤ tt) i;
+      uid = number uidOffset (lit≤ tt) (lit≤ tt) i;
+      gid = number gidOffset (lit≤ tt) (lit≤ tt) i;
+      size = number sizeOffset (lit≤ tt) (lit≤ tt) i;
+      atime = record { seconds = number atimeOffset (lit≤ tt) (lit≤ tt) i; nanoseconds = nano atimeOffset (lit≤ tt) (lit≤ tt) i };
+      mtime = record { seconds = number mtimeOffset (lit≤ tt) (lit≤ tt) i; nanoseconds = nano mtimeOffset (lit≤ tt) (lit≤ tt) i };
+      ctime = record { seconds = number ctimeOffset (lit≤ tt) (lit≤ tt) i; nanoseconds = nano ctimeOffset (lit≤ tt) (lit≤ tt) i };
+      blocks = halves-zero s (at + blocksOffset) fileBlocks (within blocksOffset (2 * fileBlocks) (lit≤ tt) (lit≤ tt)) i;
     }
   where
-    within : (p k w : ℕ) → p ≡ at + 8 + k → k + w ≤ (objectLength - modeOffset) → part s p w ≡ zeros w
-    within p k w q h = rw q (zero-within s (at + 8) (objectLength - modeOffset) k w z h)
+    within : (k w : ℕ) → modeOffset ≤ k → k + w ≤ objectLength → part s (at + k) w ≡ zeros w
+    within k w l h =
+        let q : at + k ≡ at + modeOffset + (k - modeOffset) = omega arith in
+        rw q (zero-within s (at + modeOffset) (objectLength - modeOffset) (k - modeOffset) w z (omega arith))
 
-    number : (p k : ℕ) → p ≡ at + 8 + k → k + 4 ≤ (objectLength - modeOffset) → beAt s p 4 ≡ 0
-    number p k q h = be-zero s p 4 (within p k 4 q h)
+    number : (k : ℕ) → modeOffset ≤ k → k + 4 ≤ objectLength → beAt s (at + k) 4 ≡ 0
+    number k l h = be-zero s (at + k) 4 (within k 4 l h)
+
+    -- of the time at k
+    nano : (k : ℕ) → modeOffset ≤ k → k + nanosecondsOffset + 4 ≤ objectLength → beAt s (at + k + nanosecondsOffset) 4 ≡ 0
+    nano k l h =
+        let q : at + k + nanosecondsOffset ≡ at + (k + nanosecondsOffset) = omega arith in
+        rw q (number (k + nanosecondsOffset) (omega arith) h)
 
 pub free-zeros : (s : Store) (o : ℕ) → part s (objectStart o) objectLength ≡ zeros objectLength → objectAt s o ≡ freeObject 0
 unfolding objectAt
 free-zeros s o z =
     let at = objectStart o in
     let k : part s (at + 0) 4 ≡ zeros 4 = zero-within s at objectLength 0 4 z (lit≤ tt) in
-    free-from s at (be-zero s at 4 (rw add-zero at k)) (zero-within s at objectLength 8 (objectLength - modeOffset) z (lit≤ tt))
-    ∙ ap freeObject (be-zero s (at + 4) 4 (zero-within s at objectLength 4 4 z (lit≤ tt)))
+    free-from s at (be-zero s at 4 (rw add-zero at k)) (zero-within s at objectLength modeOffset (objectLength - modeOffset) z (lit≤ tt))
+    ∙ ap freeObject (be-zero s (at + generationOffset) 4 (zero-within s at objectLength generationOffset 4 z (lit≤ tt)))
 
 -- and its bytes, from the record
-free-zero : (s : Store) (at g : ℕ) → at + objectLength ≤ length s → objectFrom s at ≡ freeObject g → part s (at + 8) (objectLength - modeOffset)
+free-zero : (s : Store) (at g : ℕ) → at + objectLength ≤ length s → objectFrom s at ≡ freeObject g → part s (at + modeOffset) (objectLength - modeOffset)
     ≡ zeros (objectLength - modeOffset)
 unfolding objectFrom timeAt
 free-zero s at g h e =
-    let p = at + 8 in
     let f : (w : Object → ℕ) → w (objectFrom s at) ≡ w (freeObject g) = λ w. ap w e in
-    let a = word (at + 8) 0 (omega arith) (omega arith) (f (λ v. v .mode)) in
-    let b = zero-join s p 4 4 (rw add-zero at a) (word (at + 12) 4 (omega arith) (omega arith) (f (λ v. v .uid))) in
-    let c = zero-join s p 8 4 b (word (at + 16) 8 (omega arith) (omega arith) (f (λ v. v .gid))) in
-    let d = zero-join s p 12 4 c (word (at + 20) 12 (omega arith) (omega arith) (f (λ v. v .size))) in
-    let i = zero-join s p 16 4 d (word (at + 24) 16 (omega arith) (omega arith) (f (λ v. v .atime .seconds))) in
-    let j = zero-join s p 20 4 i (word (at + 24 + 4) 20 (omega arith) (omega arith) (f (λ v. v .atime .nanoseconds))) in
-    let k = zero-join s p 24 4 j (word (at + 32) 24 (omega arith) (omega arith) (f (λ v. v .mtime .seconds))) in
-    let l = zero-join s p 28 4 k (word (at + 32 + 4) 28 (omega arith) (omega arith) (f (λ v. v .mtime .nanoseconds))) in
-    let m = zero-join s p 32 4 l (word (at + 40) 32 (omega arith) (omega arith) (f (λ v. v .ctime .seconds))) in
-    let n = zero-join s p 36 4 m (word (at + 40 + 4) 36 (omega arith) (omega arith) (f (λ v. v .ctime .nanoseconds))) in
-    let q : at + 48 ≡ p + 40 = omega arith in
-    zero-join s p 40 32 n (rw q at (zero-halves s (at + 48) 16 (omega arith) (ap (λ (v : Object). v .blocks) e)))
+    let a = zero-part s (at + modeOffset) 4 (omega arith) (f (λ v. v .mode)) in
+    let b = word uidOffset (lit≤ tt) (lit≤ tt) a (f (λ v. v .uid)) in
+    let c = word gidOffset (lit≤ tt) (lit≤ tt) b (f (λ v. v .gid)) in
+    let d = word sizeOffset (lit≤ tt) (lit≤ tt) c (f (λ v. v .size)) in
+    let i = time atimeOffset (lit≤ tt) (lit≤ tt) d (f (λ v. v .atime .seconds)) (f (λ v. v .atime .nanoseconds)) in
+    let j = time mtimeOffset (lit≤ tt) (lit≤ tt) i (f (λ v. v .mtime .seconds)) (f (λ v. v .mtime .nanoseconds)) in
+    let k = time ctimeOffset (lit≤ tt) (lit≤ tt) j (f (λ v. v .ctime .seconds)) (f (λ v. v .ctime .nanoseconds)) in
+    join blocksOffset (2 * fileBlocks) (lit≤ tt) k (zero-halves s (at + blocksOffset) fileBlocks (omega arith) (ap (λ (v : Object). v .blocks) e))
   where
-    word : (p k : ℕ) → p ≡ at + 8 + k → k + 4 ≤ (objectLength - modeOffset) → beAt s p 4 ≡ 0 → part s (at + 8 + k) 4 ≡ zeros 4
-    word p k q r z = rw q at (zero-part s p 4 (omega arith) z)
+    -- zeros from the mode up to k
+    ZeroTo : ℕ → Type 0
+    ZeroTo k = part s (at + modeOffset) (k - modeOffset) ≡ zeros (k - modeOffset)
+
+    join : (k w : ℕ) → modeOffset ≤ k → ZeroTo k → part s (at + k) w ≡ zeros w → ZeroTo (k + w)
+    join k w l x y =
+        let q : at + k ≡ at + modeOffset + (k - modeOffset) = omega arith in
+        let r : k + w - modeOffset ≡ k - modeOffset + w = omega arith in
+        rw r (zero-join s (at + modeOffset) (k - modeOffset) w x (rw q at y))
+
+    word : (k : ℕ) → modeOffset ≤ k → k + 4 ≤ objectLength → ZeroTo k → beAt s (at + k) 4 ≡ 0 → ZeroTo (k + 4)
+    word k l b x z = join k 4 l x (zero-part s (at + k) 4 (omega arith) z)
+
+    time : (k : ℕ) → modeOffset ≤ k → k + nanosecondsOffset + 4 ≤ objectLength → ZeroTo k → beAt s (at + k) 4 ≡ 0 → beAt s (at + k + nanosecondsOffset) 4 ≡ 0
+        → ZeroTo (k + nanosecondsOffset + 4)
+    time k l b x y z =
+        let q : at + k + nanosecondsOffset ≡ at + (k + nanosecondsOffset) = omega arith in
+        word (k + nanosecondsOffset) (omega arith) b (word k l (omega arith) x y) (rw q at z)
 
 pub free-object : (s : Store) (o : ℕ) → objectStart o + objectLength ≤ length s → isLive s o ≡ false → goodFree s o ≡ true → FreeObject (objectAt s o)
 unfolding goodFree objectAt objectFrom
@@ -428,13 +452,13 @@ no-dots text a b = rw (same-no text (0x2E ∷ []) a, same-no text (0x2E ∷ 0x2E
 pub name-good : (text : List ℕ) → goodName text ≡ true → GoodName text
 unfolding goodName
 name-good text e =
-    let a = and-both (leb 1 (length text) && leb (length text) 32 && goodBytes text) (not (isDots text)) e in
-    let b = and-both (leb 1 (length text) && leb (length text) 32) (goodBytes text) (a .0) in
-    let c = and-both (leb 1 (length text)) (leb (length text) 32) (b .0) in
+    let a = and-both (leb 1 (length text) && leb (length text) mostNameBytes && goodBytes text) (not (isDots text)) e in
+    let b = and-both (leb 1 (length text) && leb (length text) mostNameBytes) (goodBytes text) (a .0) in
+    let c = and-both (leb 1 (length text)) (leb (length text) mostNameBytes) (b .0) in
     let d = dots-no text (not-true (isDots text) (a .1)) in
     record {
       some-byte = leb-true 1 (length text) (c .0);
-      short = leb-true (length text) 32 (c .1);
+      short = leb-true (length text) mostNameBytes (c .1);
       bytes = bytes-good text (b .1);
       no-dot = d .0;
       no-dots = d .1;
@@ -443,7 +467,7 @@ name-good text e =
 pub good-name : (text : List ℕ) → GoodName text → goodName text ≡ true
 unfolding goodName
 good-name text h =
-    rw (le-leb 1 (length text) (h .some-byte), le-leb (length text) 32 (h .short), good-bytes text (h .bytes), no-dots text (h .no-dot) (h .no-dots))
+    rw (le-leb 1 (length text) (h .some-byte), le-leb (length text) mostNameBytes (h .short), good-bytes text (h .bytes), no-dots text (h .no-dot) (h .no-dots))
 
 -- a free name record, from its bytes, and its bytes
 pub free-name : (s : Store) (n : ℕ) → part s (nameStart s n) nameRecordLength ≡ zeros nameRecordLength → FreeName s n
@@ -457,9 +481,9 @@ free-name s n w =
       all = λ i. record {
         directory = be-zero s at 4 (rw add-zero at d) i;
         child = be-zero s (at + 4) 4 (zero-within s at nameRecordLength 4 4 w (lit≤ tt)) i;
-        text = ap (λ (k : ℕ). part s (at + 12) k) e i;
+        text = ap (λ (k : ℕ). part s (at + textOffset) k) e i;
       };
-      padded = rw (e, add-zero) (zero-within s at nameRecordLength 12 32 w (lit≤ tt));
+      padded = rw (e, add-zero) (zero-within s at nameRecordLength textOffset mostNameBytes w (lit≤ tt));
     }
 
 name-zero : (s : Store) (n : ℕ) → nameStart s n + nameRecordLength ≤ length s → FreeName s n → isZero (part s (nameStart s n) nameRecordLength) ≡ true
@@ -469,12 +493,12 @@ name-zero s n h f =
     let a = zero-part s at 4 (omega arith) (ap (λ v. v .directory) (f .all)) in
     let b = zero-join s at 4 4 a (zero-part s (at + 4) 4 (omega arith) (ap (λ v. v .child) (f .all))) in
     let c = zero-join s at 8 4 b (zero-part s (at + 8) 4 (omega arith) (f .empty)) in
-    let d : part s (at + 12) 32 ≡ zeros 32 = rw (f .empty, add-zero) at (f .padded) in
-    rw (zero-join s at 12 32 c d) (isZero-zeros nameRecordLength)
+    let d : part s (at + textOffset) mostNameBytes ≡ zeros mostNameBytes = rw (f .empty, add-zero) at (f .padded) in
+    rw (zero-join s at textOffset mostNameBytes c d) (isZero-zeros nameRecordLength)
 
 -- a used name record
-module _ (s : Store) (n : ℕ) (h : nameStart s n + 48 ≤ length s) where
-  used-long : length (nameAt s n .text) ≤ 32 → nameLength s n ≤ 32
+module _ (s : Store) (n : ℕ) (h : nameStart s n + (nameRecordLength + 4) ≤ length s) where
+  used-long : length (nameAt s n .text) ≤ mostNameBytes → nameLength s n ≤ mostNameBytes
   unfolding nameAt nameFrom nameLength part
   used-long l = omega (arith, simp (length-take, length-drop) at l)
 
@@ -482,7 +506,7 @@ module _ (s : Store) (n : ℕ) (h : nameStart s n + 48 ≤ length s) where
   unfolding goodUsed
   used-name e =
       let v = nameAt s n in
-      let pad = part s (nameStart s n + 12 + nameLength s n) (32 - nameLength s n) in
+      let pad = part s (nameStart s n + textOffset + nameLength s n) (mostNameBytes - nameLength s n) in
       let in-place = ltb (v .directory) (objects s) && isDirectory s (v .directory) in
       let to-live = ltb (v .child) (objects s) && isLive s (v .child) in
       let a = and-both (goodName (v .text) && isZero pad && in-place) to-live e in
@@ -496,7 +520,8 @@ module _ (s : Store) (n : ℕ) (h : nameStart s n + 48 ≤ length s) where
         short = l;
         exact = text-length s n (omega arith);
         good = g;
-        padded = zeros-isZero pad (32 - nameLength s n) (part-length s (nameStart s n + 12 + nameLength s n) (32 - nameLength s n) (omega arith)) (c .1);
+        padded = zeros-isZero pad (mostNameBytes - nameLength s n)
+            (part-length s (nameStart s n + textOffset + nameLength s n) (mostNameBytes - nameLength s n) (omega arith)) (c .1);
         directory = ltb-true (v .directory) (objects s) (d .0);
         in-directory = directory-true s (v .directory) (d .1);
         child = ltb-true (v .child) (objects s) (f .0);
@@ -510,7 +535,7 @@ module _ (s : Store) (n : ℕ) (h : nameStart s n + 48 ≤ length s) where
       rw (
         good-name (v .text) (u .good),
         u .padded,
-        isZero-zeros (32 - nameLength s n),
+        isZero-zeros (mostNameBytes - nameLength s n),
         lt-ltb (v .directory) (objects s) (u .directory),
         true-directory s (v .directory) (u .in-directory),
         lt-ltb (v .child) (objects s) (u .child),

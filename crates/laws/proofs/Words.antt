@@ -1,10 +1,10 @@
 -- The laws of words and opaque data as they are written. Assumes nothing.
 use Prim.Native.Nat.{ℕ, _+_, _*_}
 use mathlib.Core.List.{List, [], _∷_, _++_, append-assoc, append-nil}
-use mathlib.Core.Path.{_≡_, refl, sym, ap, _∙_}
+use mathlib.Core.Path.{_≡_, refl}
 use native.Mathlib.Omega.{arith}
-use lib.ListN.{length, replicate, length-append, length-replicate}
-use Rattle.spec.specs.Bytes.{bytesOf, words, padding, zeros, opaqueBytes}
+use lib.ListN.{length, length-append, length-replicate}
+use Rattle.spec.specs.Bytes.{bytesOf, words, padding, opaqueBytes}
 use Rattle.laws.proofs.Bytes.{bytes-length}
 
 pub words-one : (w : ℕ) → words (w ∷ []) ≡ bytesOf 4 w

@@ -75,11 +75,3 @@ pub read-shows : (s : Store) (o offset count : ℕ) → readResult s o offset co
     ≡ gotBytes (attributes s o) (leb (length (contents s o)) (offset + readLength s o offset count)) (part (contents s o) offset (readLength s o offset count))
 unfolding readResult
 read-shows s o offset count = rw (contents-length s o, shown-part s o offset count)
-
--- the contents of a store of bytes are bytes
-pub contents-below : (s : Store) (o : ℕ) → Below 256 s → Below 256 (contents s o)
-contents-below s o b k =
-    ⊎-elim
-    (λ (l : k < sizeOf s o). rw (contents-byte s o k l) (b (byteAt s o k)))
-    (λ (l : sizeOf s o ≤ k). rw (List·getD-eq-default (contents s o) 0 {n = k} (rw (contents-length s o) l)) (lit< tt))
-    (lt-or-le k (sizeOf s o))

@@ -7,7 +7,7 @@ use native.Mathlib.Omega.{arith}
 use native.Mathlib.Decide.{ℕ-discrete}
 use lib.ListN.{length, getD}
 use lib.Seq.{getD-take}
-use Rattle.kinds.specs.Layout.{objectLength, nameRecordLength}
+use Rattle.kinds.specs.Layout.{objectLength, nameRecordLength, blockLength}
 use Rattle.spec.specs.Count.{times}
 use Rattle.spec.specs.Image.{Store, objects, names, blocks, objectStart, nameStart, blockStart, objectAt}
 use Rattle.spec.specs.Room.{sizeOf, need, held, uses, byteAt}
@@ -20,43 +20,30 @@ use Rattle.laws.proofs.Unique.{sum-two}
 
 -- the block in which byte k of object o's file lies
 abbrev pub blockOf : Store → ℕ → ℕ → ℕ
-blockOf s o k = getD (objectAt s o .blocks) (k / 512) 0
-
--- the place of a byte is one of the 512 of its block
-pub place-is : (s : Store) (o k : ℕ) → byteAt s o k ≡ blockStart s (blockOf s o k) + k % 512
-unfolding byteAt
-place-is s o k = refl
+blockOf s o k = getD (objectAt s o .blocks) (k / blockLength) 0
 
 -- the places of bytes start after the count of blocks
 pub place-after : (s : Store) (o k : ℕ) → blockStart s 0 ≤ byteAt s o k
 unfolding byteAt
 place-after s o k = omega arith
 
--- and so after every object record
-pub object-before-place : (s : Store) (o k i : ℕ) → i < objects s → objectStart i + objectLength ≤ byteAt s o k
-object-before-place s o k i b = omega (arith, place-after s o k)
-
--- and after every name record
-pub name-before-place : (s : Store) (o k n : ℕ) → n < names s → nameStart s n + nameRecordLength ≤ byteAt s o k
-name-before-place s o k n b = omega (arith, place-after s o k)
-
 module _ (s : Store) (g : GoodRecords s) (o : ℕ) (l : o < objects s) where
   -- the block of a byte is one of the file's
-  pub block-held : (k : ℕ) → k < sizeOf s o → (k / 512 < length (held s o)) × (getD (held s o) (k / 512) 0 ≡ blockOf s o k)
+  pub block-held : (k : ℕ) → k < sizeOf s o → (k / blockLength < length (held s o)) × (getD (held s o) (k / blockLength) 0 ≡ blockOf s o k)
   unfolding held
   block-held k h =
       let n = good-held-length s g o l in
-      (omega arith, getD-take (need (sizeOf s o)) (objectAt s o .blocks) (k / 512) 0 (omega arith))
+      (omega arith, getD-take (need (sizeOf s o)) (objectAt s o .blocks) (k / blockLength) 0 (omega arith))
 
   -- and so among the store's blocks
   pub block-below : (k : ℕ) → k < sizeOf s o → blockOf s o k < blocks s
   block-below k h =
       let q = block-held k h in
-      rw (q .1) at (good-range s o (g .good-objects o l) (k / 512) (q .0))
+      rw (q .1) at (good-range s o (g .good-objects o l) (k / blockLength) (q .0))
 
   -- a file's block is counted among its own
   pub block-counted : (k : ℕ) → k < sizeOf s o → 0 < times (blockOf s o k) (held s o)
-  block-counted k h = let q = block-held k h in times-at (blockOf s o k) 0 (held s o) (k / 512) (q .0) (q .1)
+  block-counted k h = let q = block-held k h in times-at (blockOf s o k) 0 (held s o) (k / blockLength) (q .0) (q .1)
 
   -- the place of a byte of the file lies in the store
   pub place-before : (k : ℕ) → k < sizeOf s o → byteAt s o k < length s
@@ -88,12 +75,12 @@ module _ (s : Store) (g : GoodRecords s) where
 
   -- two bytes in one block are of one file, and of one stretch of 512 bytes in it
   pub block-one : (o p k j : ℕ) → o < objects s → p < objects s → k < sizeOf s o → j < sizeOf s p → blockOf s o k ≡ blockOf s p j
-      → (o ≡ p) × (k / 512 ≡ j / 512)
+      → (o ≡ p) × (k / blockLength ≡ j / blockLength)
   block-one o p k j l m a b e =
       let q = one-file o p l m (blockOf s o k) (block-below s g o l k a) (block-counted s g o l k a) (rw e (block-counted s g p m j b)) in
       let x = block-held s g o l k a in
-      let y : (j / 512 < length (held s o)) × (getD (held s o) (j / 512) 0 ≡ blockOf s p j) = rw q (block-held s g p m j b) in
-      (q, one-index o l (k / 512) (j / 512) (x .0) (y .0) (rw (x .1) (block-below s g o l k a)) (x .1 ∙ e ∙ sym (y .1)))
+      let y : (j / blockLength < length (held s o)) × (getD (held s o) (j / blockLength) 0 ≡ blockOf s p j) = rw q (block-held s g p m j b) in
+      (q, one-index o l (k / blockLength) (j / blockLength) (x .0) (y .0) (rw (x .1) (block-below s g o l k a)) (x .1 ∙ e ∙ sym (y .1)))
 
   -- no two bytes of files lie at one place
   pub place-one : (o p k j : ℕ) → o < objects s → p < objects s → k < sizeOf s o → j < sizeOf s p → byteAt s o k ≡ byteAt s p j → (o ≡ p) × (k ≡ j)

@@ -4,6 +4,7 @@ use mathlib.Core.Logic.{_≢_}
 use mathlib.Core.List.{List, []}
 use Prim.Native.Nat.{ℕ, _^_, _≤_, _<_}
 use lib.ListN.{length, getD}
+use Rattle.kinds.specs.Numbers.{mostNameBytes}
 use Rattle.kinds.specs.declared.object.Time.{Time}
 use Rattle.kinds.specs.declared.object.Object.{Object}
 use Rattle.kinds.specs.declared.call.Settable.{Settable}
@@ -51,7 +52,7 @@ set-attributes-contents s clock o a h l c f p m =
     contents-data s t (e .tree .shape) p (e .size p m) (e .blocks p m) (set-attributes-data s clock o a h l)
 
 -- FIFTH EDIT: a name is in no file's contents
-pub move-name-contents : (s : Store) (n d : ℕ) (text : List ℕ) → Sound s → n < names s → d < 2 ^ 32 → length text ≤ 32 → Below 256 text
+pub move-name-contents : (s : Store) (n d : ℕ) (text : List ℕ) → Sound s → n < names s → d < 2 ^ 32 → length text ≤ mostNameBytes → Below 256 text
     → (p : ℕ) → p < objects s → contents (moveName s n d text) p ≡ contents s p
 move-name-contents s n d text h l c f b p m =
     let t = moveName s n d text in
@@ -60,7 +61,7 @@ move-name-contents s n d text h l c f b p m =
     contents-data s t (e .shape) p (ap (λ (v : Object). v .size) w) (ap (λ (v : Object). v .blocks) w) (move-name-data s n d text h l c f b)
 
 module _ (s : Store) (o n : ℕ) (v : Object) (d : ℕ) (text : List ℕ) (h : Sound s) (l : o < objects s) (k : n < names s)
-    (f : FitsObject v) (c : d < 2 ^ 32) (g : length text ≤ 32) (b : Below 256 text) where
+    (f : FitsObject v) (c : d < 2 ^ 32) (g : length text ≤ mostNameBytes) (b : Below 256 text) where
   -- THIRD EDIT: every other file keeps its contents
   pub create-object-others : (p : ℕ) → p < objects s → p ≢ o → contents (createObject s o n v d text) p ≡ contents s p
   create-object-others p m q =
@@ -74,8 +75,3 @@ module _ (s : Store) (o n : ℕ) (v : Object) (d : ℕ) (text : List ℕ) (h : S
   unfolding sizeOf withGeneration
   create-object-none z =
       contents-none (createObject s o n v d text) o (ap (λ (x : Object). x .size) (create-object s o n v d text h l k f c g b .object) ∙ z)
-
-  -- as its record, which was free, had none before
-  pub create-object-same : objectAt s o .size ≡ 0 → v .size ≡ 0 → contents (createObject s o n v d text) o ≡ contents s o
-  unfolding sizeOf
-  create-object-same y z = create-object-none z ∙ sym (contents-none s o y)

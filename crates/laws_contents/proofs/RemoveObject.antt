@@ -5,6 +5,7 @@ use Prim.Native.Nat.{ℕ, _+_, _%_, _≤_, _<_}
 use native.Mathlib.Omega.{arith}
 use native.Mathlib.Nat.{mod-lt}
 use lib.Dec.{lit<, lit≤}
+use Rattle.kinds.specs.Layout.{blockLength}
 use Rattle.kinds.specs.Objects.{freeObject}
 use Rattle.kinds.specs.declared.object.Object.{Object}
 use Rattle.spec.specs.Bytes.{part}
@@ -56,4 +57,4 @@ module _ (s : Store) (g : GoodRecords s) (n : ℕ) (l : n < names s) (u : Used s
       let q = e .other-objects p m d in
       contents-kept s t (e .shape) p (ap (λ (x : Object). x .size) q) (ap (λ (x : Object). x .blocks) q) (λ k h.
       byte-same t (clearBlocks s (held s o)) (byteAt s p k) (remove-object-data (byteAt s p k) 1 (place-after s p k))
-      ∙ clear-other s (held s o) (g .sound) range (blockOf s p k) (k % 512) (mod-lt k (lit< tt)) (block-other s g o p k (w .0) m d h))
+      ∙ clear-other s (held s o) (g .sound) range (blockOf s p k) (k % blockLength) (mod-lt k (lit< tt)) (block-other s g o p k (w .0) m d h))

@@ -9,7 +9,8 @@ use native.Mathlib.Nat.{mod-lt}
 use lib.Dec.{lit<}
 use lib.ListN.{length, getD, List·getD-append, List·getD-eq-default}
 use lib.Seq.{ext-getD, getD-take, getD-append-add}
-use Rattle.kinds.specs.Numbers.{REGULAR}
+use Rattle.kinds.specs.Layout.{blockLength}
+use Rattle.kinds.specs.Numbers.{REGULAR, mostFileBytes}
 use Rattle.kinds.specs.declared.object.Object.{Object}
 use Rattle.spec.specs.Bytes.{part}
 use Rattle.spec.specs.Count.{times}
@@ -38,7 +39,7 @@ use Rattle.laws_contents.proofs.Places.{blockOf, block-held, block-belo
 use Rattle.laws_contents.proofs.RecordEdits.{contents-kept}
 use Rattle.laws_contents.proofs.Cleared.{clear-other, clear-zero, tail-other, tail-zero}
 
-module _ (s : Store) (g : GoodRecords s) (o size : ℕ) (l : o < objects s) (k : objectAt s o .kind ≡ REGULAR) (small : size ≤ 8192)
+module _ (s : Store) (g : GoodRecords s) (o size : ℕ) (l : o < objects s) (k : objectAt s o .kind ≡ REGULAR) (small : size ≤ mostFileBytes)
     (room : need size - need (sizeOf s o) ≤ freeBlockCount s) where
   live : LiveObject (blocks s) (objectAt s o)
   live = live-at s g o l (omega arith)
@@ -70,14 +71,14 @@ module _ (s : Store) (g : GoodRecords s) (o size : ℕ) (l : o < objects s) (k :
       (rw (e .objects, e .names) z)
 
   -- a byte of a block that is neither freed nor added is as in the store with the tail zeroed
-  resize-other : (r q : ℕ) → q < 512 → times r changed ≡ 0 → getD (resize s o size) (blockStart s r + q) 0 ≡ getD tailed (blockStart s r + q) 0
+  resize-other : (r q : ℕ) → q < blockLength → times r changed ≡ 0 → getD (resize s o size) (blockStart s r + q) 0 ≡ getD tailed (blockStart s r + q) 0
   resize-other r q h z =
       let e = tailed-kept .shape in
       byte-same (resize s o size) (clearBlocks tailed changed) (blockStart s r + q) (resize-data (blockStart s r + q) 1 (omega arith))
       ∙ (rw (e .objects, e .names) at (clear-other tailed changed (tailed-kept .sound) changed-range r q h z))
 
   -- a byte of a block that is freed or added is zero
-  resize-zero : (r q : ℕ) → q < 512 → 0 < times r changed → getD (resize s o size) (blockStart s r + q) 0 ≡ 0
+  resize-zero : (r q : ℕ) → q < blockLength → 0 < times r changed → getD (resize s o size) (blockStart s r + q) 0 ≡ 0
   resize-zero r q h z =
       let e = tailed-kept .shape in
       byte-same (resize s o size) (clearBlocks tailed changed) (blockStart s r + q) (resize-data (blockStart s r + q) 1 (omega arith))
@@ -94,10 +95,10 @@ module _ (s : Store) (g : GoodRecords s) (o size : ℕ) (l : o < objects s) (k :
       )
 
   -- the block of the tail's start is the file's
-  start-last : (start : ℕ) → start ≤ sizeOf s o → 0 < start % 512 → blockOf s o start ≡ blockOf s o (start - 1)
-  start-last start h p = let e : start / 512 ≡ (start - 1) / 512 = omega arith in rw e
+  start-last : (start : ℕ) → start ≤ sizeOf s o → 0 < start % blockLength → blockOf s o start ≡ blockOf s o (start - 1)
+  start-last start h p = let e : start / blockLength ≡ (start - 1) / blockLength = omega arith in rw e
 
-  start-fits : (start : ℕ) → start ≤ sizeOf s o → 0 < start % 512 → byteAt s o start + (512 - start % 512) ≤ length s
+  start-fits : (start : ℕ) → start ≤ sizeOf s o → 0 < start % blockLength → byteAt s o start + (blockLength - start % blockLength) ≤ length s
   unfolding byteAt
   start-fits start h p =
       let b = block-below s g o l (start - 1) (omega arith) in
@@ -105,7 +106,7 @@ module _ (s : Store) (g : GoodRecords s) (o size : ℕ) (l : o < objects s) (k :
       omega (arith, start-last start h p)
 
   -- a byte of another block lies before or after the tail
-  start-apart : (start r q : ℕ) → blockOf s o start ≢ r → q < 512 → Outside (byteAt s o start) (512 - start % 512) (blockStart s r + q)
+  start-apart : (start r q : ℕ) → blockOf s o start ≢ r → q < blockLength → Outside (byteAt s o start) (blockLength - start % blockLength) (blockStart s r + q)
   unfolding byteAt
   start-apart start r q d h =
       let b = blockOf s o start in
@@ -122,7 +123,7 @@ module _ (s : Store) (g : GoodRecords s) (o size : ℕ) (l : o < objects s) (k :
       contents-kept s t (e .shape) p (ap (λ (x : Object). x .size) q) (ap (λ (x : Object). x .blocks) q) (λ i h.
       let r = blockOf s p i in
       let b = block-below s g p m i h in
-      resize-other r (i % 512) (mod-lt i (lit< tt)) (omega (
+      resize-other r (i % blockLength) (mod-lt i (lit< tt)) (omega (
         arith,
         times-append r (freedBlocks s o size) (addedBlocks s o size),
         block-other s g o p i l m d h,
@@ -132,7 +133,7 @@ module _ (s : Store) (g : GoodRecords s) (o size : ℕ) (l : o < objects s) (k :
         block-counted s g p m i h,
       ))
       ∙ tail-other s o start (max (sizeOf s o) size) (byteAt s p i) (start-fits start (omega arith)) (λ z.
-      start-apart start r (i % 512) (λ y.
+      start-apart start r (i % blockLength) (λ y.
       d (sym (block-one s g o p (start - 1) i l m (omega arith) h (sym (start-last start (omega arith) z) ∙ y) .0))) (mod-lt i (lit< tt))))
 
   -- ---- the file itself
@@ -143,32 +144,32 @@ module _ (s : Store) (g : GoodRecords s) (o size : ℕ) (l : o < objects s) (k :
   size-is = resize-size s o size (g .sound) l live small room
 
   -- the block of a byte after the edit
-  new-block : (i : ℕ) → i < size → blockOf (resize s o size) o i ≡ getD (keptBlocks s o size ++ addedBlocks s o size) (i / 512) 0
+  new-block : (i : ℕ) → i < size → blockOf (resize s o size) o i ≡ getD (keptBlocks s o size ++ addedBlocks s o size) (i / blockLength) 0
   new-block i h =
       let t = resize s o size in
       let e = resize-object s o size (g .sound) l live small room .shape in
       sym (block-held t good o (rw (e .objects) l) i (rw size-is h) .1)
-      ∙ ap (λ (z : List ℕ). getD z (i / 512) 0) (resize-held s o size (g .sound) l live small room)
+      ∙ ap (λ (z : List ℕ). getD z (i / blockLength) 0) (resize-held s o size (g .sound) l live small room)
 
-  old-index : (i : ℕ) → i / 512 < need (sizeOf s o) → getD (held s o) (i / 512) 0 ≡ blockOf s o i
+  old-index : (i : ℕ) → i / blockLength < need (sizeOf s o) → getD (held s o) (i / blockLength) 0 ≡ blockOf s o i
   unfolding held
-  old-index i h = getD-take (need (sizeOf s o)) (objectAt s o .blocks) (i / 512) 0 h
+  old-index i h = getD-take (need (sizeOf s o)) (objectAt s o .blocks) (i / blockLength) 0 h
 
-  kept-index : (i : ℕ) → i < size → i / 512 < need (sizeOf s o) → getD (keptBlocks s o size) (i / 512) 0 ≡ blockOf s o i
-  kept-index i h b = getD-take (need size) (held s o) (i / 512) 0 (omega arith) ∙ old-index i b
+  kept-index : (i : ℕ) → i < size → i / blockLength < need (sizeOf s o) → getD (keptBlocks s o size) (i / blockLength) 0 ≡ blockOf s o i
+  kept-index i h b = getD-take (need size) (held s o) (i / blockLength) 0 (omega arith) ∙ old-index i b
 
   -- where the file had a block, it keeps it
-  kept-block : (i : ℕ) → i < size → i / 512 < need (sizeOf s o) → blockOf (resize s o size) o i ≡ blockOf s o i
+  kept-block : (i : ℕ) → i < size → i / blockLength < need (sizeOf s o) → blockOf (resize s o size) o i ≡ blockOf s o i
   kept-block i h b =
       new-block i h
-      ∙ List·getD-append (keptBlocks s o size) (addedBlocks s o size) 0 (i / 512) (omega (arith, kept-length s o size (g .sound) l live small room))
+      ∙ List·getD-append (keptBlocks s o size) (addedBlocks s o size) 0 (i / blockLength) (omega (arith, kept-length s o size (g .sound) l live small room))
       ∙ kept-index i h b
 
   -- and that block is neither freed nor added
-  kept-unchanged : (i : ℕ) → i < size → i / 512 < need (sizeOf s o) → blockOf s o i < blocks s → times (blockOf s o i) changed ≡ 0
+  kept-unchanged : (i : ℕ) → i < size → i / blockLength < need (sizeOf s o) → blockOf s o i < blocks s → times (blockOf s o i) changed ≡ 0
   kept-unchanged i h b c =
       let r = blockOf s o i in
-      let a = times-at r 0 (keptBlocks s o size) (i / 512) (omega (arith, kept-length s o size (g .sound) l live small room)) (kept-index i h b) in
+      let a = times-at r 0 (keptBlocks s o size) (i / blockLength) (omega (arith, kept-length s o size (g .sound) l live small room)) (kept-index i h b) in
       let w = times-take r (need size) (held s o) in
       unchanged r c (omega arith) (omega (arith, uses-at s o l r, g .used-once r c))
 
@@ -178,39 +179,40 @@ module _ (s : Store) (g : GoodRecords s) (o size : ℕ) (l : o < objects s) (k :
   byte-kept i h j =
       let start = min (sizeOf s o) size in
       let r = blockOf s o i in
-      resize-other r (i % 512) (mod-lt i (lit< tt)) (kept-unchanged i j (omega arith) (block-below s g o l i h))
+      resize-other r (i % blockLength) (mod-lt i (lit< tt)) (kept-unchanged i j (omega arith) (block-below s g o l i h))
       ∙ tail-other s o start (max (sizeOf s o) size) (byteAt s o i) (start-fits start (omega arith)) (λ z.
       by-cases (ℕ-discrete (blockOf s o start) r)
       (λ e. let q = block-one s g o o (start - 1) i l l (omega arith) h (sym (start-last start (omega arith) z) ∙ e) .1 in _⊎_.inl (omega arith))
-      (λ n. start-apart start r (i % 512) n (mod-lt i (lit< tt))))
+      (λ n. start-apart start r (i % blockLength) n (mod-lt i (lit< tt))))
 
   -- a byte after the old end, in the file's last block, is zero
-  byte-tail : (i : ℕ) → sizeOf s o ≤ i → i < size → i / 512 < need (sizeOf s o) → getD (resize s o size) (byteAt s o i) 0 ≡ 0
+  byte-tail : (i : ℕ) → sizeOf s o ≤ i → i < size → i / blockLength < need (sizeOf s o) → getD (resize s o size) (byteAt s o i) 0 ≡ 0
   unfolding byteAt
   byte-tail i h j b =
       let old = sizeOf s o in
       let x : min old size ≡ old = omega arith in
       let y : max old size ≡ size = omega arith in
-      let p : 0 < old % 512 = omega arith in
+      let p : 0 < old % blockLength = omega arith in
       let e : i ≡ old + (i - old) = omega arith in
-      let last : i / 512 ≡ (old - 1) / 512 = omega arith in
+      let last : i / blockLength ≡ (old - 1) / blockLength = omega arith in
       let c : blockOf s o i < blocks s = rw last (block-below s g o l (old - 1) (omega arith)) in
-      resize-other (blockOf s o i) (i % 512) (mod-lt i (lit< tt)) (kept-unchanged i j b c)
+      resize-other (blockOf s o i) (i % blockLength) (mod-lt i (lit< tt)) (kept-unchanged i j b c)
       ∙ ap (λ (q : ℕ). getD tailed q 0) (ap (byteAt s o) e ∙ byteAt-next s o old (i - old) (omega arith))
       ∙ rw (x, y) (tail-zero s o old size (i - old) p (start-fits old (omega arith) p) (omega arith) (omega arith))
 
   -- a byte in a block that is added is zero
-  byte-added : (i : ℕ) → need (sizeOf s o) ≤ i / 512 → i < size → getD (resize s o size) (blockStart s (blockOf (resize s o size) o i) + i % 512) 0 ≡ 0
+  byte-added : (i : ℕ) → need (sizeOf s o) ≤ i / blockLength → i < size
+      → getD (resize s o size) (blockStart s (blockOf (resize s o size) o i) + i % blockLength) 0 ≡ 0
   byte-added i h j =
       let a = kept-length s o size (g .sound) l live small room in
-      let n = i / 512 - need (sizeOf s o) in
+      let n = i / blockLength - need (sizeOf s o) in
       let r = blockOf (resize s o size) o i in
-      let e : i / 512 ≡ length (keptBlocks s o size) + n = omega arith in
+      let e : i / blockLength ≡ length (keptBlocks s o size) + n = omega arith in
       let q : getD (addedBlocks s o size) n 0 ≡ r =
       sym (new-block i j ∙ ap (λ (z : ℕ). getD (keptBlocks s o size ++ addedBlocks s o size) z 0) e
       ∙ getD-append-add (keptBlocks s o size) (addedBlocks s o size) n 0) in
       let w = times-at r 0 (addedBlocks s o size) n (omega (arith, added-length s o size (g .sound) l live small room)) q in
-      resize-zero r (i % 512) (mod-lt i (lit< tt)) (omega (arith, times-append r (freedBlocks s o size) (addedBlocks s o size)))
+      resize-zero r (i % blockLength) (mod-lt i (lit< tt)) (omega (arith, times-append r (freedBlocks s o size) (addedBlocks s o size)))
 
   -- SECOND EDIT: the contents are the old ones, cut to the new size or padded with zeros up to it
   pub resize-contents : contents (resize s o size) o ≡ sized (contents s o) size
@@ -220,16 +222,17 @@ module _ (s : Store) (g : GoodRecords s) (o size : ℕ) (l : o < objects s) (k :
       let old = contents s o in
       let c = contents-length s o in
       let e = resize-object s o size (g .sound) l live small room .shape in
-      let place : (i : ℕ) → i < size → i / 512 < need (sizeOf s o) → byteAt t o i ≡ byteAt s o i = λ i h b. rw (e .objects, e .names, kept-block i h b) in
+      let place : (i : ℕ) → i < size → i / blockLength < need (sizeOf s o) → byteAt t o i ≡ byteAt s o i =
+      λ i h b. rw (e .objects, e .names, kept-block i h b) in
       ext-getD 0 (contents t o) (sized old size) (contents-length t o ∙ size-is ∙ sym (sized-length old size)) (λ i h.
       let j : i < size = omega (arith, contents-length t o, size-is) in
       contents-byte t o i (omega (arith, size-is))
       ∙ ⊎-elim
       (λ (a : i < sizeOf s o). ap (λ (q : ℕ). getD t q 0) (place i j (omega arith)) ∙ byte-kept i a j ∙ sym (contents-byte s o i a))
       (λ (a : sizeOf s o ≤ i). ⊎-elim
-      (λ (b : i / 512 < need (sizeOf s o)). ap (λ (q : ℕ). getD t q 0) (place i j b) ∙ byte-tail i a j b)
-      (λ (b : need (sizeOf s o) ≤ i / 512). rw (e .objects, e .names) (byte-added i b j))
-      (lt-or-le (i / 512) (need (sizeOf s o)))
+      (λ (b : i / blockLength < need (sizeOf s o)). ap (λ (q : ℕ). getD t q 0) (place i j b) ∙ byte-tail i a j b)
+      (λ (b : need (sizeOf s o) ≤ i / blockLength). rw (e .objects, e .names) (byte-added i b j))
+      (lt-or-le (i / blockLength) (need (sizeOf s o)))
       ∙ sym (List·getD-eq-default old 0 (omega arith)))
       (lt-or-le i (sizeOf s o))
       ∙ sym (sized-byte old size i j))

@@ -3,7 +3,7 @@ use mathlib.Core.Path.{_≡_, refl}
 use mathlib.Core.Logic.{_≢_}
 use mathlib.Core.Bool.{true}
 use Prim.Native.Nat.{ℕ, _-_, _≤_, _<_}
-use Rattle.kinds.specs.Numbers.{REGULAR}
+use Rattle.kinds.specs.Numbers.{REGULAR, mostFileBytes}
 use Rattle.kinds.specs.declared.call.SetSize.{SetSize}
 use Rattle.kinds.specs.declared.call.SetSize.the-variants as SetSize
 use Rattle.spec.specs.Image.{Store, objects, objectAt}
@@ -19,7 +19,7 @@ use Rattle.laws_contents.proofs.Resize.{resize-contents, resize-others}
 pub record MaySize (s : Store) (o : ℕ) (x : SetSize) : Type 0 where
   pub below : o < objects s
   pub regular : isGiven x ≡ true → objectAt s o .kind ≡ REGULAR
-  pub small : sizeSet x 0 ≤ 8192
+  pub small : sizeSet x 0 ≤ mostFileBytes
   pub room : need (sizeSet x (sizeOf s o)) - need (sizeOf s o) ≤ freeBlockCount s
 
 module _ (s : Store) (g : GoodRecords s) (o : ℕ) where

@@ -8,7 +8,7 @@ use native.Mathlib.Omega.{arith}
 use lib.Dec.{eqb}
 use lib.ListN.{length}
 use borrow.Author.Tests.{eqb-true, eqb-false}
-use Rattle.kinds.specs.Numbers.{REGULAR}
+use Rattle.kinds.specs.Numbers.{REGULAR, mostFileBytes}
 use Rattle.spec.specs.Image.{Store, objects, objectAt}
 use Rattle.spec.specs.Procedures.Data.{grown, writeStore}
 use Rattle.spec.specs.Room.{sizeOf, need, freeBlockCount}
@@ -44,7 +44,7 @@ wrote-trans s t u o a b x y =
 pub record Sendable (x : Sent) : Type 0 where
   pub clock : GoodClock (x .context .clock)
   pub bytes : Below 256 (x .write .bytes)
-  pub fits : 0 < length (x .write .bytes) → x .write .offset + length (x .write .bytes) ≤ 8192
+  pub fits : 0 < length (x .write .bytes) → x .write .offset + length (x .write .bytes) ≤ mostFileBytes
 
 -- each of them may be made
 abbrev pub AllSendable : List Sent → Type 0

@@ -7,7 +7,7 @@ use native.Mathlib.Omega.{arith}
 use lib.Dec.{eqb}
 use lib.ListN.{length}
 use borrow.Author.Tests.{eqb-true, eqb-false}
-use Rattle.kinds.specs.Numbers.{REGULAR}
+use Rattle.kinds.specs.Numbers.{REGULAR, mostFileBytes}
 use Rattle.kinds.specs.declared.object.Context.{Context}
 use Rattle.spec.specs.Bytes.{overlay}
 use Rattle.spec.specs.Edits.{setAttributes, mtimeAndCtime, resize, writeFile}
@@ -41,7 +41,7 @@ pub record Wrote (s : Store) (o : ℕ) (new : List ℕ) (t : Store) : Type 0 whe
   pub room : freeBlockCount t + need (sizeOf t o) ≡ freeBlockCount s + need (sizeOf s o)
 
 module _ (s : Store) (g : GoodRecords s) (c : Context) (clock : FitsTime (c .clock)) (o offset : ℕ) (xs : List ℕ) (l : o < objects s)
-    (k : objectAt s o .kind ≡ REGULAR) (b : Below 256 xs) (fits : offset + length xs ≤ 8192)
+    (k : objectAt s o .kind ≡ REGULAR) (b : Below 256 xs) (fits : offset + length xs ≤ mostFileBytes)
     (room : need (grown s o offset (length xs)) - need (sizeOf s o) ≤ freeBlockCount s) where
   -- the store after each step but the last
   abbrev size : ℕ
@@ -53,7 +53,7 @@ module _ (s : Store) (g : GoodRecords s) (c : Context) (clock : FitsTime (c .clo
   abbrev filled : Store
   filled = writeFile longer o offset xs
 
-  small : size ≤ 8192
+  small : size ≤ mostFileBytes
   small = omega (arith, good-size-small s o (g .good-objects o l))
 
   longer-still : StillGood s longer
@@ -132,7 +132,7 @@ module _ (s : Store) (g : GoodRecords s) (c : Context) (clock : FitsTime (c .clo
 
 -- WRITE's edit, of any bytes: "n = 0 succeeds and changes nothing"
 module _ (s : Store) (g : GoodRecords s) (c : Context) (clock : FitsTime (c .clock)) (o offset : ℕ) (xs : List ℕ) (l : o < objects s)
-    (k : objectAt s o .kind ≡ REGULAR) (b : Below 256 xs) (fits : 0 < length xs → offset + length xs ≤ 8192)
+    (k : objectAt s o .kind ≡ REGULAR) (b : Below 256 xs) (fits : 0 < length xs → offset + length xs ≤ mostFileBytes)
     (room : 0 < length xs → need (grown s o offset (length xs)) - need (sizeOf s o) ≤ freeBlockCount s) where
   -- the file's contents are written
   pub write-store-written : contents (writeStore s c o offset xs) o ≡ written (contents s o) offset xs

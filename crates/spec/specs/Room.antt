@@ -1,5 +1,5 @@
 -- What the records of a store say together: which objects are live, which names, objects and blocks are free, and who names whom.
-use Prim.Native.Nat.{ℕ, _+_, _/_, _%_}
+use Prim.Native.Nat.{ℕ, _+_, _-_, _/_, _%_}
 use mathlib.Core.List.{List}
 use mathlib.Core.Bool.{Bool, _&&_, not}
 use mathlib.Core.Option.{Option, some, none}
@@ -27,7 +27,7 @@ sizeOf s o = objectAt s o .size
 
 -- "ceil(size/512)"
 abbrev pub need : ℕ → ℕ
-need size = (size + 511) / 512
+need size = (size + (blockLength - 1)) / blockLength
 
 -- the blocks of an object: "its first ceil(size/512) block numbers"
 unfoldable pub held : Store → ℕ → List ℕ

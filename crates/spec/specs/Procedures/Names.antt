@@ -1,10 +1,10 @@
 -- LOOKUP, CREATE and MKDIR.
 use Prim.Native.Nat.{ℕ}
-use lib.ListN.{replicate}
 use mathlib.Core.Bool.{Bool, true, false, _&&_, _||_, not, cond}
 use mathlib.Core.List.{List}
 use mathlib.Core.Option.{Option, some, none}
-use Rattle.kinds.specs.Numbers.{NOENT, EXIST, INVAL, NOSPC, NOTSUPP, REGULAR, DIRECTORY, fileBlocks, unusedBlock}
+use Rattle.kinds.specs.Numbers.{NOENT, EXIST, INVAL, NOSPC, NOTSUPP, REGULAR, DIRECTORY}
+use Rattle.kinds.specs.Objects.{plainObject}
 use Rattle.kinds.specs.declared.object.Time.{Time}
 use Rattle.kinds.specs.declared.object.Object.{Object}
 use Rattle.kinds.specs.declared.object.Context.{Context}
@@ -57,21 +57,7 @@ roomForNew s size = do
 
 -- "New: unset fields 0, unset times the clock."
 unfoldable pub newObject : Time → ℕ → Settable → Object
-newObject clock kind a =
-    withAttributes clock a
-    (record {
-      kind = kind;
-      generation = 0;
-      mode = 0;
-      uid = 0;
-      gid = 0;
-      size = 0;
-      atime = clock;
-      mtime = clock;
-      ctime = clock;
-      blocks =
-          replicate fileBlocks unusedBlock;
-    })
+newObject clock kind a = withAttributes clock a (plainObject kind 0 clock)
 
 -- "Added or removed names set the directory's mtime and ctime."
 abbrev pub touchDirectory : Store → Context → ℕ → Store
