@@ -31,8 +31,8 @@ use xdr::read::long;
 use xdr::read::opaque;
 use xdr::read::word;
 
-// The longest opaque data of a type that names no maximum.
-const ANY_LENGTH: usize = 4294967295;
+// The maximum of opaque data that has none.
+const NO_MAXIMUM: usize = 4294967295;
 
 // nfs_fh3.
 pub fn handle(s: &[u8], c: Cursor) -> PartRead
@@ -45,7 +45,7 @@ pub fn handle(s: &[u8], c: Cursor) -> PartRead
 pub fn unbounded(s: &[u8], c: Cursor) -> PartRead
     ensures { λ r. ⌜ partOf r ≡ unbounded (now (s .entry)) (c .at) ⌝ }
 {
-    opaque(s, c, ANY_LENGTH)
+    opaque(s, c, NO_MAXIMUM)
 }
 
 // diropargs3.

@@ -21,7 +21,7 @@ use Rattle.kinds.specs.declared.call.Arguments.the-variants as Call
 use Rattle.spec.specs.Arguments.{handle, unbounded, nameIn, time, setNumber, setSize, setTime, settable, guard, how, Form, none, handleThen, nameThen}
 use Rattle.spec.specs.Arguments.{unread, form, formed, whole, arguments}
 use Rattle.spec.specs.Bytes.{beAt}
-use Rattle.spec.specs.Xdr.{Reader, _>>=_, done, number, word, long, flag, choice, end}
+use Rattle.spec.specs.Xdr.{Reader, _>>=_, done, number, word, long, flag, choice, end, noMaximum}
 use Rattle.laws.proofs.Arguments.{PartWithin, NameWithin, Within, by-procedure}
 use Rattle.laws.proofs.Range.{Below, be-below}
 use Rattle.laws.proofs.Records.{FitsTime}
@@ -157,7 +157,7 @@ handle-within s at a q e = opaque-within mostHandleBytes s at a q e .0
 
 unbounded-within : (s : List ℕ) (at : ℕ) (a : Part) (q : ℕ) → unbounded s at ≡ got a q → PartWithin (length s) a
 unfolding unbounded
-unbounded-within s at a q e = opaque-within 4294967295 s at a q e .0
+unbounded-within s at a q e = opaque-within noMaximum s at a q e .0
 
 name-within : (s : List ℕ) (at : ℕ) (a : NameIn) (q : ℕ) → nameIn s at ≡ got a q → NameWithin (length s) a
 unfolding nameIn

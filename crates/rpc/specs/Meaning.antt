@@ -22,14 +22,18 @@ abbrev pub headerOf : HeaderRead → Read Header
 headerOf (H.Got x c) = got x (c .at)
 headerOf (H.Bad p) = bad p
 
--- the number of the procedure that a header names; 22, which no procedure has, where it names none
+-- a number that no procedure has
+abbrev pub noProcedure : ℕ
+noProcedure = 22
+
+-- the number of the procedure that a header names
 abbrev pub namedProcedure : Header → ℕ
 namedProcedure (Header.Call h) = h .procedure
-namedProcedure (Header.OtherVersion xid) = 22
+namedProcedure (Header.OtherVersion xid) = noProcedure
 
 unfoldable pub procedureOf : Read Header → ℕ
 procedureOf (got h p) = namedProcedure h
-procedureOf (bad p) = 22
+procedureOf (bad p) = noProcedure
 
 -- an accept_stat, or that the procedure runs
 abbrev pub judgedOf : Judged → Checked (Unit {0})

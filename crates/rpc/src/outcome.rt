@@ -1,10 +1,8 @@
 // Whether a procedure runs, and the replies of calls that do not run.
 ghost use mathlib.Core.Path.{_≡_};
-ghost use mathlib.Core.List.{[], _∷_};
 ghost use Prim.Native.Nat.{_≤_};
 ghost use lib.ListN.{length};
-ghost use Rattle.spec.specs.Bytes.{words};
-ghost use Rattle.spec.specs.Rpc.{judge, nfs, denied, accepted, mismatch};
+ghost use Rattle.spec.specs.Rpc.{judge, nfs, denied, head, accepted, mismatch};
 ghost use Rattle.rpc.specs.Meaning.{judgedOf, programOf};
 ghost use Rattle.xdr.specs.Wrote.{Wrote};
 use kinds::call::CallHeader;
@@ -77,7 +75,7 @@ pub fn put_denied(reply: &mut [u8], xid: u32) -> usize
 // The head of an accepted reply.
 pub fn put_head(reply: &mut [u8], xid: u32, stat: u32) -> usize
     requires { ⌜ 24 ≤ length (now reply) ⌝ }
-    ensures { λ r. ⌜ Wrote 24 (now (reply .entry)) (now (reply .exit)) 0 r (words (xid ∷ 1 ∷ 0 ∷ 0 ∷ 0 ∷ stat ∷ [])) ⌝ }
+    ensures { λ r. ⌜ Wrote 24 (now (reply .entry)) (now (reply .exit)) 0 r (head xid stat) ⌝ }
 {
     let ws = [xid, Message::REPLY, Message::ACCEPTED, 0, 0, stat];
     put_words(reply, 0, &ws)

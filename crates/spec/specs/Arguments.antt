@@ -20,15 +20,15 @@ use Rattle.kinds.specs.declared.call.How.{How}
 use Rattle.kinds.specs.declared.call.How.the-variants as How
 use Rattle.kinds.specs.declared.call.Arguments.{Arguments}
 use Rattle.kinds.specs.declared.call.Arguments.the-variants as Call
-use Rattle.spec.specs.Xdr.{Reader, _>>=_, _>>_, done, word, long, flag, choice, opaque, end}
+use Rattle.spec.specs.Xdr.{Reader, _>>=_, _>>_, done, word, long, choice, optional, opaque, noMaximum, end}
 
 -- nfs_fh3: "a handle over 64 bytes" is refused
 unfoldable pub handle : Reader Part
 handle = opaque mostHandleBytes
 
--- filename3, and the data of WRITE: no maximum
+-- filename3, and the data of WRITE
 unfoldable pub unbounded : Reader Part
-unbounded = opaque 4294967295
+unbounded = opaque noMaximum
 
 -- diropargs3: dir, name
 unfoldable pub nameIn : Reader NameIn
@@ -44,23 +44,13 @@ time = do
   nanoseconds ← word
   done (record { seconds = seconds; nanoseconds = nanoseconds })
 
--- set_mode3, set_uid3, set_gid3: a boolean, and the number where it is true
+-- set_mode3, set_uid3, set_gid3
 unfoldable pub setNumber : Reader SetNumber
-setNumber = do
-  given ← flag
-  cond given (do
-    n ← word
-    done (SetNumber.To n))
-      (done SetNumber.Keep)
+setNumber = optional word SetNumber.To SetNumber.Keep
 
 -- set_size3
 unfoldable pub setSize : Reader SetSize
-setSize = do
-  given ← flag
-  cond given (do
-    n ← long
-    done (SetSize.To n))
-      (done SetSize.Keep)
+setSize = optional long SetSize.To SetSize.Keep
 
 -- set_atime, set_mtime: DONT_CHANGE 0, SET_TO_SERVER_TIME 1, SET_TO_CLIENT_TIME 2 with a time
 unfoldable pub setTime : Reader SetTime
@@ -82,14 +72,9 @@ settable = do
   mtime ← setTime
   done (record { mode = mode; uid = uid; gid = gid; size = size; atime = atime; mtime = mtime })
 
--- sattrguard3: a boolean, and a ctime where it is true
+-- sattrguard3: obj_ctime
 unfoldable pub guard : Reader Guard
-guard = do
-  given ← flag
-  cond given (do
-    t ← time
-    done (Guard.Ctime t))
-      (done Guard.Absent)
+guard = optional time Guard.Ctime Guard.Absent
 
 -- createhow3: UNCHECKED 0 and GUARDED 1 with attributes, EXCLUSIVE 2 with a verifier of 8 bytes
 unfoldable pub how : Reader How

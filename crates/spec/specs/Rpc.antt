@@ -11,9 +11,13 @@ use Rattle.spec.specs.Checked.{Checked, _>>_, refuseIf}
 unfoldable pub denied : ℕ → List ℕ
 denied xid = words (xid ∷ 1 ∷ 1 ∷ 0 ∷ 2 ∷ 2 ∷ [])
 
--- accepted_reply: xid, REPLY, MSG_ACCEPTED, "Reply verifiers are flavor 0, length 0", accept_stat, and what follows it
+-- accepted_reply: xid, REPLY, MSG_ACCEPTED, "Reply verifiers are flavor 0, length 0", accept_stat
+abbrev pub head : ℕ → ℕ → List ℕ
+head xid stat = words (xid ∷ 1 ∷ 0 ∷ 0 ∷ 0 ∷ stat ∷ [])
+
+-- and what follows it
 unfoldable pub accepted : ℕ → ℕ → List ℕ → List ℕ
-accepted xid stat body = words (xid ∷ 1 ∷ 0 ∷ 0 ∷ 0 ∷ stat ∷ []) ++ body
+accepted xid stat body = head xid stat ++ body
 
 -- a program: its number, its lowest and highest version, and its last procedure
 pub record Program : Type 0 where

@@ -2,7 +2,7 @@
 -- place at which it refuses.
 use Prim.Native.Nat.{ℕ, _+_}
 use mathlib.Core.List.{List}
-use mathlib.Core.Bool.{Bool, true, false}
+use mathlib.Core.Bool.{Bool, true, false, cond}
 use lib.ListN.{length}
 use lib.Dec.{leb, eqb}
 use Rattle.kinds.specs.Reading.{Read, got, bad}
@@ -75,6 +75,14 @@ flag = do
   n ← choice 1
   done (eqb n 1)
 
+-- a boolean, and a value where it is true
+abbrev pub optional : {A B : Type 0} → Reader A → (A → B) → B → Reader B
+optional value present absent = do
+  given ← flag
+  cond given (do
+    a ← value
+    done (present a)) (done absent)
+
 -- the next n bytes, as a part of the call
 unfoldable pub bytes : ℕ → Reader Part
 bytes n = field n (λ s at. record { start = at; length = n })
@@ -93,6 +101,10 @@ opaque most = item (do
   part ← bytes n
   pad (padding n)
   done part)
+
+-- the maximum of opaque data that has none: its length is a word
+abbrev pub noMaximum : ℕ
+noMaximum = 4294967295
 
 -- the end of the call: "bytes left over" are refused at the first of them
 unfoldable pub end : Reader (Unit {0})
