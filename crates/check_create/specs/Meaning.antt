@@ -7,6 +7,6 @@ use Rattle.check_create.specs.declared.CreateChecked.{CreateChecked}
 use Rattle.check_create.specs.declared.CreateChecked.the-variants as CreateChecked
 
 -- the directory and the target, or the status
-abbrev pub createOf : CreateChecked → Checked (ℕ × names.Target)
-createOf (CreateChecked.At d t) = passed (d .0, madeOf t)
-createOf (CreateChecked.Refused status) = refused (status .0)
+abbrev pub createCheckedOf : CreateChecked → Checked (ℕ × names.Target)
+createCheckedOf (CreateChecked.At d t) = passed (d .0, madeOf t)
+createCheckedOf (CreateChecked.Refused status) = refused (status .0)

@@ -6,8 +6,8 @@ ghost use Rattle.spec.specs.Procedures.{cut};
 ghost use Rattle.spec.specs.Procedures.Names.{checkHow, checkCreate};
 ghost use Rattle.laws.proofs.GoodRecords.{GoodRecords};
 ghost use Rattle.store_blocks.specs.Blocks.{UsedMap};
-ghost use Rattle.check_make.specs.Meaning.{targetOf};
-ghost use Rattle.check_create.specs.Meaning.{createOf};
+ghost use Rattle.check_make.specs.Meaning.{targetCheckedOf};
+ghost use Rattle.check_create.specs.Meaning.{createCheckedOf};
 use check_handles::handle::Reached;
 use check_handles::handle::reach_directory;
 use check_make::checks::Target;
@@ -37,7 +37,7 @@ fn check_how(
     requires { ⌜ GoodRecords (now store) ⌝ }
     requires { ⌜ UsedMap (now store) (now used) ⌝ }
     requires { ⌜ name .start + name .length ≤ length (now call) ⌝ }
-    ensures { λ r. ⌜ targetOf r ≡ checkHow (now (store .entry)) (d .0) (cut (now (call .entry)) name) manner ⌝ }
+    ensures { λ r. ⌜ targetCheckedOf r ≡ checkHow (now (store .entry)) (d .0) (cut (now (call .entry)) name) manner ⌝ }
 {
     match manner {
         How::Unchecked(a) => check_attributed(store, used, d, call, name, true, a),
@@ -58,7 +58,7 @@ pub fn check_create(
     requires { ⌜ UsedMap (now store) (now used) ⌝ }
     requires { ⌜ place .directory .start + place .directory .length ≤ length (now call) ⌝ }
     requires { ⌜ place .name .start + place .name .length ≤ length (now call) ⌝ }
-    ensures { λ r. ⌜ createOf r ≡ checkCreate (now (store .entry)) (cut (now (call .entry)) (place .directory)) (cut (now (call .entry)) (place .name)) manner ⌝ }
+    ensures { λ r. ⌜ createCheckedOf r ≡ checkCreate (now (store .entry)) (cut (now (call .entry)) (place .directory)) (cut (now (call .entry)) (place .name)) manner ⌝ }
 {
     let directory = place.directory;
     let reached = reach_directory(store, call, directory);

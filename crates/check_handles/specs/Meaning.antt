@@ -12,6 +12,6 @@ reachedOf (Reached.At o) = passed (o .0)
 reachedOf (Reached.Refused status) = refused (status .0)
 
 -- a good name, or the status
-abbrev pub textOf : TextChecked → Checked (Unit {0})
-textOf TextChecked.Good = passed tt
-textOf (TextChecked.Refused status) = refused (status .0)
+abbrev pub textCheckedOf : TextChecked → Checked (Unit {0})
+textCheckedOf TextChecked.Good = passed tt
+textCheckedOf (TextChecked.Refused status) = refused (status .0)

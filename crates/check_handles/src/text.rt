@@ -6,7 +6,7 @@ ghost use Rattle.spec.specs.Bytes.{part};
 ghost use Rattle.spec.specs.Names.{goodByte, goodBytes, isDot, isDotDot, isDots};
 ghost use Rattle.spec.specs.Handles.{checkName};
 ghost use Rattle.spec.specs.Procedures.{cut};
-ghost use Rattle.check_handles.specs.Meaning.{textOf};
+ghost use Rattle.check_handles.specs.Meaning.{textCheckedOf};
 use kinds::call::Part;
 use kinds::numbers::Limit;
 use kinds::numbers::Status;
@@ -44,7 +44,7 @@ fn good_bytes(call: &[u8], at: usize, n: usize) -> bool
 // An empty name ACCES, over 32 bytes NAMETOOLONG, with a byte 0 or "/" ACCES.
 pub fn check_name(call: &[u8], name: Part) -> TextChecked
     requires { ⌜ name .start + name .length ≤ length (now call) ⌝ }
-    ensures { λ r. ⌜ textOf r ≡ checkName (cut (now (call .entry)) name) ⌝ }
+    ensures { λ r. ⌜ textCheckedOf r ≡ checkName (cut (now (call .entry)) name) ⌝ }
 {
     let start = name.start;
     let n = name.length;

@@ -8,7 +8,6 @@ use Rattle.kinds.specs.Numbers.{EXIST}
 use Rattle.kinds.specs.declared.call.Settable.{Settable}
 use Rattle.spec.specs.Checked.{passed}
 use Rattle.spec.specs.Handles.{checkName}
-use Rattle.spec.specs.Image.{Store}
 use Rattle.spec.specs.Names.{isDots}
 use Rattle.spec.specs.Procedures.Attributes.{sizeSet, badAttributes}
 use Rattle.spec.specs.Procedures.Names.{checkNew}
@@ -20,10 +19,10 @@ pub valid-size : (a : Settable) → badAttributes a ≡ false → sizeSet (a .si
 valid-size a e = allowed a e .size
 
 -- a name may be made only where the attributes are valid
-pub new-valid : (s : Store) (d : ℕ) (text : List ℕ) (invalid : Bool) → checkNew s d text invalid ≡ passed tt → invalid ≡ false
+pub new-valid : (text : List ℕ) (invalid : Bool) → checkNew text invalid ≡ passed tt → invalid ≡ false
 unfolding checkNew
-new-valid s d text false e = refl
-new-valid s d text true e =
+new-valid text false e = refl
+new-valid text true e =
     bind-passed (checkName text) _ tt e (λ _ e₁ f₁.
     refuse-passed (isDots text) EXIST _ tt f₁ (λ t f₂.
     let z : _≡_ {A = ℕ} 0 1 = cc in absurd (omega arith)))

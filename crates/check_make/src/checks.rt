@@ -7,12 +7,11 @@ ghost use Rattle.spec.specs.Image.{objects};
 ghost use Rattle.spec.specs.Room.{findName};
 ghost use Rattle.spec.specs.Procedures.{cut};
 ghost use Rattle.spec.specs.Procedures.Attributes.{isGiven, sizeSet, badAttributes};
-ghost use Rattle.spec.specs.Procedures.Names as names;
-ghost use Rattle.spec.specs.Procedures.Names.{roomForNew, isNew, checkExisting, checkAttributed, checkMkdir};
+ghost use Rattle.spec.specs.Procedures.Names.{roomForNew, isNew, checkExisting, targetOf, checkNew, checkAttributed, checkMkdir};
 ghost use Rattle.laws.proofs.GoodRecords.{GoodRecords};
 ghost use Rattle.store_blocks.specs.Blocks.{UsedMap};
-ghost use Rattle.check_handles.specs.Meaning.{textOf};
-ghost use Rattle.check_make.specs.Meaning.{NewName, targetOf, mkdirOf};
+ghost use Rattle.check_handles.specs.Meaning.{textCheckedOf};
+ghost use Rattle.check_make.specs.Meaning.{targetCheckedOf, mkdirCheckedOf};
 use check_handles::handle::Reached;
 use check_handles::handle::reach_directory;
 use check_handles::text::TextChecked;
@@ -55,7 +54,7 @@ pub enum MkdirChecked {
 // A name to be made: a bad name's status, EXIST for "." and "..", then INVAL for attributes that are not valid.
 fn check_new(call: &[u8], name: Part, invalid: bool) -> TextChecked
     requires { ⌜ name .start + name .length ≤ length (now call) ⌝ }
-    ensures { λ r. ⌜ NewName (cut (now (call .entry)) name) invalid (textOf r) ⌝ }
+    ensures { λ r. ⌜ textCheckedOf r ≡ checkNew (cut (now (call .entry)) name) invalid ⌝ }
 {
     let answer = check_name(call, name);
     let TextChecked::Good = answer else {
@@ -75,7 +74,7 @@ fn check_absent(store: &[u8], used: &[u8; 1024], a: Settable) -> TargetChecked
     requires { ⌜ GoodRecords (now store) ⌝ }
     requires { ⌜ UsedMap (now store) (now used) ⌝ }
     requires { ⌜ sizeSet (a .size) 0 ≤ 8192 ⌝ }
-    ensures { λ r. ⌜ targetOf r ≡ isNew (roomForNew (now (store .entry)) (sizeSet (a .size) 0)) ⌝ }
+    ensures { λ r. ⌜ targetCheckedOf r ≡ isNew (roomForNew (now (store .entry)) (sizeSet (a .size) 0)) ⌝ }
 {
     let size = a.size;
     let room = room_for_new(store, used, size_set(size, 0) as usize);
@@ -97,7 +96,7 @@ fn check_existing(
     requires { ⌜ UsedMap (now store) (now used) ⌝ }
     requires { ⌜ sizeSet (a .size) 0 ≤ 8192 ⌝ }
     requires { ⌜ o .0 < objects (now store) ⌝ }
-    ensures { λ r. ⌜ targetOf r ≡ checkExisting (now (store .entry)) unchecked a (o .0) ⌝ }
+    ensures { λ r. ⌜ targetCheckedOf r ≡ checkExisting (now (store .entry)) unchecked a (o .0) ⌝ }
 {
     if !unchecked {
         return TargetChecked::Refused(Status::EXIST);
@@ -126,7 +125,7 @@ fn check_target(
     requires { ⌜ UsedMap (now store) (now used) ⌝ }
     requires { ⌜ name .start + name .length ≤ length (now call) ⌝ }
     requires { ⌜ sizeSet (a .size) 0 ≤ 8192 ⌝ }
-    ensures { λ r. ⌜ targetOf r ≡ names.targetOf (now (store .entry)) unchecked a (findName (now (store .entry)) (d .0) (cut (now (call .entry)) name)) ⌝ }
+    ensures { λ r. ⌜ targetCheckedOf r ≡ targetOf (now (store .entry)) unchecked a (findName (now (store .entry)) (d .0) (cut (now (call .entry)) name)) ⌝ }
 {
     let found = find_name(store, d, call, name);
     let FoundName::At(n) = found else {
@@ -149,7 +148,7 @@ pub fn check_attributed(
     requires { ⌜ GoodRecords (now store) ⌝ }
     requires { ⌜ UsedMap (now store) (now used) ⌝ }
     requires { ⌜ name .start + name .length ≤ length (now call) ⌝ }
-    ensures { λ r. ⌜ targetOf r ≡ checkAttributed (now (store .entry)) (d .0) (cut (now (call .entry)) name) unchecked a ⌝ }
+    ensures { λ r. ⌜ targetCheckedOf r ≡ checkAttributed (now (store .entry)) (d .0) (cut (now (call .entry)) name) unchecked a ⌝ }
 {
     let invalid = bad_attributes(a);
     let checked = check_new(call, name, invalid);
@@ -182,7 +181,7 @@ pub fn check_mkdir(
     requires { ⌜ UsedMap (now store) (now used) ⌝ }
     requires { ⌜ place .directory .start + place .directory .length ≤ length (now call) ⌝ }
     requires { ⌜ place .name .start + place .name .length ≤ length (now call) ⌝ }
-    ensures { λ r. ⌜ mkdirOf r ≡ checkMkdir (now (store .entry)) (cut (now (call .entry)) (place .directory)) (cut (now (call .entry)) (place .name)) a ⌝ }
+    ensures { λ r. ⌜ mkdirCheckedOf r ≡ checkMkdir (now (store .entry)) (cut (now (call .entry)) (place .directory)) (cut (now (call .entry)) (place .name)) a ⌝ }
 {
     let directory = place.directory;
     let reached = reach_directory(store, call, directory);

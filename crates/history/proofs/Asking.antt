@@ -40,18 +40,18 @@ pub data AsksStore (s : Store) (x : Request) : Room → Type 0 where
   byCreate : (target : NameIn) (manner : How) (a : Settable) (d : ℕ) → Asks x (Call.Create target manner)
       → (manner ≡ How.Unchecked a) ⊎ (manner ≡ How.Guarded a)
       → reachDirectory s (cut (x .call) (target .directory)) ≡ passed d
-      → checkNew s d (cut (x .call) (target .name)) (badAttributes a) ≡ passed tt
+      → checkNew (cut (x .call) (target .name)) (badAttributes a) ≡ passed tt
       → findName s d (cut (x .call) (target .name)) ≡ none
       → AsksStore s x (newObject (sizeSet (a .size) 0))
   -- CREATE, UNCHECKED, of an existing regular file
   byRecreate : (target : NameIn) (a : Settable) (d n : ℕ) → Asks x (Call.Create target (How.Unchecked a))
       → reachDirectory s (cut (x .call) (target .directory)) ≡ passed d
-      → checkNew s d (cut (x .call) (target .name)) (badAttributes a) ≡ passed tt
+      → checkNew (cut (x .call) (target .name)) (badAttributes a) ≡ passed tt
       → findName s d (cut (x .call) (target .name)) ≡ some n → isRegular s (nameAt s n .child) ≡ true
       → AsksStore s x (growth (sizeOf s (nameAt s n .child)) (sizeSet (a .size) (sizeOf s (nameAt s n .child))))
   -- MKDIR
   byMkdir : (target : NameIn) (a : Settable) (d : ℕ) → Asks x (Call.Mkdir target a)
       → reachDirectory s (cut (x .call) (target .directory)) ≡ passed d
-      → checkNew s d (cut (x .call) (target .name)) (badAttributes a || isGiven (a .size)) ≡ passed tt
+      → checkNew (cut (x .call) (target .name)) (badAttributes a || isGiven (a .size)) ≡ passed tt
       → findName s d (cut (x .call) (target .name)) ≡ none
       → AsksStore s x (newObject 0)

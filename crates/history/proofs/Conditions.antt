@@ -56,15 +56,15 @@ one-standing (x ∷ b) h k l m n e = ⊎-elim
     (List·Memᴰ·cases-cons m)
 
 -- the checks of a name to be made, one by one
-new-all : (s : Store) (d : ℕ) (text : List ℕ) (invalid : Bool) → checkName text ≡ passed tt → isDots text ≡ false → invalid ≡ false
-    → checkNew s d text invalid ≡ passed tt
+new-all : (text : List ℕ) (invalid : Bool) → checkName text ≡ passed tt → isDots text ≡ false → invalid ≡ false
+    → checkNew text invalid ≡ passed tt
 unfolding checkNew
-new-all s d text invalid a b c = rw (a, b, c)
+new-all text invalid a b c = rw (a, b, c)
 
-new-each : (s : Store) (d : ℕ) (text : List ℕ) (invalid : Bool) → checkNew s d text invalid ≡ passed tt
+new-each : (text : List ℕ) (invalid : Bool) → checkNew text invalid ≡ passed tt
     → (checkName text ≡ passed tt) × (isDots text ≡ false) × (invalid ≡ false)
 unfolding checkNew
-new-each s d text invalid e = go (checkName text) (isDots text) invalid e
+new-each text invalid e = go (checkName text) (isDots text) invalid e
   where
     go : (c : Checked (Unit {0})) (t u : Bool) → bind c (λ _. bind (refuseIf t 17) (λ _. refuseIf u 22)) ≡ passed tt
         → (c ≡ passed tt) × (t ≡ false) × (u ≡ false)
@@ -184,9 +184,9 @@ module _ (σ P Q R : ℕ) (s : Store) (L : Ledger) (I : Inv σ P Q R s L) where
       part-below h = below-part 256 (x .call) _ _ (lit< tt) (lent .bytes)
 
       may-make : (p : NameIn) (d : ℕ) (invalid : Bool) → Reached s (directoryIn x p) d × (objectAt s d .kind ≡ 2)
-          → checkNew s d (nameIn x p) invalid ≡ passed tt → MayMake (L .book) x p invalid
+          → checkNew (nameIn x p) invalid ≡ passed tt → MayMake (L .book) x p invalid
       may-make p d invalid (w, k) e =
-          let (a, b, c) = new-each s d (nameIn x p) invalid e in
+          let (a, b, c) = new-each (nameIn x p) invalid e in
           record {
             inDirectory = subst (HasLine (L .book) (directoryIn x p)) k (reached-line (directoryIn x p) (part-below (p .directory)) d w);
             goodName = a;
@@ -226,8 +226,8 @@ module _ (σ P Q R : ℕ) (s : Store) (L : Ledger) (I : Inv σ P Q R s L) where
           (none-there (directoryIn x p) (nameIn x p) d (w .below) y (reached-own (directoryIn x p) (part-below (p .directory)) d w) e₃)
 
     -- by the book, so by the checks of the store
-    new-checks : (p : NameIn) (d : ℕ) (invalid : Bool) → MayMake (L .book) x p invalid → checkNew s d (nameIn x p) invalid ≡ passed tt
-    new-checks p d invalid m = new-all s d (nameIn x p) invalid (m .goodName) (m .noDots) (m .valid)
+    new-checks : (p : NameIn) (invalid : Bool) → MayMake (L .book) x p invalid → checkNew (nameIn x p) invalid ≡ passed tt
+    new-checks p invalid m = new-all (nameIn x p) invalid (m .goodName) (m .noDots) (m .valid)
 
     pub by-store : {m : Room} → AsksRoom state x m → AsksStore s x m
     unfolding isDirectory
@@ -242,7 +242,7 @@ module _ (σ P Q R : ℕ) (s : Store) (L : Ledger) (I : Inv σ P Q R s L) where
         (AsksStore.byWrite h offset n bytes o k (regular-reached (cut (x .call) h) o z) e₂ l m)
     by-store (AsksRoom.byCreate p manner a k which m e) =
         let (d, z) = lined (directoryIn x p) 2 (m .inDirectory) in
-        AsksStore.byCreate p manner a d k which (directory-reached (directoryIn x p) d z) (new-checks p d (badAttributes a) m)
+        AsksStore.byCreate p manner a d k which (directory-reached (directoryIn x p) d z) (new-checks p (badAttributes a) m)
         (there-none (directoryIn x p) (nameIn x p) d (z .below) (z .type) (z .own) e)
     by-store (AsksRoom.byRecreate p a g k m y u) =
         let (d, z) = lined (directoryIn x p) 2 (m .inDirectory) in
@@ -251,9 +251,9 @@ module _ (σ P Q R : ℕ) (s : Store) (L : Ledger) (I : Inv σ P Q R s L) where
         let c : nameAt s n .child ≡ objectIn g =
         sym (child-object (nameAt s n .child) (found-below (directoryIn x p) (nameIn x p) d (z .below) (z .type) (z .own) n e)) ∙ ap objectIn (sym f) in
         subst (λ (i : ℕ). AsksStore s x (growth (sizeOf s i) (sizeSet (a .size) (sizeOf s i)))) c
-        (AsksStore.byRecreate p a d n k (directory-reached (directoryIn x p) d z) (new-checks p d (badAttributes a) m) e
+        (AsksStore.byRecreate p a d n k (directory-reached (directoryIn x p) d z) (new-checks p (badAttributes a) m) e
         (true-regular s (nameAt s n .child) (ap (λ (i : ℕ). objectAt s i .kind) (c ∙ v .is-object) ∙ v .type)))
     by-store (AsksRoom.byMkdir p a k m e) =
         let (d, z) = lined (directoryIn x p) 2 (m .inDirectory) in
-        AsksStore.byMkdir p a d k (directory-reached (directoryIn x p) d z) (new-checks p d (badAttributes a || isGiven (a .size)) m)
+        AsksStore.byMkdir p a d k (directory-reached (directoryIn x p) d z) (new-checks p (badAttributes a || isGiven (a .size)) m)
         (there-none (directoryIn x p) (nameIn x p) d (z .below) (z .type) (z .own) e)

@@ -209,7 +209,7 @@ module _ (σ p q r : ℕ) (s : Store) (L : Ledger) (I : Inv σ p q r s L) where
   -- ---- CREATE of a new file
   create-room : (x : Request) (place : NameIn) (manner : How) (a : Settable) (d : ℕ) → Asks x (Call.Create place manner)
       → (manner ≡ How.Unchecked a) ⊎ (manner ≡ How.Guarded a) → reachDirectory s (cut (x .call) (place .directory)) ≡ passed d
-      → checkNew s d (cut (x .call) (place .name)) (badAttributes a) ≡ passed tt → findName s d (cut (x .call) (place .name)) ≡ none
+      → checkNew (cut (x .call) (place .name)) (badAttributes a) ≡ passed tt → findName s d (cut (x .call) (place .name)) ≡ none
       → AnswersRoom (replyTo s x) (RoomMissing σ p q r s L (sizeSet (a .size) 0))
   unfolding act create checkCreate checkAttributed statusOf
   create-room x place manner a d k which e₁ e₂ e₃ =
@@ -236,7 +236,7 @@ module _ (σ p q r : ℕ) (s : Store) (L : Ledger) (I : Inv σ p q r s L) where
   -- ---- CREATE of an existing file
   recreate-room : (x : Request) (place : NameIn) (a : Settable) (d n : ℕ) → Asks x (Call.Create place (How.Unchecked a))
       → reachDirectory s (cut (x .call) (place .directory)) ≡ passed d
-      → checkNew s d (cut (x .call) (place .name)) (badAttributes a) ≡ passed tt → findName s d (cut (x .call) (place .name)) ≡ some n
+      → checkNew (cut (x .call) (place .name)) (badAttributes a) ≡ passed tt → findName s d (cut (x .call) (place .name)) ≡ some n
       → isRegular s (nameAt s n .child) ≡ true
       → AnswersRoom (replyTo s x) (BlocksMissing p r s L (sizeOf s (nameAt s n .child)) (sizeSet (a .size) (sizeOf s (nameAt s n .child))))
   unfolding act create checkCreate checkAttributed checkExisting statusOf
@@ -259,7 +259,7 @@ module _ (σ p q r : ℕ) (s : Store) (L : Ledger) (I : Inv σ p q r s L) where
   -- ---- MKDIR
   mkdir-room : (x : Request) (place : NameIn) (a : Settable) (d : ℕ) → Asks x (Call.Mkdir place a)
       → reachDirectory s (cut (x .call) (place .directory)) ≡ passed d
-      → checkNew s d (cut (x .call) (place .name)) (badAttributes a || isGiven (a .size)) ≡ passed tt → findName s d (cut (x .call) (place .name)) ≡ none
+      → checkNew (cut (x .call) (place .name)) (badAttributes a || isGiven (a .size)) ≡ passed tt → findName s d (cut (x .call) (place .name)) ≡ none
       → AnswersRoom (replyTo s x) (RoomMissing σ p q r s L 0)
   unfolding act mkdir checkMkdir statusOf
   mkdir-room x place a d k e₁ e₂ e₃ =

@@ -123,9 +123,9 @@ module _ (P : ℕ → Type 0) (plain : (n : ℕ) → Plain n → P n) (s : Store
       tells-if P (not (leb (length text) mostNameBytes)) NAMETOOLONG _ (λ _. plain NAMETOOLONG (lit< tt, lit< tt, omega arith)) (λ _.
       tells-last P (not (goodBytes text)) ACCES acces))
 
-  new-tells : (d : ℕ) (text : List ℕ) (invalid : Bool) → Tells P (checkNew s d text invalid)
+  new-tells : (text : List ℕ) (invalid : Bool) → Tells P (checkNew text invalid)
   unfolding checkNew
-  new-tells d text invalid =
+  new-tells text invalid =
       tells-bind P (checkName text) _ (name-tells text) (λ _ _. tells-if P (isDots text) EXIST _ (λ _. exist) (λ _. tells-last P invalid INVAL inval))
 
   in-tells : (d : ℕ) (text : List ℕ) → Tells P (checkIn s d text)
@@ -247,9 +247,9 @@ module _ (P : ℕ → Type 0) (plain : (n : ℕ) → Plain n → P n) (s : Store
 
   pub create-tells : (h text : List ℕ) (manner : How)
       → ((d : ℕ) (a : Settable) → (manner ≡ How.Unchecked a) ⊎ (manner ≡ How.Guarded a) → reachDirectory s h ≡ passed d
-      → checkNew s d text (badAttributes a) ≡ passed tt → findName s d text ≡ none → P NOSPC)
+      → checkNew text (badAttributes a) ≡ passed tt → findName s d text ≡ none → P NOSPC)
       → ((d n : ℕ) (a : Settable) → manner ≡ How.Unchecked a → reachDirectory s h ≡ passed d
-      → checkNew s d text (badAttributes a) ≡ passed tt → findName s d text ≡ some n → isRegular s (nameAt s n .child) ≡ true → P NOSPC)
+      → checkNew text (badAttributes a) ≡ passed tt → findName s d text ≡ some n → isRegular s (nameAt s n .child) ≡ true → P NOSPC)
       → Tells P (checkCreate s h text manner)
   unfolding checkCreate checkAttributed
   create-tells h text manner fresh old =
@@ -258,21 +258,21 @@ module _ (P : ℕ → Type 0) (plain : (n : ℕ) → Plain n → P n) (s : Store
     where
       how : (d : ℕ) → reachDirectory s h ≡ passed d → (m : How) → manner ≡ m → Tells P (checkHow s d text m)
       how d e (How.Unchecked a) w =
-          tells-bind P (checkNew s d text (badAttributes a)) _ (new-tells d text (badAttributes a)) (λ _ f.
+          tells-bind P (checkNew text (badAttributes a)) _ (new-tells text (badAttributes a)) (λ _ f.
           target-tells true a (findName s d text) (fresh d a (inl w) e f) (λ n. old d n a w e f))
       how d e (How.Guarded a) w =
-          tells-bind P (checkNew s d text (badAttributes a)) _ (new-tells d text (badAttributes a)) (λ _ f.
+          tells-bind P (checkNew text (badAttributes a)) _ (new-tells text (badAttributes a)) (λ _ f.
           target-tells false a (findName s d text) (fresh d a (inr w) e f) (λ n x y. true-false (sym y)))
       how d e (How.Exclusive verifier) w = tells-refused P NOTSUPP (plain NOTSUPP (lit< tt, lit< tt, omega arith))
 
   pub mkdir-tells : (h text : List ℕ) (a : Settable)
-      → ((d : ℕ) → reachDirectory s h ≡ passed d → checkNew s d text (badAttributes a || isGiven (a .size)) ≡ passed tt → findName s d text ≡ none → P NOSPC)
+      → ((d : ℕ) → reachDirectory s h ≡ passed d → checkNew text (badAttributes a || isGiven (a .size)) ≡ passed tt → findName s d text ≡ none → P NOSPC)
       → Tells P (checkMkdir s h text a)
   unfolding checkMkdir
   mkdir-tells h text a full =
       let invalid = badAttributes a || isGiven (a .size) in
       tells-bind P (reachDirectory s h) _ (directory-tells h) (λ d e₁.
-      tells-bind P (checkNew s d text invalid) _ (new-tells d text invalid) (λ _ e₂.
+      tells-bind P (checkNew text invalid) _ (new-tells text invalid) (λ _ e₂.
       tells-bind P (absent EXIST (findName s d text)) _ (tells-absent P EXIST (findName s d text) exist) (λ _ e₃.
       tells-bind P (roomForNew s 0) _ (room-tells 0 (full d e₁ e₂ (nothing (findName s d text) e₃))) (λ p _. tells-passed P _))))
     where

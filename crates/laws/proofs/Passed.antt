@@ -318,11 +318,11 @@ existing-passed s unchecked a o t e =
     )))
 
 -- the checks of a name to be made
-new-passed : {B P : Type 0} (s : Store) (d : ℕ) (text : List ℕ) (invalid : Bool) (k : Unit {0} → Checked B) (b : B)
-    → bind (checkNew s d text invalid) k ≡ passed b
+new-passed : {B P : Type 0} (text : List ℕ) (invalid : Bool) (k : Unit {0} → Checked B) (b : B)
+    → bind (checkNew text invalid) k ≡ passed b
     → (GoodName text → invalid ≡ false → k tt ≡ passed b → P) → P
 unfolding checkNew
-new-passed {B} {P} s d text invalid k b e f =
+new-passed {B} {P} text invalid k b e f =
     go (checkName text) refl
   where
     dots : (NamePassed text) → (t u : Bool) → isDots text ≡ t → invalid ≡ u → bind (bind (refuseIf t EXIST) (λ _. refuseIf u INVAL)) k ≡ passed b → P
@@ -360,7 +360,7 @@ attributed-passed : (s : Store) (d : ℕ) (text : List ℕ) (unchecked : Bool) (
     → GoodName text × Allowed a × TargetPassed s d text a t
 unfolding checkAttributed
 attributed-passed s d text unchecked a t e =
-    new-passed s d text (badAttributes a) _ t e (λ n b f.
+    new-passed text (badAttributes a) _ t e (λ n b f.
     (n, allowed a b, target-passed s d text unchecked a t (findName s d text) refl f))
 
 how-passed : (s : Store) (d : ℕ) (text : List ℕ) (manner : How) (t : Target) → checkHow s d text manner ≡ passed t
@@ -395,7 +395,7 @@ pub mkdir-passed : (s : Store) (h text : List ℕ) (a : Settable) (p : ℕ × �
 unfolding checkMkdir
 mkdir-passed s h text a p e =
     bind-passed (reachDirectory s h) _ p e (λ d e₁ f₁.
-    new-passed s d text (badAttributes a || isGiven (a .size)) _ p f₁ (λ g t f₂.
+    new-passed text (badAttributes a || isGiven (a .size)) _ p f₁ (λ g t f₂.
     absent-passed EXIST (findName s d text) _ p f₂ (λ x f₃.
     bind-passed (roomForNew s 0) _ p f₃ (λ r e₄ f₄.
     let z = directory-passed s h d e₁ in

@@ -92,15 +92,15 @@ targetOf s unchecked a none = isNew (roomForNew s (sizeSet (a .size) 0))
 targetOf s unchecked a (some n) = checkExisting s unchecked a (nameAt s n .child)
 
 -- the checks of a name to be made: ""." or "..", EXIST. INVAL on attributes as SETATTR."
-unfoldable pub checkNew : Store → ℕ → List ℕ → Bool → Checked (Unit {0})
-checkNew s d text invalid = do
+unfoldable pub checkNew : List ℕ → Bool → Checked (Unit {0})
+checkNew text invalid = do
   checkName text
   refuseIf (isDots text) EXIST
   refuseIf invalid INVAL
 
 unfoldable pub checkAttributed : Store → ℕ → List ℕ → Bool → Settable → Checked Target
 checkAttributed s d text unchecked a = do
-  checkNew s d text (badAttributes a)
+  checkNew text (badAttributes a)
   targetOf s unchecked a (findName s d text)
 
 -- "EXCLUSIVE gives NOTSUPP before name checks."
@@ -138,7 +138,7 @@ create s c h text manner =
 unfoldable pub checkMkdir : Store → List ℕ → List ℕ → Settable → Checked (ℕ × ℕ × ℕ)
 checkMkdir s h text a = do
   d ← reachDirectory s h
-  checkNew s d text (badAttributes a || isGiven (a .size))
+  checkNew text (badAttributes a || isGiven (a .size))
   absent EXIST (findName s d text)
   p ← roomForNew s 0
   passed (d, p .0, p .1)

@@ -4,7 +4,7 @@ use Rattle.spec.specs.Procedures.Names.{create}
 use Rattle.spec.specs.Procedures.{cut}
 use Rattle.laws.proofs.GoodRecords.{valid-records}
 use Rattle.laws.proofs.Passed.{create-passed}
-use Rattle.check_create.specs.Meaning.{createOf}
+use Rattle.check_create.specs.Meaning.{createCheckedOf}
 use Rattle.act_change.proofs.Makable.{create-makable, create-sizable}
 use Rattle.act_change.proofs.names.create.Statement.{statement}
 use Rattle.act_change.proofs.names.create.Tie as tie
@@ -29,7 +29,7 @@ make-new-requires c κs =
     let st = c .before .before .before .before .before .before .before .before .before .before .before .before .before .before in
     let w = c .before .before .before .before .before .before .before .before .settable-of in
     let g = valid-records (st .args .store .now) (st .pre .0 .valid) (st .pre .0 .bytes) in
-    let e = sym (c .before .before .before .before .before .before .before .before .before .check-create .ensures) ∙ ap createOf
+    let e = sym (c .before .before .before .before .before .before .before .before .before .check-create .ensures) ∙ ap createCheckedOf
     (c .before .before .before .before .before .answer .given .1) in
     let p = create-passed (st .args .store .now) (cut (st .args .call .now) (st .args .place .directory))
     (cut (st .args .call .now) (st .args .place .name)) (st .args .manner) _ e in (
@@ -54,7 +54,7 @@ obey-size-requires c κs =
     let st = c .before .before .before .before .before .before .before .before .before .before .before .before .before .before in
     let w = c .before .before .before .before .before .before .before .before .settable-of in
     let g = valid-records (st .args .store .now) (st .pre .0 .valid) (st .pre .0 .bytes) in
-    let e = sym (c .before .before .before .before .before .before .before .before .before .check-create .ensures) ∙ ap createOf
+    let e = sym (c .before .before .before .before .before .before .before .before .before .check-create .ensures) ∙ ap createCheckedOf
     (c .before .before .before .before .before .answer .given .1) in
     let p = create-passed (st .args .store .now) (cut (st .args .call .now) (st .args .place .directory))
     (cut (st .args .call .now) (st .args .place .name)) (st .args .manner) _ e in (

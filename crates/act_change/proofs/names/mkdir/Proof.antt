@@ -4,7 +4,7 @@ use Rattle.spec.specs.Procedures.Names.{mkdir}
 use Rattle.spec.specs.Procedures.{cut}
 use Rattle.laws.proofs.GoodRecords.{valid-records}
 use Rattle.laws.proofs.Passed.{mkdir-passed}
-use Rattle.check_make.specs.Meaning.{mkdirOf}
+use Rattle.check_make.specs.Meaning.{mkdirCheckedOf}
 use Rattle.act_change.proofs.Makable.{mkdir-makable}
 use Rattle.act_change.proofs.names.mkdir.Statement.{statement}
 use Rattle.act_change.proofs.names.mkdir.Tie as tie
@@ -22,7 +22,7 @@ make-new-requires : tie.Need-make-new-requires
 make-new-requires c κs =
     let st = c .before .before .before .before .before .before .before .before .before .before in
     let g = valid-records (st .args .store .now) (st .pre .0 .valid) (st .pre .0 .bytes) in
-    let e = sym (c .before .before .before .before .check-mkdir .ensures) ∙ ap mkdirOf (c .before .before .answer .given .1) in
+    let e = sym (c .before .before .before .before .check-mkdir .ensures) ∙ ap mkdirCheckedOf (c .before .before .answer .given .1) in
     let p = mkdir-passed (st .args .store .now) (cut (st .args .call .now) (st .args .place .directory))
     (cut (st .args .call .now) (st .args .place .name)) (st .args .a) _ e in (
       g,

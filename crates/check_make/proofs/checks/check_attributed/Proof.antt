@@ -2,7 +2,7 @@ use mathlib.Core.Path.{sym, ap, _∙_}
 use borrow.Author.Needs.{needs}
 use Rattle.spec.specs.Procedures.Names.{checkAttributed}
 use Rattle.spec.specs.Procedures.{cut}
-use Rattle.check_handles.specs.Meaning.{textOf}
+use Rattle.check_handles.specs.Meaning.{textCheckedOf}
 use Rattle.check_make.proofs.Told.{valid-size, new-valid}
 use Rattle.check_make.proofs.checks.check_attributed.Statement.{statement}
 use Rattle.check_make.proofs.checks.check_attributed.Tie as tie
@@ -31,9 +31,9 @@ enum-told c = search needs
 check-target-requires : tie.Need-check-target-requires
 check-target-requires c κs =
     let st = c .before .before .before .before .before .before in
-    let good = new-valid (st .args .store .now) (st .args .d .0) (cut (st .args .call .now) (st .args .name))
+    let good = new-valid (cut (st .args .call .now) (st .args .name))
     (c .before .before .before .bad-attributes .result)
-    (sym (c .before .before .check-new .ensures (st .args .store .now) (st .args .d .0)) ∙ ap textOf (c .enum-told .given .1)) in
+    (sym (c .before .before .check-new .ensures) ∙ ap textCheckedOf (c .enum-told .given .1)) in
     (st .pre .0, (st .pre .1 .0, (st .pre .1 .1, valid-size (st .args .a) (sym (c .before .before .before .bad-attributes .ensures) ∙ good))))
 
 returns-2 : tie.Need-returns-2

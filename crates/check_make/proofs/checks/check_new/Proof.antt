@@ -14,7 +14,7 @@ enum-told-2 c = search needs
 
 returns : tie.Need-returns
 unfolding checkNew
-returns c = λ s d. rw (← c .before .before .check-name .ensures, c .enum-told2 .given .1)
+returns c = rw (← c .before .before .check-name .ensures, c .enum-told2 .given .1)
 
 is-dots-requires : tie.Need-is-dots-requires
 is-dots-requires c κs = search needs
@@ -22,7 +22,7 @@ is-dots-requires c κs = search needs
 returns-2 : tie.Need-returns-2
 unfolding checkNew
 returns-2 c =
-    λ s d. rw (
+    rw (
       ← c .before .before .before .before .check-name .ensures,
       c .before .before .enum-told .given .1,
       ← c .before .is-dots .ensures,
@@ -32,7 +32,7 @@ returns-2 c =
 returns-3 : tie.Need-returns-3
 unfolding checkNew
 returns-3 c =
-    λ s d. rw (
+    rw (
       ← c .before .before .before .before .before .check-name .ensures,
       c .before .before .before .enum-told .given .1,
       ← c .before .before .is-dots .ensures,
@@ -43,7 +43,7 @@ returns-3 c =
 returns-4 : tie.Need-returns-4
 unfolding checkNew
 returns-4 c =
-    λ s d. rw (
+    rw (
       ← c .before .before .before .before .before .check-name .ensures,
       c .before .before .before .enum-told .given .1,
       ← c .before .before .is-dots .ensures,
