@@ -22,6 +22,7 @@ use act_remove::act::remove;
 use act_remove::act::rename;
 use act_remove::act::rmdir;
 use kinds::call::Arguments;
+use kinds::numbers::Limit;
 use kinds::numbers::Status;
 use kinds::object::Context;
 use results::Reply;
@@ -29,7 +30,7 @@ use results::Reply;
 // Runs a call, by what was read of its arguments.
 pub fn run(
     store: &mut [u8],
-    used: &[u8; 1024],
+    used: &[u8; Limit::MOST_BLOCKS],
     context: Context,
     call: &[u8],
     a: Arguments,

@@ -12,7 +12,7 @@ use Rattle.spec.specs.Checked.{Checked, refused, passed}
 use Rattle.spec.specs.Image.{Store}
 use Rattle.spec.specs.Replies.{resultBytes}
 use Rattle.spec.specs.Results.{Done}
-use Rattle.spec.specs.Rpc.{Program, nfs, accepted, judge}
+use Rattle.spec.specs.Rpc.{Program, nfs, accepted, judge, PROG-UNAVAIL, PROG-MISMATCH, PROC-UNAVAIL}
 use Rattle.spec.specs.Serve.{finish}
 use Rattle.laws.proofs.Count.{by-bool}
 use Rattle.results.specs.Does.{Does}
@@ -51,11 +51,11 @@ refused-passed : {A : Type 0} (n : ℕ) → _≡_ {A = Checked (Unit {0})} (pass
 refused-passed n e = let z : _≡_ {A = ℕ} 0 1 = cc in absurd (omega arith)
 
 -- one that runs is at most the last
-pub runs-few : (h : CallHeader) → judge nfs h ≡ passed tt → h .procedure ≤ 21
+pub runs-few : (h : CallHeader) → judge nfs h ≡ passed tt → h .procedure ≤ nfs .last
 unfolding judge
 runs-few h e =
-    by-bool (eqb (h .program) 100003)
-    (λ a. by-bool (ltb (h .version) 3 || ltb 3 (h .version))
-    (λ b. refused-passed 2 (sym (rw (a, b) at e)))
-    (λ b. by-bool (ltb 21 (h .procedure)) (λ d. refused-passed 3 (sym (rw (a, b, d) at e))) (λ d. ltb-false 21 (h .procedure) d)))
-    (λ a. refused-passed 1 (sym (rw a at e)))
+    by-bool (eqb (h .program) (nfs .number))
+    (λ a. by-bool (ltb (h .version) (nfs .lowest) || ltb (nfs .highest) (h .version))
+    (λ b. refused-passed PROG-MISMATCH (sym (rw (a, b) at e)))
+    (λ b. by-bool (ltb (nfs .last) (h .procedure)) (λ d. refused-passed PROC-UNAVAIL (sym (rw (a, b, d) at e))) (λ d. ltb-false (nfs .last) (h .procedure) d)))
+    (λ a. refused-passed PROG-UNAVAIL (sym (rw a at e)))

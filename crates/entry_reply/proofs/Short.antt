@@ -5,6 +5,7 @@ use mathlib.Core.Path.{_≡_, refl}
 use native.Mathlib.Omega.{arith}
 use lib.Dec.{eqb, lit≤}
 use lib.ListN.{length, take, length-append, length-replicate}
+use Rattle.kinds.specs.Numbers.{OK, leastReplyBytes, mostTransferBytes, listingCost}
 use Rattle.spec.specs.Bytes.{bytesOf, words, opaqueBytes}
 use Rattle.spec.specs.Edits.{readFile}
 use Rattle.spec.specs.Handles.{handleOf, attributes}
@@ -12,7 +13,7 @@ use Rattle.spec.specs.Image.{Store}
 use Rattle.spec.specs.Count.{bit}
 use Rattle.spec.specs.Procedures.Listing.{entries, entriesAbove}
 use Rattle.spec.specs.Replies.{hyper, fattr3, postOp, preOp, wccData, wccOption, entriesBytes, resultBytes}
-use Rattle.spec.specs.Rpc.{Program, accepted, mismatch}
+use Rattle.spec.specs.Rpc.{Program, SUCCESS, PROG-MISMATCH, accepted, mismatch}
 use Rattle.laws.proofs.Count.{by-bool}
 use Rattle.laws.proofs.FileBytes.{readFile-length}
 use Rattle.laws.proofs.Words.{words-length, opaque-length}
@@ -34,24 +35,27 @@ pub stopped-short : (p : Program) (xid stat : ℕ) → length (accepted xid stat
 unfolding mismatch
 stopped-short p xid stat =
     rw (accepted-length xid stat (mismatch p stat))
-    (by-bool (eqb stat 2) (λ t. rw (t, words-length) (lit≤ tt)) (λ t. rw t (lit≤ tt)))
+    (by-bool (eqb stat PROG-MISMATCH) (λ t. rw (t, words-length) (lit≤ tt)) (λ t. rw t (lit≤ tt)))
 
--- ---- the results of a procedure
+-- ---- the results of a procedure, which fit into the least reply space behind the head of the reply
+abbrev Short : List ℕ → Type 0
+Short results = 24 + length results ≤ leastReplyBytes
+
 renamed-short : (s : Store) (status : ℕ) (c d : HandleChange)
-    → length (words (status ∷ wccOption (handleChangeIn s c) ++ wccOption (handleChangeIn s d))) ≤ 4200
+    → Short (words (status ∷ wccOption (handleChangeIn s c) ++ wccOption (handleChangeIn s d)))
 renamed-short s status c d =
     let k = change-small s c in
     let l = change-small s d in
     rw (words-length, length-append) (omega arith)
 
-bytes-short : (ws bytes : List ℕ) → length ws ≡ 25 → length bytes ≤ 4096 → length (words ws ++ opaqueBytes bytes) ≤ 4200
+bytes-short : (ws bytes : List ℕ) → length ws ≡ 25 → length bytes ≤ mostTransferBytes → Short (words ws ++ opaqueBytes bytes)
 bytes-short ws bytes e h = rw (length-append, words-length, opaque-length) (omega arith)
 
-listed-short : (ws es vs : List ℕ) → length ws ≡ 25 → length vs ≡ 2 → 104 + length es ≤ 4096 → length (words ws ++ es ++ words vs) ≤ 4200
+listed-short : (ws es vs : List ℕ) → length ws ≡ 25 → length vs ≡ 2 → listingCost + length es ≤ mostTransferBytes → Short (words ws ++ es ++ words vs)
 listed-short ws es vs e f h = simp (length-append, words-length) (omega arith)
 
 module _ (s : Store) (p : ℕ) where
-  body-short : (r : Reply) → Writable s r → length (resultBytes p (resultOf s r)) ≤ 4200
+  body-short : (r : Reply) → Writable s r → Short (resultBytes p (resultOf s r))
   unfolding resultBytes words bytesOf opaqueBytes handleOf fattr3 postOp preOp wccData
   body-short Reply.Null w = lit≤ tt
   body-short (Reply.Dead status) w =
@@ -64,12 +68,12 @@ module _ (s : Store) (p : ℕ) where
   body-short (Reply.Found o d) w = lit≤ tt
   body-short (Reply.Granted o bits) w = lit≤ tt
   body-short (Reply.GotBytes o eof offset n) w =
-      bytes-short (0 ∷ postOp (attributes s (o .0)) ++ (length (readFile s (o .0) offset n) ∷ bit eof ∷ [])) (readFile s (o .0) offset n) refl
+      bytes-short (OK ∷ postOp (attributes s (o .0)) ++ (length (readFile s (o .0) offset n) ∷ bit eof ∷ [])) (readFile s (o .0) offset n) refl
       (rw readFile-length (w .few))
   body-short (Reply.Wrote c count verifier) w = lit≤ tt
   body-short (Reply.Created o d) w = lit≤ tt
   body-short (Reply.Listed d eof cookie n) w =
-      listed-short (0 ∷ postOp (attributes s (d .0)) ++ hyper 0) (entriesBytes (take n (entriesAbove cookie (entries s (d .0))))) (0 ∷ bit eof ∷ [])
+      listed-short (OK ∷ postOp (attributes s (d .0)) ++ hyper 0) (entriesBytes (take n (entriesAbove cookie (entries s (d .0))))) (0 ∷ bit eof ∷ [])
       refl refl (w .few)
   body-short (Reply.GotRoom o total free objects available) w = lit≤ tt
   body-short (Reply.GotLimits o) w = lit≤ tt
@@ -77,7 +81,7 @@ module _ (s : Store) (p : ℕ) where
   body-short (Reply.Committed c verifier) w = lit≤ tt
 
   -- a reply is at most the least reply space
-  pub reply-short : (xid : ℕ) (r : Reply) → Writable s r → length (accepted xid 0 (resultBytes p (resultOf s r))) ≤ 4224
+  pub reply-short : (xid : ℕ) (r : Reply) → Writable s r → length (accepted xid SUCCESS (resultBytes p (resultOf s r))) ≤ leastReplyBytes
   reply-short xid r w =
       let k = body-short r w in
-      rw (accepted-length xid 0 (resultBytes p (resultOf s r))) (omega arith)
+      rw (accepted-length xid SUCCESS (resultBytes p (resultOf s r))) (omega arith)

@@ -2,6 +2,7 @@
 ghost use mathlib.Core.Path.{_≡_};
 ghost use Prim.Native.Nat.{_≤_};
 ghost use lib.ListN.{length};
+ghost use Rattle.kinds.specs.Numbers.{leastReplyBytes};
 ghost use Rattle.spec.specs.Arguments.{arguments};
 ghost use Rattle.spec.specs.Procedures.{act};
 ghost use Rattle.spec.specs.Rpc.{nfs, accepted, judge, mismatch};
@@ -19,6 +20,7 @@ use kinds::call::Arguments;
 use kinds::call::CallHeader;
 use kinds::call::Cursor;
 use kinds::call::Header;
+use kinds::numbers::Limit;
 use kinds::numbers::Message;
 use kinds::object::Context;
 use reply_whole::result::put_result;
@@ -30,7 +32,7 @@ use rpc::outcome::put_stopped;
 
 // The reply to a call whose procedure does not run.
 fn stop(reply: &mut [u8], xid: u32, stat: u32) -> u32
-    requires { ⌜ 4224 ≤ length (now reply) ⌝ }
+    requires { ⌜ leastReplyBytes ≤ length (now reply) ⌝ }
     ensures { λ n. ⌜ Wrote n (now (reply .entry)) (now (reply .exit)) 0 n (accepted xid stat (mismatch nfs stat)) ⌝ }
 {
     let next = put_stopped(reply, Program::nfs(), xid, stat);
@@ -41,15 +43,15 @@ fn stop(reply: &mut [u8], xid: u32, stat: u32) -> u32
 fn finish(
     store: &mut [u8],
     reply: &mut [u8],
-    used: &[u8; 1024],
+    used: &[u8; Limit::MOST_BLOCKS],
     context: Context,
     call: &[u8],
     h: CallHeader,
     a: Arguments,
 ) -> u32
-    requires { ⌜ 4224 ≤ length (now reply) ⌝ }
+    requires { ⌜ leastReplyBytes ≤ length (now reply) ⌝ }
     requires { ⌜ Ready (now store) (now used) context ⌝ }
-    requires { ⌜ h .procedure ≤ 21 ⌝ }
+    requires { ⌜ h .procedure ≤ nfs .last ⌝ }
     requires { ⌜ Within (length (now call)) a ⌝ }
     requires { ⌜ FitsArguments a ⌝ }
     ensures { λ n. ⌜ Sends (finish h (act (now (store .entry)) context (now (call .entry)) a)) n (now (reply .entry)) (now (reply .exit)) (now (store .exit)) ⌝ }
@@ -65,16 +67,16 @@ fn finish(
 fn perform(
     store: &mut [u8],
     reply: &mut [u8],
-    used: &[u8; 1024],
+    used: &[u8; Limit::MOST_BLOCKS],
     context: Context,
     call: &[u8],
     h: CallHeader,
     c: Cursor,
     read: ArgumentsRead,
 ) -> u32
-    requires { ⌜ 4224 ≤ length (now reply) ⌝ }
+    requires { ⌜ leastReplyBytes ≤ length (now reply) ⌝ }
     requires { ⌜ Ready (now store) (now used) context ⌝ }
-    requires { ⌜ h .procedure ≤ 21 ⌝ }
+    requires { ⌜ h .procedure ≤ nfs .last ⌝ }
     requires { ⌜ argumentsOf read ≡ arguments (h .procedure) (now call) (c .at) ⌝ }
     ensures { λ n. ⌜ Sends (perform (now (store .entry)) context (now (call .entry)) h (arguments (h .procedure) (now (call .entry)) (c .at))) n (now (reply .entry)) (now (reply .exit)) (now (store .exit)) ⌝ }
 {
@@ -89,14 +91,14 @@ fn perform(
 fn answer(
     store: &mut [u8],
     reply: &mut [u8],
-    used: &[u8; 1024],
+    used: &[u8; Limit::MOST_BLOCKS],
     context: Context,
     call: &[u8],
     h: CallHeader,
     c: Cursor,
     read: ArgumentsRead,
 ) -> u32
-    requires { ⌜ 4224 ≤ length (now reply) ⌝ }
+    requires { ⌜ leastReplyBytes ≤ length (now reply) ⌝ }
     requires { ⌜ Ready (now store) (now used) context ⌝ }
     requires { ⌜ argumentsOf read ≡ arguments (h .procedure) (now call) (c .at) ⌝ }
     ensures { λ n. ⌜ Sends (answer (now (store .entry)) context (now (call .entry)) h (c .at) (judge nfs h)) n (now (reply .entry)) (now (reply .exit)) (now (store .exit)) ⌝ }
@@ -113,14 +115,14 @@ fn answer(
 pub fn respond(
     store: &mut [u8],
     reply: &mut [u8],
-    used: &[u8; 1024],
+    used: &[u8; Limit::MOST_BLOCKS],
     context: Context,
     call: &[u8],
     h: Header,
     c: Cursor,
     read: ArgumentsRead,
 ) -> u32
-    requires { ⌜ 4224 ≤ length (now reply) ⌝ }
+    requires { ⌜ leastReplyBytes ≤ length (now reply) ⌝ }
     requires { ⌜ Ready (now store) (now used) context ⌝ }
     requires { ⌜ argumentsOf read ≡ arguments (namedProcedure h) (now call) (c .at) ⌝ }
     ensures { λ n. ⌜ Sends (respond (now (store .entry)) context (now (call .entry)) h (c .at)) n (now (reply .entry)) (now (reply .exit)) (now (store .exit)) ⌝ }

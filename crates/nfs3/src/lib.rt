@@ -1,4 +1,4 @@
-// The entries that a C program calls.
+// The functions that a C program calls.
 ghost use mathlib.Core.Path.{_≡_};
 ghost use Rattle.spec.specs.Serve.{serve, check, format};
 ghost use Rattle.nfs3.specs.Answers.{answerOf, timeOf, contextOf, Formats, Serves};
@@ -9,6 +9,7 @@ use fsck::check::check_store;
 use fsck::format::format_store;
 use fsck::shape::Found;
 use kinds::numbers::Answer;
+use kinds::numbers::Limit;
 use kinds::object::Context;
 use kinds::object::Time;
 
@@ -29,7 +30,7 @@ pub extern "C" fn nfs3_call(
         nanoseconds,
     };
     let context = Context { clock, verifier };
-    let mut used = [0u8; 1024];
+    let mut used = [0u8; Limit::MOST_BLOCKS];
     let opened = open(call, store, reply, context, &mut used);
     match opened {
         Opened::Refused(number) => Answer { number, length: 0 },
@@ -48,8 +49,8 @@ pub extern "C" fn nfs3_call(
 pub extern "C" fn nfs3_check(store: &[u8]) -> Answer
     ensures { λ r. ⌜ r ≡ answerOf (check (now (store .entry))) ⌝ }
 {
-    let mut used = [0u8; 1024];
-    let mut parents = [0u8; 64];
+    let mut used = [0u8; Limit::MOST_BLOCKS];
+    let mut parents = [0u8; Limit::MOST_OBJECTS];
     let found = check_store(store, &mut used, &mut parents);
     match found {
         Found::Bad => Answer {

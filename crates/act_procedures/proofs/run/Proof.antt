@@ -1,11 +1,11 @@
-use mathlib.Core.Path.{subst}
+use mathlib.Core.Path.{refl, subst}
 use lib.ListN.{length}
 use borrow.Author.Needs.{needs}
+use Rattle.spec.specs.Procedures.{act}
 use Rattle.laws.proofs.Arguments.{Within}
 use Rattle.laws.proofs.ArgumentRange.{FitsArguments}
-use Rattle.act_procedures.proofs.Told.{good, told-null, told-unserved, told-getattr, told-setattr, told-lookup, told-access, told-read}
-use Rattle.act_procedures.proofs.Told.{told-write, told-create, told-mkdir, told-remove, told-rmdir, told-rename, told-readdir, told-fsstat}
-use Rattle.act_procedures.proofs.Told.{told-fsinfo, told-pathconf, told-commit}
+use Rattle.laws.proofs.Error.{getattr-store, lookup-store, access-store, read-store, readdir-store, fsstat-store, fsinfo-store, pathconf-store, commit-store}
+use Rattle.act_procedures.proofs.Told.{good, told, reading}
 use Rattle.act_procedures.proofs.run.Statement.{statement}
 use Rattle.act_procedures.proofs.run.Tie as tie
 
@@ -160,150 +160,176 @@ enum-told-2 : tie.Need-enum-told-2
 enum-told-2 c = search needs
 
 returns : tie.Need-returns
+unfolding act
 returns c =
     let a = c .before .before .before .before .args in
-    told-null (a .store .now) (a .context) (a .call .now) (a .a) (c .enum-told .given .1)
+    reading (a .store .now) (a .context) (a .call .now) (a .a) _ _ (c .enum-told .given .1) refl (refl, tt)
 
 same-length : tie.Need-same-length
 same-length c = search needs
 
 returns-2 : tie.Need-returns-2
+unfolding act
 returns-2 c =
     let a = c .before .before .before .before .before .before .before .args in
-    told-getattr (a .store .now) (a .context) (a .call .now) (a .a) _ (c .getattr .result) (c .before .before .before .a .given .1) (c .getattr .ensures)
+    reading (a .store .now) (a .context) (a .call .now) (a .a) _ (c .getattr .result) (c .before .before .before .a .given .1) (getattr-store _ _)
+    (c .getattr .ensures)
 
 same-length-2 : tie.Need-same-length-2
 same-length-2 c = search needs
 
 returns-3 : tie.Need-returns-3
+unfolding act
 returns-3 c =
     let a = c .before .before .before .before .before .before .before .before .before .args in
-    told-setattr (a .store .now) (a .context) (a .call .now) (a .a) _ _ _ _ _ (c .before .before .before .before .before .a2 .given .1)
+    told (a .store .now) (a .context) (a .call .now) (a .a) _ _ _ (c .before .before .before .before .before .a2 .given .1)
     (c .before .before .setattr .ensures)
 
 same-length-3 : tie.Need-same-length-3
 same-length-3 c = search needs
 
 returns-4 : tie.Need-returns-4
+unfolding act
 returns-4 c =
     let a = c .before .before .before .before .before .before .before .args in
-    told-lookup (a .store .now) (a .context) (a .call .now) (a .a) _ (c .lookup .result) (c .before .before .before .a3 .given .1) (c .lookup .ensures)
+    reading (a .store .now) (a .context) (a .call .now) (a .a) _ (c .lookup .result) (c .before .before .before .a3 .given .1) (lookup-store _ _ _)
+    (c .lookup .ensures)
 
 same-length-4 : tie.Need-same-length-4
 same-length-4 c = search needs
 
 returns-5 : tie.Need-returns-5
+unfolding act
 returns-5 c =
     let a = c .before .before .before .before .before .before .before .args in
-    told-access (a .store .now) (a .context) (a .call .now) (a .a) _ _ (c .access .result) (c .before .before .before .a4 .given .1) (c .access .ensures)
+    reading (a .store .now) (a .context) (a .call .now) (a .a) _ (c .access .result) (c .before .before .before .a4 .given .1) (access-store _ _ _)
+    (c .access .ensures)
 
 same-length-5 : tie.Need-same-length-5
 same-length-5 c = search needs
 
 returns-6 : tie.Need-returns-6
+unfolding act
 returns-6 c =
     let a = c .before .before .before .before .before .before .before .args in
-    told-read (a .store .now) (a .context) (a .call .now) (a .a) _ _ _ (c .read .result) (c .before .before .before .a5 .given .1) (c .read .ensures)
+    reading (a .store .now) (a .context) (a .call .now) (a .a) _ (c .read .result) (c .before .before .before .a5 .given .1) (read-store _ _ _ _)
+    (c .read .ensures)
 
 same-length-6 : tie.Need-same-length-6
 same-length-6 c = search needs
 
 returns-7 : tie.Need-returns-7
+unfolding act
 returns-7 c =
     let a = c .before .before .before .before .before .before .before .before .before .args in
-    told-write (a .store .now) (a .context) (a .call .now) (a .a) _ _ _ _ _ _ (c .before .before .before .before .before .a6 .given .1)
+    told (a .store .now) (a .context) (a .call .now) (a .a) _ _ _ (c .before .before .before .before .before .a6 .given .1)
     (c .before .before .write .ensures)
 
 same-length-7 : tie.Need-same-length-7
 same-length-7 c = search needs
 
 returns-8 : tie.Need-returns-8
+unfolding act
 returns-8 c =
     let a = c .before .before .before .before .before .before .before .before .before .args in
-    told-create (a .store .now) (a .context) (a .call .now) (a .a) _ _ _ _ (c .before .before .before .before .before .a7 .given .1)
+    told (a .store .now) (a .context) (a .call .now) (a .a) _ _ _ (c .before .before .before .before .before .a7 .given .1)
     (c .before .before .create .ensures)
 
 same-length-8 : tie.Need-same-length-8
 same-length-8 c = search needs
 
 returns-9 : tie.Need-returns-9
+unfolding act
 returns-9 c =
     let a = c .before .before .before .before .before .before .before .before .before .args in
-    told-mkdir (a .store .now) (a .context) (a .call .now) (a .a) _ _ _ _ (c .before .before .before .before .before .a8 .given .1)
+    told (a .store .now) (a .context) (a .call .now) (a .a) _ _ _ (c .before .before .before .before .before .a8 .given .1)
     (c .before .before .mkdir .ensures)
 
 same-length-9 : tie.Need-same-length-9
 same-length-9 c = search needs
 
 returns-10 : tie.Need-returns-10
+unfolding act
 returns-10 c =
     let a = c .before .before .before .before .before .before .before .before .before .args in
-    told-remove (a .store .now) (a .context) (a .call .now) (a .a) _ _ _ (c .before .before .before .before .before .a9 .given .1)
+    told (a .store .now) (a .context) (a .call .now) (a .a) _ _ _ (c .before .before .before .before .before .a9 .given .1)
     (c .before .before .remove .ensures)
 
 same-length-10 : tie.Need-same-length-10
 same-length-10 c = search needs
 
 returns-11 : tie.Need-returns-11
+unfolding act
 returns-11 c =
     let a = c .before .before .before .before .before .before .before .before .before .args in
-    told-rmdir (a .store .now) (a .context) (a .call .now) (a .a) _ _ _ (c .before .before .before .before .before .a10 .given .1)
+    told (a .store .now) (a .context) (a .call .now) (a .a) _ _ _ (c .before .before .before .before .before .a10 .given .1)
     (c .before .before .rmdir .ensures)
 
 same-length-11 : tie.Need-same-length-11
 same-length-11 c = search needs
 
 returns-12 : tie.Need-returns-12
+unfolding act
 returns-12 c =
     let a = c .before .before .before .before .before .before .before .before .before .args in
-    told-rename (a .store .now) (a .context) (a .call .now) (a .a) _ _ _ _ (c .before .before .before .before .before .a11 .given .1)
+    told (a .store .now) (a .context) (a .call .now) (a .a) _ _ _ (c .before .before .before .before .before .a11 .given .1)
     (c .before .before .rename .ensures)
 
 same-length-12 : tie.Need-same-length-12
 same-length-12 c = search needs
 
 returns-13 : tie.Need-returns-13
+unfolding act
 returns-13 c =
     let a = c .before .before .before .before .before .before .before .args in
-    told-readdir (a .store .now) (a .context) (a .call .now) (a .a) _ _ _ _ (c .readdir .result) (c .before .before .before .a12 .given .1)
+    reading (a .store .now) (a .context) (a .call .now) (a .a) _ (c .readdir .result) (c .before .before .before .a12 .given .1) (readdir-store _ _ _ _ _)
     (c .readdir .ensures)
 
 same-length-13 : tie.Need-same-length-13
 same-length-13 c = search needs
 
 returns-14 : tie.Need-returns-14
+unfolding act
 returns-14 c =
     let a = c .before .before .before .before .before .before .before .args in
-    told-fsstat (a .store .now) (a .context) (a .call .now) (a .a) _ (c .fsstat .result) (c .before .before .before .a13 .given .1) (c .fsstat .ensures)
+    reading (a .store .now) (a .context) (a .call .now) (a .a) _ (c .fsstat .result) (c .before .before .before .a13 .given .1) (fsstat-store _ _)
+    (c .fsstat .ensures)
 
 same-length-14 : tie.Need-same-length-14
 same-length-14 c = search needs
 
 returns-15 : tie.Need-returns-15
+unfolding act
 returns-15 c =
     let a = c .before .before .before .before .before .before .before .args in
-    told-fsinfo (a .store .now) (a .context) (a .call .now) (a .a) _ (c .fsinfo .result) (c .before .before .before .a14 .given .1) (c .fsinfo .ensures)
+    reading (a .store .now) (a .context) (a .call .now) (a .a) _ (c .fsinfo .result) (c .before .before .before .a14 .given .1) (fsinfo-store _ _)
+    (c .fsinfo .ensures)
 
 same-length-15 : tie.Need-same-length-15
 same-length-15 c = search needs
 
 returns-16 : tie.Need-returns-16
+unfolding act
 returns-16 c =
     let a = c .before .before .before .before .before .before .before .args in
-    told-pathconf (a .store .now) (a .context) (a .call .now) (a .a) _ (c .pathconf .result) (c .before .before .before .a15 .given .1) (c .pathconf .ensures)
+    reading (a .store .now) (a .context) (a .call .now) (a .a) _ (c .pathconf .result) (c .before .before .before .a15 .given .1) (pathconf-store _ _)
+    (c .pathconf .ensures)
 
 same-length-16 : tie.Need-same-length-16
 same-length-16 c = search needs
 
 returns-17 : tie.Need-returns-17
+unfolding act
 returns-17 c =
     let a = c .before .before .before .before .before .before .before .args in
-    told-commit (a .store .now) (a .context) (a .call .now) (a .a) _ (c .commit .result) (c .before .before .before .a16 .given .1) (c .commit .ensures)
+    reading (a .store .now) (a .context) (a .call .now) (a .a) _ (c .commit .result) (c .before .before .before .a16 .given .1) (commit-store _ _ _)
+    (c .commit .ensures)
 
 returns-18 : tie.Need-returns-18
+unfolding act
 returns-18 c =
     let a = c .before .before .before .before .args in
-    told-unserved (a .store .now) (a .context) (a .call .now) (a .a) (c .enum-told2 .given .1)
+    reading (a .store .now) (a .context) (a .call .now) (a .a) _ _ (c .enum-told2 .given .1) refl (refl, tt)
 
 pub run-spec : {M : Type 1} → statement M
 run-spec =

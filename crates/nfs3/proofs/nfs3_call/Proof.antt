@@ -1,3 +1,4 @@
+use Rattle.kinds.specs.Numbers.{mostBlocks}
 use Rattle.fsck.proofs.Steps.{blank-of}
 use Rattle.nfs3.proofs.Answered.{serves-refused, serves-sent}
 use borrow.Author.Needs.{needs}
@@ -5,7 +6,7 @@ use Rattle.nfs3.proofs.nfs3_call.Statement.{statement}
 use Rattle.nfs3.proofs.nfs3_call.Tie as tie
 
 open-requires : tie.Need-open-requires
-open-requires c κs = blank-of 1024
+open-requires c κs = blank-of mostBlocks
 
 enum-known-opened : tie.Need-enum-known-opened
 enum-known-opened c = search needs

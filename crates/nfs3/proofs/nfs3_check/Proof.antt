@@ -1,4 +1,5 @@
 use mathlib.Core.Path.{sym, _∙_}
+use Rattle.kinds.specs.Numbers.{mostBlocks, mostObjects}
 use Rattle.fsck.proofs.Steps.{blank-of}
 use Rattle.fsck.proofs.Verdict.{bad-fails, good-passes}
 use Rattle.nfs3.proofs.Answered.{answer-bad, answer-good}
@@ -7,7 +8,7 @@ use Rattle.nfs3.proofs.nfs3_check.Statement.{statement}
 use Rattle.nfs3.proofs.nfs3_check.Tie as tie
 
 check-store-requires : tie.Need-check-store-requires
-check-store-requires c κs = (blank-of 1024, blank-of 64)
+check-store-requires c κs = (blank-of mostBlocks, blank-of mostObjects)
 
 enum-told : tie.Need-enum-told
 enum-told c = search needs
