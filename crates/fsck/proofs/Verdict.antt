@@ -11,10 +11,11 @@ use Rattle.spec.specs.Image.{Store, objects, names}
 use Rattle.spec.specs.Room.{isDirectory, uses, isFreeBlock}
 use Rattle.spec.specs.Check.{goodShape, goodRoot, passes}
 use Rattle.laws.proofs.Count.{by-bool, true-false}
+use Rattle.laws.proofs.Demands.{passes-by}
 use Rattle.laws.proofs.Valid.{Shaped, shaped, shape-true}
 use Rattle.store_blocks.specs.Blocks.{UsedMap}
 use Rattle.fsck_objects.specs.Objects.{UsedBy, ObjectsPass}
-use Rattle.fsck_objects.proofs.Passes.{passes-by, fails-shape, fails-root}
+use Rattle.fsck_objects.proofs.Passes.{fails-shape, fails-root}
 use Rattle.fsck_blocks.proofs.Places.{used-once}
 use Rattle.fsck_names.specs.Names.{NamesPass}
 use Rattle.fsck_names.proofs.Whole.{distinct-all}
@@ -70,11 +71,11 @@ checked-good s k used t e g a b =
     let y = passes-by s (record {
       shape = shape-true s t;
       root = g;
-      good = a .good;
+      good-objects = a .good;
       good-names = b .good;
       distinct = b .distinct;
       named = b .named;
-      used = used-once s used (a .map);
+      used-once = used-once s used (a .map);
       leads = b .leads;
     }) in
     record { is = ap (λ (c : Counts). Good c) e ∙ sym (ap (λ (x : Bool). foundIf x s) y); map = λ q. used-map s used (a .map) }

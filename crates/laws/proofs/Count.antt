@@ -54,10 +54,6 @@ unfolding sum
 sum-add zero f g = refl
 sum-add (suc n) f g = let r = sum-add n f g in omega arith
 
-pub sum-grows : (f : ℕ → ℕ) (n m : ℕ) → n ≤ m → sum n f ≤ sum m f
-unfolding sum
-sum-grows f n m h = le-ind (λ (k : ℕ). sum n f ≤ sum k f) (omega arith) (λ k l q. omega arith) m h
-
 -- a term is at most the sum, and where every term is 0 the sum is 0
 pub sum-at : (n i : ℕ) (f : ℕ → ℕ) → i < n → f i ≤ sum n f
 unfolding sum
