@@ -6,6 +6,8 @@ ghost use lib.ListN.{length, replicate};
 ghost use Rattle.spec.specs.Bytes.{beAt, overlay, bytesOf, part, sameBytes};
 ghost use Rattle.wire.specs.LowFirst.{lowFirst};
 
+pub mod names; // the names "." and ".."
+
 // The smaller of two numbers.
 pub fn smaller(a: usize, b: usize) -> usize
     ensures { λ r. ⌜ r ≡ min a b ⌝ }
