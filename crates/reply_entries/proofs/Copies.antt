@@ -46,13 +46,16 @@ pub padded-name : (s : Store) (n at len : ℕ) → GoodRecords s → n < names s
 padded-name s n at len g l p q =
     let h = g .sound .shaped in
     let k = g .sound .short n l in
-    let z = zero-within s (nameStart s n + textOffset + nameLength s n) (mostNameBytes - nameLength s n) 0 (padding len) (record-padded s n (g .good-names n l)) (omega arith) in
+    let z = zero-within s (nameStart s n + textOffset + nameLength s n) (mostNameBytes - nameLength s n) 0 (padding len)
+    (record-padded s n (g .good-names n l)) (omega arith) in
     let e : at + textOffset + len ≡ nameStart s n + textOffset + nameLength s n + 0 = omega arith in
     record {
       bytes = g .sound .bytes;
       short = omega arith;
       inside = omega arith;
-      padded = part-add s (at + textOffset) len (padding len) ∙ ap (λ (x : List ℕ). part s (at + textOffset) len ++ x) (ap (λ (x : ℕ). part s x (padding len)) e ∙ z);
+      padded =
+          part-add s (at + textOffset) len (padding len)
+          ∙ ap (λ (x : List ℕ). part s (at + textOffset) len ++ x) (ap (λ (x : ℕ). part s x (padding len)) e ∙ z);
     }
 
 -- ---- "." and "..", padded

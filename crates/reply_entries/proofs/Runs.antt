@@ -27,7 +27,7 @@ use Rattle.store_search.proofs.Named.{in-directory}
 use Rattle.xdr.specs.Wrote.{Wrote}
 use Rattle.xdr.proofs.Wrote.{wrote-none, wrote-length, andThen, sized}
 use Rattle.reply_entries.specs.declared.Place.{Place}
-use Rattle.reply_entries.specs.Entries.{entry, dots, entryIn, Sent}
+use Rattle.reply_entries.specs.Entries.{entry, dots, entryIn, WroteEntries}
 
 -- how many bytes the entries that are still sent take
 abbrev pub cost : Place → List Entry → ℕ
@@ -52,20 +52,21 @@ pub one-cost : (p : Place) (cookie : ℕ) (e : Entry) → cookie < e .cookie →
 one-cost p cookie e h l = rw (above-high cookie e h, one-bytes (p .left) e l) (entry-length e)
 
 -- ---- runs
-pub sent-none : (r : List ℕ) (p : Place) → p .at ≤ length r → Sent [] r r p p
+pub entries-none : (r : List ℕ) (p : Place) → p .at ≤ length r → WroteEntries [] r r p p
 unfolding entriesBytes
-sent-none r p h = record { wrote = rw (take-nil (p .left)) (wrote-none r (p .at) h); left = omega arith }
+entries-none r p h = record { wrote = rw (take-nil (p .left)) (wrote-none r (p .at) h); left = omega arith }
 
-pub sent-full : (es : List Entry) (r : List ℕ) (p : Place) → p .left ≡ 0 → p .at ≤ length r → Sent es r r p p
+pub entries-full : (es : List Entry) (r : List ℕ) (p : Place) → p .left ≡ 0 → p .at ≤ length r → WroteEntries es r r p p
 unfolding entriesBytes
-sent-full es r p e h = record { wrote = rw e (wrote-none r (p .at) h); left = omega arith }
+entries-full es r p e h = record { wrote = rw e (wrote-none r (p .at) h); left = omega arith }
 
-pub sent-one : (e : Entry) (p : Place) {n next : ℕ} {r r₁ : List ℕ} → 0 < p .left → Wrote n r r₁ (p .at) next (entryBytes e)
-    → Sent (e ∷ []) r r₁ p (record { at = next; left = p .left - 1 })
-sent-one e p h w = record { wrote = rw (one-bytes (p .left) e h) (sized (entryBytes e) w); left = refl }
+pub entries-one : (e : Entry) (p : Place) {n next : ℕ} {r r₁ : List ℕ} → 0 < p .left → Wrote n r r₁ (p .at) next (entryBytes e)
+    → WroteEntries (e ∷ []) r r₁ p (record { at = next; left = p .left - 1 })
+entries-one e p h w = record { wrote = rw (one-bytes (p .left) e h) (sized (entryBytes e) w); left = refl }
 
-pub sent-append : (xs ys : List Entry) {r r₁ r₂ : List ℕ} {p q t : Place} → Sent xs r r₁ p q → Sent ys r₁ r₂ q t → Sent (xs ++ ys) r r₂ p t
-sent-append xs ys {r} {r₁} {r₂} {p} {q} {t} a b =
+pub entries-append : (xs ys : List Entry) {r r₁ r₂ : List ℕ} {p q t : Place} → WroteEntries xs r r₁ p q → WroteEntries ys r₁ r₂ q t
+    → WroteEntries (xs ++ ys) r r₂ p t
+entries-append xs ys {r} {r₁} {r₂} {p} {q} {t} a b =
     record {
       wrote = rw (taken-bytes (p .left) xs ys, ← a .left) (sized _ (andThen (a .wrote) (b .wrote)));
       left = omega (arith, a .left, b .left, length-append xs ys);
@@ -77,7 +78,7 @@ front-room p xs ys r h =
     let e = ap length (taken-bytes (p .left) xs ys) in
     omega (arith, e, length-append (entriesBytes (take (p .left) xs)) (entriesBytes (take (p .left - length xs) ys)))
 
-pub rest-room : (xs ys : List Entry) {r r₁ : List ℕ} {p q : Place} → Sent xs r r₁ p q → p .at + cost p (xs ++ ys) ≤ length r
+pub rest-room : (xs ys : List Entry) {r r₁ : List ℕ} {p q : Place} → WroteEntries xs r r₁ p q → p .at + cost p (xs ++ ys) ≤ length r
     → q .at + cost q ys ≤ length r₁
 rest-room xs ys {r} {r₁} {p} {q} a h =
     let e = ap length (taken-bytes (p .left) xs ys) in
@@ -106,7 +107,7 @@ module _ (s : Store) (cookie d : ℕ) where
   above-more n = ap above (passing-more (entryOf s) (isIn s d) n) ∙ above-append cookie (namedEntries s d n) (entryIn s d n)
 
   -- the room for the entry of record n, behind those of the records below it
-  pub name-room : (n m : ℕ) {r r₁ : List ℕ} {p q : Place} → n < m → Sent (above (namedEntries s d n)) r r₁ p q
+  pub name-room : (n m : ℕ) {r r₁ : List ℕ} {p q : Place} → n < m → WroteEntries (above (namedEntries s d n)) r r₁ p q
       → p .at + cost p (above (namedEntries s d m)) ≤ length r → q .at + cost q (above (entryIn s d n)) ≤ length r₁
   name-room n m {r} {r₁} {p} {q} l a h =
       let later = map (entryOf s) (drop (length (passing (n + 1) (isIn s d))) (passing m (isIn s d))) in
@@ -116,13 +117,13 @@ module _ (s : Store) (cookie d : ℕ) where
       (front-room p (above (namedEntries s d n) ++ above (entryIn s d n)) (above later) r (rw e at h))
 
   -- where no more are sent, what was sent of the records below n was sent of those below m
-  pub sent-rest : (n m : ℕ) {r r₁ : List ℕ} {p q : Place} → n ≤ m → q .left ≡ 0 → Sent (above (namedEntries s d n)) r r₁ p q
-      → Sent (above (namedEntries s d m)) r r₁ p q
-  sent-rest n m {r} {r₁} {p} {q} l z a =
+  pub entries-rest : (n m : ℕ) {r r₁ : List ℕ} {p q : Place} → n ≤ m → q .left ≡ 0 → WroteEntries (above (namedEntries s d n)) r r₁ p q
+      → WroteEntries (above (namedEntries s d m)) r r₁ p q
+  entries-rest n m {r} {r₁} {p} {q} l z a =
       let later = map (entryOf s) (drop (length (passing n (isIn s d))) (passing m (isIn s d))) in
       let e = ap above (passing-split (entryOf s) (isIn s d) n m l) ∙ above-append cookie (namedEntries s d n) later in
       let k = wrote-length (a .wrote) in
-      rw e (sent-append (above (namedEntries s d n)) (above later) a (sent-full (above later) r₁ q z (omega (arith, k, a .wrote .place, a .wrote .fits))))
+      rw e (entries-append (above (namedEntries s d n)) (above later) a (entries-full (above later) r₁ q z (omega (arith, k, a .wrote .place, a .wrote .fits))))
 
 -- ---- the objects of a used name record, and the parent of an object, are objects
 used-record : (s : Store) (n : ℕ) → GoodRecords s → n < names s → isUsedName s n ≡ true → UsedName s n
@@ -182,6 +183,6 @@ entry-of s n c at len p q r =
     ∙ ap (λ (x : ℕ). entry (nameAt s n .child + 1) (part s (nameStart s n + textOffset) x) (n + 3)) r
 
 -- what was sent of one entry was sent of an equal one
-pub sent-equal : (cookie : ℕ) {e f : Entry} {r r₁ : List ℕ} {p q : Place} → e ≡ f → Sent (entriesAbove cookie (e ∷ [])) r r₁ p q
-    → Sent (entriesAbove cookie (f ∷ [])) r r₁ p q
-sent-equal cookie {e} {f} {r} {r₁} {p} {q} x w = subst (λ (y : Entry). Sent (entriesAbove cookie (y ∷ [])) r r₁ p q) x w
+pub entries-equal : (cookie : ℕ) {e f : Entry} {r r₁ : List ℕ} {p q : Place} → e ≡ f → WroteEntries (entriesAbove cookie (e ∷ [])) r r₁ p q
+    → WroteEntries (entriesAbove cookie (f ∷ [])) r r₁ p q
+entries-equal cookie {e} {f} {r} {r₁} {p} {q} x w = subst (λ (y : Entry). WroteEntries (entriesAbove cookie (y ∷ [])) r r₁ p q) x w

@@ -34,6 +34,6 @@ pub record PaddedName (b : List ℕ) (from n : ℕ) : Type 0 where
   pub padded : part b from (n + padding n) ≡ part b from n ++ zeros (padding n)
 
 -- of the entries es as many as may be sent were written at a place; the place behind them has what is left
-pub record Sent (es : List Entry) (before after : List ℕ) (p q : Place) : Type 0 where
+pub record WroteEntries (es : List Entry) (before after : List ℕ) (p q : Place) : Type 0 where
   pub wrote : Wrote (length (entriesBytes (take (p .left) es))) before after (p .at) (q .at) (entriesBytes (take (p .left) es))
   pub left : q .left ≡ p .left - length es

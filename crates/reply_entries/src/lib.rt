@@ -12,7 +12,7 @@ ghost use Rattle.laws.proofs.GoodRecords.{GoodRecords};
 ghost use Rattle.laws.proofs.Range.{Below};
 ghost use Rattle.results.specs.Writable.{Listable};
 ghost use Rattle.xdr.specs.Wrote.{Wrote};
-ghost use Rattle.reply_entries.specs.Entries.{PaddedName, entry, dots, entryIn, Sent};
+ghost use Rattle.reply_entries.specs.Entries.{PaddedName, entry, dots, entryIn, WroteEntries};
 use kinds::layout::NameRecord;
 use kinds::numbers::NameNumber;
 use kinds::numbers::ObjectNumber;
@@ -89,7 +89,7 @@ fn put_above(
 ) -> Place
     requires { ⌜ PaddedName (now src) from len ⌝ }
     requires { ⌜ p .at + length (entriesBytes (take (p .left) (entriesAbove cookie (entry fileid (part (now src) from len) number ∷ [])))) ≤ length (now reply) ⌝ }
-    ensures { λ q. ⌜ Sent (entriesAbove cookie (entry fileid (part (now (src .entry)) from len) number ∷ [])) (now (reply .entry)) (now (reply .exit)) p q ⌝ }
+    ensures { λ q. ⌜ WroteEntries (entriesAbove cookie (entry fileid (part (now (src .entry)) from len) number ∷ [])) (now (reply .entry)) (now (reply .exit)) p q ⌝ }
 {
     if cookie >= number as u64 {
         return p;
@@ -117,7 +117,7 @@ fn put_dots(
     requires { ⌜ directory .0 < mostObjects ⌝ }
     requires { ⌜ parent .0 < mostObjects ⌝ }
     requires { ⌜ p .at + length (entriesBytes (take (p .left) (entriesAbove cookie (dots (directory .0) (parent .0))))) ≤ length (now reply) ⌝ }
-    ensures { λ q. ⌜ Sent (entriesAbove cookie (dots (directory .0) (parent .0))) (now (reply .entry)) (now (reply .exit)) p q ⌝ }
+    ensures { λ q. ⌜ WroteEntries (entriesAbove cookie (dots (directory .0) (parent .0))) (now (reply .entry)) (now (reply .exit)) p q ⌝ }
 {
     let text = [0x2Eu8, 0x2E, 0, 0, 0];
     let q = put_above(reply, p, directory.0 as u32 + 1, &text, 1, 1, 1, cookie);
@@ -138,7 +138,7 @@ fn put_name(
     requires { ⌜ n .0 < names (now store) ⌝ }
     requires { ⌜ at ≡ nameStart (now store) (n .0) ⌝ }
     requires { ⌜ p .at + length (entriesBytes (take (p .left) (entriesAbove cookie (entryIn (now store) (directory .0) (n .0))))) ≤ length (now reply) ⌝ }
-    ensures { λ q. ⌜ Sent (entriesAbove cookie (entryIn (now (store .entry)) (directory .0) (n .0))) (now (reply .entry)) (now (reply .exit)) p q ⌝ }
+    ensures { λ q. ⌜ WroteEntries (entriesAbove cookie (entryIn (now (store .entry)) (directory .0) (n .0))) (now (reply .entry)) (now (reply .exit)) p q ⌝ }
 {
     if wire::get_u32(store, at) as usize != directory.0 {
         return p;
@@ -171,7 +171,7 @@ fn put_names(
 ) -> Place
     requires { ⌜ GoodRecords (now store) ⌝ }
     requires { ⌜ p .at + length (entriesBytes (take (p .left) (entriesAbove cookie (namedEntries (now store) (directory .0) (names (now store)))))) ≤ length (now reply) ⌝ }
-    ensures { λ q. ⌜ Sent (entriesAbove cookie (namedEntries (now (store .entry)) (directory .0) (names (now (store .entry))))) (now (reply .entry)) (now (reply .exit)) p q ⌝ }
+    ensures { λ q. ⌜ WroteEntries (entriesAbove cookie (namedEntries (now (store .entry)) (directory .0) (names (now (store .entry))))) (now (reply .entry)) (now (reply .exit)) p q ⌝ }
 {
     let total = name_count(store);
     let mut start = names_start(store);

@@ -34,7 +34,8 @@ block-first s o j k e =
     let r : j % blockLength ≡ 0 = omega arith in
     rw (q, r) (omega arith)
 
-block-rest : (s : Store) (o i : ℕ) → byteAt s o i + (blockLength - i % blockLength) ≡ blockStart s (getD (objectAt s o .blocks) (i / blockLength) 0) + blockLength
+block-rest : (s : Store) (o i : ℕ)
+    → byteAt s o i + (blockLength - i % blockLength) ≡ blockStart s (getD (objectAt s o .blocks) (i / blockLength) 0) + blockLength
 unfolding byteAt
 block-rest s o i = omega arith
 

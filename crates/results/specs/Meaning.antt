@@ -1,7 +1,5 @@
 -- What each reply value stands for, by the store that it is written from.
-use Prim.Native.Nat.{ℕ}
 use mathlib.Core.Option.{Option, some, none}
-use mathlib.Core.Path.{_≡_}
 use lib.ListN.{take}
 use Rattle.kinds.specs.declared.object.Change.{Change}
 use Rattle.kinds.specs.declared.numbers.ObjectNumber.{ObjectNumber}

@@ -25,7 +25,8 @@ same-length : tie.Need-same-length
 same-length c = search needs
 
 returns : tie.Need-returns
-returns c = andThen (andThen (c .before .before .before .before .before .before .before .before .before .before .before .before .put-words .ensures) (c .before .before .before .before .before .before .before .before .put-entries .ensures))
+returns c = andThen (andThen (c .before .before .before .before .before .before .before .before .before .before .before .before .put-words .ensures)
+    (c .before .before .before .before .before .before .before .before .put-entries .ensures))
     (rw (c .before .before .before .before .before .flag .ensures) at (c .before .before .put-words2 .ensures))
 
 pub put-listing-spec : {M : Type 1} → statement M

@@ -22,7 +22,8 @@ same-length : tie.Need-same-length
 same-length c = search needs
 
 returns : tie.Need-returns
-returns c = andThen (rw (c .before .before .before .before .before .before .before .before .before .flag .ensures) at (c .before .before .before .before .before .before .put-words .ensures)) (c .before .before .put-file-bytes .ensures)
+returns c = andThen (rw (c .before .before .before .before .before .before .before .before .before .flag .ensures) at
+    (c .before .before .before .before .before .before .put-words .ensures)) (c .before .before .put-file-bytes .ensures)
 
 pub put-read-bytes-spec : {M : Type 1} → statement M
 put-read-bytes-spec =

@@ -16,7 +16,8 @@ same-length c = search needs
 returns : tie.Need-returns
 returns c =
     let a = c .before .before .before .before .before .before .args in
-    rw (room-words (a .total) (a .free) (a .objects) (a .available) (omega arith) (omega arith) (omega arith) (omega arith)) (c .before .before .put-words .ensures)
+    rw (room-words (a .total) (a .free) (a .objects) (a .available) (omega arith) (omega arith) (omega arith) (omega arith))
+    (c .before .before .put-words .ensures)
 
 pub put-room-spec : {M : Type 1} → statement M
 put-room-spec =

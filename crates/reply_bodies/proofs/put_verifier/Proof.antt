@@ -18,7 +18,8 @@ same-length : tie.Need-same-length
 same-length c = search needs
 
 returns : tie.Need-returns
-returns c = simp (c .before .before .before .before .before .low .ensures, c .before .before .before .before .before .before .high .ensures) at (c .before .before .put-words .ensures)
+returns c = simp (c .before .before .before .before .before .low .ensures, c .before .before .before .before .before .before .high .ensures) at
+    (c .before .before .put-words .ensures)
 
 pub put-verifier-spec : {M : Type 1} → statement M
 put-verifier-spec =

@@ -1,7 +1,7 @@
 use native.Mathlib.Omega.{arith}
 use Rattle.spec.specs.Bytes.{part}
 use Rattle.reply_entries.specs.Entries.{entry}
-use Rattle.reply_entries.proofs.Runs.{above-low, above-high, one-cost, sent-none, sent-full, sent-one}
+use Rattle.reply_entries.proofs.Runs.{above-low, above-high, one-cost, entries-none, entries-full, entries-one}
 use Rattle.laws.proofs.Bytes.{part-length}
 use borrow.Author.Needs.{needs}
 use Rattle.reply_entries.proofs.put_above.Statement.{statement}
@@ -11,12 +11,12 @@ returns : tie.Need-returns
 returns c =
     let a = c .before .before .before .args in
     rw (above-low (a .cookie) (entry (a .fileid) (part (a .src .now) (a .from) (a .len)) (a .number)) (c .if1 .taken))
-    (sent-none (a .reply .now) (a .p) (omega arith))
+    (entries-none (a .reply .now) (a .p) (omega arith))
 
 returns-2 : tie.Need-returns-2
 returns-2 c =
     let a = c .before .before .before .before .args in
-    sent-full _ (a .reply .now) (a .p) (c .if2 .taken) (omega arith)
+    entries-full _ (a .reply .now) (a .p) (c .if2 .taken) (omega arith)
 
 put-entry-requires : tie.Need-put-entry-requires
 put-entry-requires c κs =
@@ -37,7 +37,7 @@ returns-3 c =
     let a = c .before .before .before .before .before .before .before .before .args in
     rw (above-high (a .cookie) (entry (a .fileid) (part (a .src .now) (a .from) (a .len)) (a .number))
     (c .before .before .before .before .before .if1 .left))
-    (sent-one (entry (a .fileid) (part (a .src .now) (a .from) (a .len)) (a .number)) (a .p) (omega arith)
+    (entries-one (entry (a .fileid) (part (a .src .now) (a .from) (a .len)) (a .number)) (a .p) (omega arith)
     (c .before .before .put-entry .ensures))
 
 pub put-above-spec : {M : Type 1} → statement M

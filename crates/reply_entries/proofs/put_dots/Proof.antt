@@ -4,7 +4,7 @@ use Rattle.spec.specs.Bytes.{part}
 use Rattle.spec.specs.Procedures.Listing.{entriesAbove}
 use Rattle.reply_entries.specs.Entries.{entry}
 use Rattle.reply_entries.proofs.Copies.{padded-dot, padded-dots}
-use Rattle.reply_entries.proofs.Runs.{above-dots, sent-append, front-room, rest-room}
+use Rattle.reply_entries.proofs.Runs.{above-dots, entries-append, front-room, rest-room}
 use borrow.Author.Needs.{needs}
 use Rattle.reply_entries.proofs.put_dots.Statement.{statement}
 use Rattle.reply_entries.proofs.put_dots.Tie as tie
@@ -57,7 +57,7 @@ unfolding part
 returns c =
     let a = c .before .before .before .before .before .before .before .before .before .before .before .before .before .args in
     rw (above-dots (a .cookie) (a .directory .0) (a .parent .0))
-    (sent-append (entriesAbove (a .cookie) (entry (a .directory .0 + 1) (0x2E ∷ []) 1 ∷ []))
+    (entries-append (entriesAbove (a .cookie) (entry (a .directory .0 + 1) (0x2E ∷ []) 1 ∷ []))
     (entriesAbove (a .cookie) (entry (a .parent .0 + 1) (0x2E ∷ 0x2E ∷ []) 2 ∷ []))
     (c .before .before .before .before .before .before .before .before .put-above .ensures) (c .before .before .put-above2 .ensures))
 

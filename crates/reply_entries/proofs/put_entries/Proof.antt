@@ -2,7 +2,7 @@ use native.Mathlib.Omega.{arith}
 use Rattle.spec.specs.Image.{names}
 use Rattle.spec.specs.Procedures.Listing.{namedEntries, entriesAbove}
 use Rattle.reply_entries.specs.Entries.{dots}
-use Rattle.reply_entries.proofs.Runs.{above-entries, parent-below, sent-append, front-room, rest-room}
+use Rattle.reply_entries.proofs.Runs.{above-entries, parent-below, entries-append, front-room, rest-room}
 use borrow.Author.Needs.{needs}
 use Rattle.reply_entries.proofs.put_entries.Statement.{statement}
 use Rattle.reply_entries.proofs.put_entries.Tie as tie
@@ -49,7 +49,7 @@ returns c =
     let first = entriesAbove (a .cookie) (dots (a .directory .0) (p .result .0)) in
     let rest = entriesAbove (a .cookie) (namedEntries (a .store .now) (a .directory .0) (names (a .store .now))) in
     rw (above-entries (a .store .now) (a .cookie) (a .directory .0) (p .result .0) (p .ensures))
-    (sent-append first rest (c .before .before .before .before .before .before .put-dots .ensures) (c .before .before .put-names .ensures) .wrote)
+    (entries-append first rest (c .before .before .before .before .before .before .put-dots .ensures) (c .before .before .put-names .ensures) .wrote)
 
 pub put-entries-spec : {M : Type 1} → statement M
 put-entries-spec = tie.close (tie.spec parent-of-requires put-dots-requires put-names-requires same-length returns)

@@ -7,7 +7,7 @@ use Rattle.spec.specs.Results.{Entry}
 use Rattle.spec.specs.Procedures.Listing.{entriesAbove}
 use Rattle.store_search.proofs.Named.{elsewhere}
 use Rattle.reply_entries.proofs.Copies.{padded-name}
-use Rattle.reply_entries.proofs.Runs.{cost, sent-none, sent-equal, directory-here, child-here, length-here, is-in-used, is-in-free}
+use Rattle.reply_entries.proofs.Runs.{cost, entries-none, entries-equal, directory-here, child-here, length-here, is-in-used, is-in-free}
 use Rattle.reply_entries.proofs.Runs.{entryIn-absent, entryIn-present, child-below, entry-of}
 use borrow.Author.Needs.{needs}
 use Rattle.reply_entries.proofs.put_name.Statement.{statement}
@@ -28,7 +28,7 @@ returns c =
     let n = a .n .0 in
     let here = st .pre .1 .1 .0 in
     let no = elsewhere s (a .directory .0) n (λ e. c .if1 .taken (c .before .before .get-u32 .ensures ∙ directory-here s n (a .at) here ∙ e)) in
-    rw (entryIn-absent s (a .directory .0) n no) (sent-none (a .reply .now) (a .p) (omega arith))
+    rw (entryIn-absent s (a .directory .0) n no) (entries-none (a .reply .now) (a .p) (omega arith))
 
 add-get-u32 : tie.Need-add-get-u32
 add-get-u32 c = search needs
@@ -46,7 +46,7 @@ returns-2 c =
     let here = st .pre .1 .1 .0 in
     let no = is-in-free s (a .directory .0) n (sym (directory-here s n (a .at) here) ∙ sym (c .before .before .before .before .get-u32 .ensures) ∙
     c .before .before .if1 .left) (sym (length-here s n (a .at) here) ∙ sym (c .before .get-u322 .ensures) ∙ c .if2 .taken) in
-    rw (entryIn-absent s (a .directory .0) n no) (sent-none (a .reply .now) (a .p) (omega arith))
+    rw (entryIn-absent s (a .directory .0) n no) (entries-none (a .reply .now) (a .p) (omega arith))
 
 add-get-u32-2 : tie.Need-add-get-u32-2
 add-get-u32-2 c = search needs
@@ -116,7 +116,7 @@ returns-3 c =
     (omega (arith, len, c .before .before .before .before .before .before .if2 .left)) in
     let child = c .before .before .before .before .before .get-u323 .ensures ∙ child-here s n (a .at) here in
     rw (entryIn-present s (a .directory .0) n yes)
-    (sent-equal (a .cookie) (entry-of s n (c .before .before .before .before .before .get-u323 .result) (a .at)
+    (entries-equal (a .cookie) (entry-of s n (c .before .before .before .before .before .get-u323 .result) (a .at)
     (c .before .before .before .before .before .before .before .get-u322 .result) child here len) (c .before .before .put-above .ensures))
 
 pub put-name-spec : {M : Type 1} → statement M

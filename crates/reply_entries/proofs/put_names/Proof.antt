@@ -5,14 +5,14 @@ use native.Mathlib.Omega.{arith}
 use lib.ListN.{length}
 use Rattle.spec.specs.Image.{names, nameStart}
 use Rattle.spec.specs.Procedures.Listing.{namedEntries, entriesAbove}
-use Rattle.reply_entries.specs.Entries.{Sent}
-use Rattle.reply_entries.proofs.Runs.{sent-none, sent-append, sent-rest, above-none, above-more, name-room}
+use Rattle.reply_entries.specs.Entries.{WroteEntries}
+use Rattle.reply_entries.proofs.Runs.{entries-none, entries-append, entries-rest, above-none, above-more, name-room}
 use Rattle.reply_entries.proofs.put_names.Statement.{statement}
 use Rattle.reply_entries.proofs.put_names.Tie as tie
 
 abbrev Inv-loop : tie.InvT-loop
 Inv-loop reply₀ store directory cookie total start₀ q₀ n₀ reply start q n =
-    (n ≤ total) × Sent (entriesAbove cookie (namedEntries store (directory .0) n)) reply₀ reply q₀ q × (length reply ≡ length reply₀)
+    (n ≤ total) × WroteEntries (entriesAbove cookie (namedEntries store (directory .0) n)) reply₀ reply q₀ q × (length reply ≡ length reply₀)
     × (start ≡ nameStart store n)
 
 abbrev μ-loop : tie.MeasureT-loop
@@ -28,7 +28,7 @@ loop-holds : tie.Need-loop-holds Inv-loop μ-loop
 loop-holds c =
     let a = c .before .before .before .before .args in (
       omega arith,
-      rw (above-none (a .store .now) (a .cookie) (a .directory .0)) (sent-none (a .reply .now) (a .p) (omega arith)),
+      rw (above-none (a .store .now) (a .cookie) (a .directory .0)) (entries-none (a .reply .now) (a .p) (omega arith)),
       refl,
       omega (arith, c .names-start .ensures),
     )
@@ -40,7 +40,7 @@ returns : tie.Need-returns Inv-loop μ-loop
 returns c =
     let a = c .before .before .before .before .before .before .before .before .args in
     let l = c .before .before .before .loop in
-    sent-rest (a .store .now) (a .cookie) (a .directory .0) (l .n) (names (a .store .now))
+    entries-rest (a .store .now) (a .cookie) (a .directory .0) (l .n) (names (a .store .now))
     (omega (arith, c .before .before .before .before .before .name-count .ensures)) (c .if1 .taken) (l .inv .1)
 
 put-name-requires : tie.Need-put-name-requires Inv-loop μ-loop
@@ -80,7 +80,7 @@ loop-again c =
     let l = c .before .before .before .before .before .before .before .loop in (
       omega arith,
       rw (above-more (a .store .now) (a .cookie) (a .directory .0) (l .n))
-          (sent-append _ _ (l .inv .1) (c .before .before .put-name .ensures)),
+          (entries-append _ _ (l .inv .1) (c .before .before .put-name .ensures)),
       omega arith,
       omega (arith, l .inv .3),
     )

@@ -25,13 +25,21 @@ enum-known-r-2 : tie.Need-enum-known-r-2
 enum-known-r-2 c = search needs
 
 put-status-post-op-attr-requires : tie.Need-put-status-post-op-attr-requires
-put-status-post-op-attr-requires c κs = (omega arith, rw (c .before .before .r2 .given .1) at (c .before .before .before .before .before .before .before .before .before .before .pre .1 .1))
+put-status-post-op-attr-requires c κs = (
+  omega arith,
+  rw (c .before .before .r2 .given .1) at
+      (c .before .before .before .before .before .before .before .before .before .before .pre .1 .1),
+)
 
 enum-known-r-3 : tie.Need-enum-known-r-3
 enum-known-r-3 c = search needs
 
 put-status-wcc-data-requires : tie.Need-put-status-wcc-data-requires
-put-status-wcc-data-requires c κs = (omega arith, rw (c .before .before .r3 .given .1) at (c .before .before .before .before .before .before .before .before .before .before .pre .1 .1))
+put-status-wcc-data-requires c κs = (
+  omega arith,
+  rw (c .before .before .r3 .given .1) at
+      (c .before .before .before .before .before .before .before .before .before .before .pre .1 .1),
+)
 
 enum-known-r-4 : tie.Need-enum-known-r-4
 enum-known-r-4 c = search needs
@@ -45,7 +53,11 @@ enum-known-r-5 : tie.Need-enum-known-r-5
 enum-known-r-5 c = search needs
 
 put-got-attributes-requires : tie.Need-put-got-attributes-requires
-put-got-attributes-requires c κs = (omega arith, rw (c .before .before .r5 .given .1) at (c .before .before .before .before .before .before .before .before .before .before .pre .1 .1))
+put-got-attributes-requires c κs = (
+  omega arith,
+  rw (c .before .before .r5 .given .1) at
+      (c .before .before .before .before .before .before .before .before .before .before .pre .1 .1),
+)
 
 enum-known-r-6 : tie.Need-enum-known-r-6
 enum-known-r-6 c = search needs
@@ -59,7 +71,11 @@ enum-known-r-7 : tie.Need-enum-known-r-7
 enum-known-r-7 c = search needs
 
 put-status-post-op-attr-requires-2 : tie.Need-put-status-post-op-attr-requires-2
-put-status-post-op-attr-requires-2 c κs = (omega arith, rw (c .before .before .r7 .given .1) at (c .before .before .before .before .before .before .before .before .before .before .pre .1 .1))
+put-status-post-op-attr-requires-2 c κs = (
+  omega arith,
+  rw (c .before .before .r7 .given .1) at
+      (c .before .before .before .before .before .before .before .before .before .before .pre .1 .1),
+)
 
 put-word-requires : tie.Need-put-word-requires
 put-word-requires c κs = search needs
@@ -74,14 +90,19 @@ put-status-post-op-attr-requires-3 c κs =
 
 put-read-bytes-requires : tie.Need-put-read-bytes-requires
 put-read-bytes-requires c κs =
-    let w = rw (c .before .before .before .before .before .before .r8 .given .1) at (c .before .before .before .before .before .before .before .before .before .before .before .before .before .before .pre .1 .1) in
+    let w = rw (c .before .before .before .before .before .before .r8 .given .1) at
+    (c .before .before .before .before .before .before .before .before .before .before .before .before .before .before .pre .1 .1) in
     (w, omega (arith, w .few))
 
 enum-known-r-9 : tie.Need-enum-known-r-9
 enum-known-r-9 c = search needs
 
 put-status-wcc-data-requires-2 : tie.Need-put-status-wcc-data-requires-2
-put-status-wcc-data-requires-2 c κs = (omega arith, rw (c .before .before .r9 .given .1) at (c .before .before .before .before .before .before .before .before .before .before .pre .1 .1))
+put-status-wcc-data-requires-2 c κs = (
+  omega arith,
+  rw (c .before .before .r9 .given .1) at
+      (c .before .before .before .before .before .before .before .before .before .before .pre .1 .1),
+)
 
 put-written-requires : tie.Need-put-written-requires
 put-written-requires c κs = search needs
@@ -104,14 +125,19 @@ put-status-post-op-attr-requires-4 c κs =
 
 put-listing-requires : tie.Need-put-listing-requires
 put-listing-requires c κs =
-    let w = rw (c .before .before .before .before .before .before .r11 .given .1) at (c .before .before .before .before .before .before .before .before .before .before .before .before .before .before .pre .1 .1) in
+    let w = rw (c .before .before .before .before .before .before .r11 .given .1) at
+    (c .before .before .before .before .before .before .before .before .before .before .before .before .before .before .pre .1 .1) in
     (w, omega (arith, w .few))
 
 enum-known-r-12 : tie.Need-enum-known-r-12
 enum-known-r-12 c = search needs
 
 put-status-post-op-attr-requires-5 : tie.Need-put-status-post-op-attr-requires-5
-put-status-post-op-attr-requires-5 c κs = (omega arith, rw (c .before .before .r12 .given .1) at (c .before .before .before .before .before .before .before .before .before .before .pre .1 .1))
+put-status-post-op-attr-requires-5 c κs = (
+  omega arith,
+  rw (c .before .before .r12 .given .1) at
+      (c .before .before .before .before .before .before .before .before .before .before .pre .1 .1),
+)
 
 put-room-requires : tie.Need-put-room-requires
 put-room-requires c κs = search needs
@@ -120,7 +146,11 @@ enum-known-r-13 : tie.Need-enum-known-r-13
 enum-known-r-13 c = search needs
 
 put-status-post-op-attr-requires-6 : tie.Need-put-status-post-op-attr-requires-6
-put-status-post-op-attr-requires-6 c κs = (omega arith, rw (c .before .before .r13 .given .1) at (c .before .before .before .before .before .before .before .before .before .before .pre .1 .1))
+put-status-post-op-attr-requires-6 c κs = (
+  omega arith,
+  rw (c .before .before .r13 .given .1) at
+      (c .before .before .before .before .before .before .before .before .before .before .pre .1 .1),
+)
 
 put-limits-requires : tie.Need-put-limits-requires
 put-limits-requires c κs = search needs
@@ -129,7 +159,11 @@ enum-known-r-14 : tie.Need-enum-known-r-14
 enum-known-r-14 c = search needs
 
 put-status-post-op-attr-requires-7 : tie.Need-put-status-post-op-attr-requires-7
-put-status-post-op-attr-requires-7 c κs = (omega arith, rw (c .before .before .r14 .given .1) at (c .before .before .before .before .before .before .before .before .before .before .pre .1 .1))
+put-status-post-op-attr-requires-7 c κs = (
+  omega arith,
+  rw (c .before .before .r14 .given .1) at
+      (c .before .before .before .before .before .before .before .before .before .before .pre .1 .1),
+)
 
 put-naming-requires : tie.Need-put-naming-requires
 put-naming-requires c κs = search needs
@@ -138,7 +172,11 @@ enum-known-r-15 : tie.Need-enum-known-r-15
 enum-known-r-15 c = search needs
 
 put-status-wcc-data-requires-3 : tie.Need-put-status-wcc-data-requires-3
-put-status-wcc-data-requires-3 c κs = (omega arith, rw (c .before .before .r15 .given .1) at (c .before .before .before .before .before .before .before .before .before .before .pre .1 .1))
+put-status-wcc-data-requires-3 c κs = (
+  omega arith,
+  rw (c .before .before .r15 .given .1) at
+      (c .before .before .before .before .before .before .before .before .before .before .pre .1 .1),
+)
 
 put-verifier-requires : tie.Need-put-verifier-requires
 put-verifier-requires c κs = search needs
@@ -159,7 +197,8 @@ same-length-2 c = search needs
 returns-2 : tie.Need-returns-2
 unfolding accepted resultBytes
 returns-2 c = rw (c .before .before .before .before .before .r .given .1)
-    (sized _ (andThen (c .before .before .before .before .before .before .before .before .before .put-accepted .ensures) (c .before .before .put-dead .ensures)))
+    (sized _ (andThen (c .before .before .before .before .before .before .before .before .before .put-accepted .ensures)
+    (c .before .before .put-dead .ensures)))
 
 same-length-3 : tie.Need-same-length-3
 same-length-3 c = search needs
@@ -167,7 +206,8 @@ same-length-3 c = search needs
 returns-3 : tie.Need-returns-3
 unfolding accepted resultBytes
 returns-3 c = rw (c .before .before .before .before .before .r2 .given .1)
-    (sized _ (andThen (c .before .before .before .before .before .before .before .before .before .put-accepted .ensures) (c .before .before .put-status-post-op-attr .ensures)))
+    (sized _ (andThen (c .before .before .before .before .before .before .before .before .before .put-accepted .ensures)
+    (c .before .before .put-status-post-op-attr .ensures)))
 
 same-length-4 : tie.Need-same-length-4
 same-length-4 c = search needs
@@ -175,7 +215,8 @@ same-length-4 c = search needs
 returns-4 : tie.Need-returns-4
 unfolding accepted resultBytes
 returns-4 c = rw (c .before .before .before .before .before .r3 .given .1)
-    (sized _ (andThen (c .before .before .before .before .before .before .before .before .before .put-accepted .ensures) (c .before .before .put-status-wcc-data .ensures)))
+    (sized _ (andThen (c .before .before .before .before .before .before .before .before .before .put-accepted .ensures)
+    (c .before .before .put-status-wcc-data .ensures)))
 
 same-length-5 : tie.Need-same-length-5
 same-length-5 c = search needs
@@ -183,7 +224,8 @@ same-length-5 c = search needs
 returns-5 : tie.Need-returns-5
 unfolding accepted resultBytes
 returns-5 c = rw (c .before .before .before .before .before .r4 .given .1)
-    (sized _ (andThen (c .before .before .before .before .before .before .before .before .before .put-accepted .ensures) (c .before .before .put-renamed .ensures)))
+    (sized _ (andThen (c .before .before .before .before .before .before .before .before .before .put-accepted .ensures)
+    (c .before .before .put-renamed .ensures)))
 
 same-length-6 : tie.Need-same-length-6
 same-length-6 c = search needs
@@ -191,7 +233,8 @@ same-length-6 c = search needs
 returns-6 : tie.Need-returns-6
 unfolding accepted resultBytes
 returns-6 c = rw (c .before .before .before .before .before .r5 .given .1)
-    (sized _ (andThen (c .before .before .before .before .before .before .before .before .before .put-accepted .ensures) (c .before .before .put-got-attributes .ensures)))
+    (sized _ (andThen (c .before .before .before .before .before .before .before .before .before .put-accepted .ensures)
+    (c .before .before .put-got-attributes .ensures)))
 
 same-length-7 : tie.Need-same-length-7
 same-length-7 c = search needs
@@ -199,7 +242,8 @@ same-length-7 c = search needs
 returns-7 : tie.Need-returns-7
 unfolding accepted resultBytes
 returns-7 c = rw (c .before .before .before .before .before .r6 .given .1)
-    (sized _ (andThen (c .before .before .before .before .before .before .before .before .before .put-accepted .ensures) (c .before .before .put-found .ensures)))
+    (sized _ (andThen (c .before .before .before .before .before .before .before .before .before .put-accepted .ensures)
+    (c .before .before .put-found .ensures)))
 
 same-length-8 : tie.Need-same-length-8
 same-length-8 c = search needs
@@ -234,7 +278,8 @@ same-length-11 c = search needs
 returns-11 : tie.Need-returns-11
 unfolding accepted resultBytes
 returns-11 c = rw (c .before .before .before .before .before .r10 .given .1)
-    (sized _ (andThen (c .before .before .before .before .before .before .before .before .before .put-accepted .ensures) (c .before .before .put-created .ensures)))
+    (sized _ (andThen (c .before .before .before .before .before .before .before .before .before .put-accepted .ensures)
+    (c .before .before .put-created .ensures)))
 
 same-length-12 : tie.Need-same-length-12
 same-length-12 c = search needs
