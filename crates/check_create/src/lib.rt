@@ -16,6 +16,7 @@ use check_make::checks::check_attributed;
 use kinds::call::How;
 use kinds::call::NameIn;
 use kinds::call::Part;
+use kinds::numbers::Limit;
 use kinds::numbers::ObjectNumber;
 use kinds::numbers::Status;
 
@@ -28,7 +29,7 @@ pub enum CreateChecked {
 // The checks of CREATE in a directory; EXCLUSIVE is refused before the name is looked at.
 fn check_how(
     store: &[u8],
-    used: &[u8; 1024],
+    used: &[u8; Limit::MOST_BLOCKS],
     d: ObjectNumber,
     call: &[u8],
     name: Part,
@@ -49,7 +50,7 @@ fn check_how(
 // The directory and the target of CREATE, or the status.
 pub fn check_create(
     store: &[u8],
-    used: &[u8; 1024],
+    used: &[u8; Limit::MOST_BLOCKS],
     call: &[u8],
     place: NameIn,
     manner: How,

@@ -5,7 +5,7 @@ use mathlib.Core.List.{List}
 use native.Mathlib.Omega.{arith}
 use native.Mathlib.Nat.{add-zero}
 use lib.ListN.{length}
-use Rattle.kinds.specs.Numbers.{REGULAR, DIRECTORY}
+use Rattle.kinds.specs.Numbers.{REGULAR, DIRECTORY, handleLength}
 use Rattle.kinds.specs.declared.numbers.ObjectNumber.{ObjectNumber}
 use Rattle.kinds.specs.declared.call.Part.{Part}
 use Rattle.spec.specs.Bytes.{beAt}
@@ -23,12 +23,12 @@ use Rattle.check_handles.specs.declared.handle.Reached.{Reached}
 use Rattle.check_handles.specs.declared.handle.Reached.the-variants as Reached
 
 pub record HandleRead (call : List ℕ) (h : Part) : Type 0 where
-  pub long : length (cut call h) ≡ 12
+  pub long : length (cut call h) ≡ handleLength
   pub stamp : beAt (cut call h) 0 4 ≡ beAt call (h .start) 4
   pub object : beAt (cut call h) 4 4 ≡ beAt call (h .start + 4) 4
   pub generation : beAt (cut call h) 8 4 ≡ beAt call (h .start + 8) 4
 
-pub handle-read : (call : List ℕ) (h : Part) → h .start + h .length ≤ length call → h .length ≡ 12 → HandleRead call h
+pub handle-read : (call : List ℕ) (h : Part) → h .start + h .length ≤ length call → h .length ≡ handleLength → HandleRead call h
 handle-read call h f e =
     record {
       long = part-length call (h .start) (h .length) f ∙ e;
@@ -49,9 +49,6 @@ module _ (s : Store) (h : List ℕ) (r : Reached) (o : ObjectNumber) (is : r ≡
 
   pub object-showable : GoodRecords s → reachedOf r ≡ reach s h → Showable s (o .0)
   object-showable g e = record { good = g; object = object-reached e .below }
-
-  pub directory-showable : GoodRecords s → reachedOf r ≡ reachDirectory s h → Showable s (o .0)
-  directory-showable g e = record { good = g; object = directory-reached e .0 .below }
 
   pub regular-showable : GoodRecords s → reachedOf r ≡ reachRegular s h → Showable s (o .0)
   regular-showable g e = record { good = g; object = regular-reached e .0 .below }

@@ -4,7 +4,7 @@ use mathlib.Core.Path.{_≡_, refl}
 use mathlib.Core.Bool.{Bool, true, false}
 use mathlib.Core.List.{List}
 use native.Mathlib.Omega.{arith}
-use Rattle.kinds.specs.Numbers.{EXIST}
+use Rattle.kinds.specs.Numbers.{EXIST, mostFileBytes}
 use Rattle.kinds.specs.declared.call.Settable.{Settable}
 use Rattle.spec.specs.Checked.{passed}
 use Rattle.spec.specs.Handles.{checkName}
@@ -15,7 +15,7 @@ use Rattle.laws.proofs.Passed.{bind-passed, refuse-passed}
 use Rattle.laws.proofs.SetAttributes.{allowed}
 
 -- attributes that are valid have such a size
-pub valid-size : (a : Settable) → badAttributes a ≡ false → sizeSet (a .size) 0 ≤ 8192
+pub valid-size : (a : Settable) → badAttributes a ≡ false → sizeSet (a .size) 0 ≤ mostFileBytes
 valid-size a e = allowed a e .size
 
 -- a name may be made only where the attributes are valid

@@ -3,6 +3,7 @@ ghost use mathlib.Core.Path.{_≡_};
 ghost use mathlib.Core.Bool.{_||_};
 ghost use Prim.Native.Nat.{_+_, _<_, _≤_};
 ghost use lib.ListN.{length};
+ghost use Rattle.kinds.specs.Numbers.{mostFileBytes};
 ghost use Rattle.spec.specs.Image.{objects};
 ghost use Rattle.spec.specs.Room.{findName};
 ghost use Rattle.spec.specs.Procedures.{cut};
@@ -26,6 +27,7 @@ use check_settable::size_set;
 use kinds::call::NameIn;
 use kinds::call::Part;
 use kinds::call::Settable;
+use kinds::numbers::Limit;
 use kinds::numbers::NameNumber;
 use kinds::numbers::ObjectNumber;
 use kinds::numbers::Status;
@@ -70,10 +72,10 @@ fn check_new(call: &[u8], name: Part, invalid: bool) -> TextChecked
 }
 
 // Records and blocks for a new file.
-fn check_absent(store: &[u8], used: &[u8; 1024], a: Settable) -> TargetChecked
+fn check_absent(store: &[u8], used: &[u8; Limit::MOST_BLOCKS], a: Settable) -> TargetChecked
     requires { ⌜ GoodRecords (now store) ⌝ }
     requires { ⌜ UsedMap (now store) (now used) ⌝ }
-    requires { ⌜ sizeSet (a .size) 0 ≤ 8192 ⌝ }
+    requires { ⌜ sizeSet (a .size) 0 ≤ mostFileBytes ⌝ }
     ensures { λ r. ⌜ targetCheckedOf r ≡ isNew (roomForNew (now (store .entry)) (sizeSet (a .size) 0)) ⌝ }
 {
     let size = a.size;
@@ -87,14 +89,14 @@ fn check_absent(store: &[u8], used: &[u8; 1024], a: Settable) -> TargetChecked
 // An object that has the name: EXIST, but for UNCHECKED on a regular file, which obeys the size.
 fn check_existing(
     store: &[u8],
-    used: &[u8; 1024],
+    used: &[u8; Limit::MOST_BLOCKS],
     unchecked: bool,
     a: Settable,
     o: ObjectNumber,
 ) -> TargetChecked
     requires { ⌜ GoodRecords (now store) ⌝ }
     requires { ⌜ UsedMap (now store) (now used) ⌝ }
-    requires { ⌜ sizeSet (a .size) 0 ≤ 8192 ⌝ }
+    requires { ⌜ sizeSet (a .size) 0 ≤ mostFileBytes ⌝ }
     requires { ⌜ o .0 < objects (now store) ⌝ }
     ensures { λ r. ⌜ targetCheckedOf r ≡ checkExisting (now (store .entry)) unchecked a (o .0) ⌝ }
 {
@@ -114,7 +116,7 @@ fn check_existing(
 // The file that CREATE makes, or the one that has the name.
 fn check_target(
     store: &[u8],
-    used: &[u8; 1024],
+    used: &[u8; Limit::MOST_BLOCKS],
     d: ObjectNumber,
     call: &[u8],
     name: Part,
@@ -124,7 +126,7 @@ fn check_target(
     requires { ⌜ GoodRecords (now store) ⌝ }
     requires { ⌜ UsedMap (now store) (now used) ⌝ }
     requires { ⌜ name .start + name .length ≤ length (now call) ⌝ }
-    requires { ⌜ sizeSet (a .size) 0 ≤ 8192 ⌝ }
+    requires { ⌜ sizeSet (a .size) 0 ≤ mostFileBytes ⌝ }
     ensures { λ r. ⌜ targetCheckedOf r ≡ targetOf (now (store .entry)) unchecked a (findName (now (store .entry)) (d .0) (cut (now (call .entry)) name)) ⌝ }
 {
     let found = find_name(store, d, call, name);
@@ -138,7 +140,7 @@ fn check_target(
 // The checks of CREATE in a directory, but for EXCLUSIVE.
 pub fn check_attributed(
     store: &[u8],
-    used: &[u8; 1024],
+    used: &[u8; Limit::MOST_BLOCKS],
     d: ObjectNumber,
     call: &[u8],
     name: Part,
@@ -172,7 +174,7 @@ fn bad_for_directory(a: Settable) -> bool
 // The directory, the object record and the name record of MKDIR, or the status.
 pub fn check_mkdir(
     store: &[u8],
-    used: &[u8; 1024],
+    used: &[u8; Limit::MOST_BLOCKS],
     call: &[u8],
     place: NameIn,
     a: Settable,

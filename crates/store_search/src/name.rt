@@ -104,12 +104,12 @@ pub fn parent_of(store: &[u8], o: ObjectNumber) -> ObjectNumber
 
 // The directory that each object is in, as `parent_of` gives it. It goes from the last record to the first, so that of those that name an object
 // the lowest-numbered decides.
-pub fn parent_table(store: &[u8]) -> [u8; 64]
+pub fn parent_table(store: &[u8]) -> [u8; Limit::MOST_OBJECTS]
     requires { ⌜ Shaped (now store) ⌝ }
     requires { ⌜ SoundNames (now store) ⌝ }
     ensures { λ r. ⌜ ParentTable (now (store .entry)) r ⌝ }
 {
-    let mut table = [0u8; 64];
+    let mut table = [0u8; Limit::MOST_OBJECTS];
     let mut n = name_count(store);
     while n > 0 {
         n -= 1;
