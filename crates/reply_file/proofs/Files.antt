@@ -4,7 +4,8 @@ use mathlib.Core.Logic.{_⊎_}
 use mathlib.Core.Path.{ap}
 use native.Mathlib.Omega.{arith}
 use lib.ListN.{length}
-use Rattle.kinds.specs.Layout.{objectLength}
+use Rattle.kinds.specs.Layout.{objectLength, blockLength}
+use Rattle.kinds.specs.Numbers.{mostFileBytes}
 use Rattle.kinds.specs.declared.object.Object.{Object}
 use Rattle.spec.specs.Image.{Store, objectStart, objects, blocks, objectAt}
 use Rattle.spec.specs.Room.{sizeOf, byteAt}
@@ -24,14 +25,14 @@ module _ (s : Store) (o i : ℕ) (g : GoodRecords s) (l : o < objects s) where
   unfolding sizeOf
   live-file h = with-byte (blocks s) (objectAt s o) i (g .good-objects o l) h
 
-  pub byte-few : i < sizeOf s o → i < 8192
+  pub byte-few : i < sizeOf s o → i < mostFileBytes
   unfolding sizeOf
   byte-few h = omega (arith, live-size (blocks s) (objectAt s o) (live-file h))
 
   -- m bytes of one block, from byte i on
-  pub run-in : (m : ℕ) → i < sizeOf s o → i % 512 + m ≤ 512 → byteAt s o i + m ≤ length s
+  pub run-in : (m : ℕ) → i < sizeOf s o → i % blockLength + m ≤ blockLength → byteAt s o i + m ≤ length s
   unfolding byteAt sizeOf
   run-in m h e =
       let k = g .sound .shaped in
-      let b = live-file h .held (i / 512) (omega arith) in
+      let b = live-file h .held (i / blockLength) (omega arith) in
       omega arith
