@@ -20,17 +20,11 @@ use Rattle.spec.specs.Procedures.Names.{lookup, create, mkdir}
 use Rattle.spec.specs.Procedures.Removal.{remove, rmdir, rename}
 use Rattle.spec.specs.Procedures.Volume.{fsstat, fsinfo, pathconf}
 use Rattle.laws.proofs.Error.{getattr-store, lookup-store, access-store, read-store, readdir-store, fsstat-store, fsinfo-store, pathconf-store, commit-store}
-use Rattle.laws.proofs.GoodRecords.{GoodRecords, valid-records}
 use Rattle.results.specs.declared.Reply.{Reply}
 use Rattle.results.specs.declared.Reply.the-variants as Reply
 use Rattle.results.specs.Does.{Does}
 use Rattle.results.specs.Meaning.{resultOf}
 use Rattle.results.specs.Writable.{Writable}
-use Rattle.store_blocks.specs.Ready.{Ready}
-
--- what every procedure asks of the store
-pub good : {s : Store} {used : List ℕ} {c : Context} → Ready s used c → GoodRecords s
-good {s} h = valid-records s (h .valid) (h .bytes)
 
 module _ (s : Store) (c : Context) (call : List ℕ) (a : Arguments) where
   -- by the variant of the arguments
