@@ -1,7 +1,7 @@
 // The status of each answer that is a refusal.
 ghost use mathlib.Core.Path.{_≡_};
 ghost use Rattle.check_handles.specs.Meaning.{reachedOf, textOf};
-ghost use Rattle.check_room.specs.Meaning.{roomOf};
+ghost use Rattle.check_room.specs.Meaning.{roomCheckedOf};
 ghost use Rattle.check_make.specs.Meaning.{targetOf, mkdirOf, statusOf};
 use crate::checks::MkdirChecked;
 use crate::checks::TargetChecked;
@@ -29,7 +29,7 @@ pub fn text_status(answer: TextChecked) -> Status
 }
 
 pub fn room_status(answer: RoomChecked) -> Status
-    ensures { λ r. ⌜ r .0 ≡ statusOf (roomOf answer) ⌝ }
+    ensures { λ r. ⌜ r .0 ≡ statusOf (roomCheckedOf answer) ⌝ }
 {
     match answer {
         RoomChecked::At(_, _) => Status::OK,
