@@ -26,7 +26,7 @@ use Rattle.laws.proofs.Range.{Below}
 use Rattle.laws.proofs.Resize.{resize-tree}
 use Rattle.laws.proofs.SetAttributes.{FitsSettable}
 use Rattle.laws.proofs.Valid.{Valid}
-use Rattle.act_write.specs.Writable.{Writable}
+use Rattle.act_write.specs.MayWrite.{MayWrite}
 use Rattle.act_change.specs.Makable.{Sizable}
 
 -- ---- a size, where one is given
@@ -58,7 +58,7 @@ pub few-moved : (call : List ℕ) (p : Part) (count : ℕ) → p .start + p .len
 few-moved call p count h e = omega (arith, part-length call (p .start) (p .length) h)
 
 pub write-writable : (s : Store) (h : List ℕ) (offset count : ℕ) (bytes : List ℕ) (o : ℕ) → WritePassed s h offset count bytes o
-    → (n : ℕ) → n ≡ min count mostTransferBytes → n ≢ 0 → Writable s o offset n
+    → (n : ℕ) → n ≡ min count mostTransferBytes → n ≢ 0 → MayWrite s o offset n
 write-writable s h offset count bytes o p n e z =
     let some : 0 < count = omega arith in
     record { below = p .reached .below; regular = p .regular; fits = rw e (p .fits some); room = rw e (p .room some) }

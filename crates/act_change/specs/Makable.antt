@@ -4,7 +4,7 @@ use mathlib.Core.Path.{_≡_}
 use mathlib.Core.Bool.{true}
 use mathlib.Core.Logic.{_⊎_}
 use mathlib.Core.List.{List}
-use Rattle.kinds.specs.Numbers.{REGULAR, DIRECTORY}
+use Rattle.kinds.specs.Numbers.{REGULAR, DIRECTORY, mostFileBytes}
 use Rattle.kinds.specs.declared.object.Context.{Context}
 use Rattle.kinds.specs.declared.call.SetSize.{SetSize}
 use Rattle.kinds.specs.declared.call.Settable.{Settable}
@@ -20,7 +20,7 @@ use Rattle.laws.proofs.Valid.{GoodName}
 pub record Sizable (s : Store) (o : ℕ) (x : SetSize) : Type 0 where
   pub below : o < objects s
   pub regular : isGiven x ≡ true → objectAt s o .kind ≡ REGULAR
-  pub small : sizeSet x 0 ≤ 8192
+  pub small : sizeSet x 0 ≤ mostFileBytes
   pub room : need (sizeSet x (sizeOf s o)) - need (sizeOf s o) ≤ freeBlockCount s
 
 -- a new object o of a type, named `text` in directory d by record n

@@ -27,8 +27,8 @@ use kinds::call::Settable;
 use kinds::numbers::Limit;
 use kinds::numbers::ObjectNumber;
 use kinds::numbers::Status;
+use store_records::object::ctime_of;
 use store_records::object::is_directory;
-use store_records::object::load_object;
 
 // Whether a size is given for a directory.
 fn sizes_directory(store: &[u8], o: ObjectNumber, size: SetSize) -> bool
@@ -60,8 +60,7 @@ pub fn check_setattr(
     let Reached::At(o) = answer else {
         return answer;
     };
-    let v = load_object(store, o);
-    let ctime = v.ctime;
+    let ctime = ctime_of(store, o);
     if differs(g, ctime) {
         return Reached::Refused(Status::NOT_SYNC);
     }

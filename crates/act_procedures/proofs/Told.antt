@@ -6,16 +6,10 @@ use Rattle.kinds.specs.declared.object.Context.{Context}
 use Rattle.kinds.specs.declared.call.Arguments.{Arguments}
 use Rattle.spec.specs.Image.{Store}
 use Rattle.spec.specs.Procedures.{act}
-use Rattle.laws.proofs.GoodRecords.{GoodRecords, valid-records}
 use Rattle.results.specs.declared.Reply.{Reply}
 use Rattle.results.specs.Does.{Does}
 use Rattle.results.specs.Meaning.{resultOf}
 use Rattle.results.specs.Writable.{Writable}
-use Rattle.store_blocks.specs.Ready.{Ready}
-
--- what every procedure asks of the store
-pub good : {s : Store} {used : List ℕ} {c : Context} → Ready s used c → GoodRecords s
-good {s} h = valid-records s (h .valid) (h .bytes)
 
 module _ (s : Store) (c : Context) (call : List ℕ) (a : Arguments) where
   -- by the variant of the arguments

@@ -7,6 +7,7 @@ use native.Mathlib.Omega.{arith}
 use native.Mathlib.Nat.{add-zero}
 use borrow.Author.Tests.{ne-eqb}
 use lib.ListN.{length, take}
+use Rattle.kinds.specs.Numbers.{mostFileBytes}
 use Rattle.kinds.specs.Layout.{objectLength}
 use Rattle.kinds.specs.declared.object.Context.{Context}
 use Rattle.kinds.specs.declared.call.Part.{Part}
@@ -26,7 +27,7 @@ use Rattle.laws.proofs.Shape.{SameShape}
 use Rattle.laws.proofs.Valid.{Live}
 use Rattle.results.specs.Writable.{Showable}
 use Rattle.store_records.proofs.Good.{size-few}
-use Rattle.act_write.specs.Writable.{Writable}
+use Rattle.act_write.specs.MayWrite.{MayWrite}
 
 -- an object's attributes can be written from the store that an edit leaves
 pub left-showable : (s t u : Store) (o : ℕ) → StillGood s u → t ≡ u → o < objects s → Showable t o
@@ -59,8 +60,8 @@ pub record Grown (s t : Store) (o offset n : ℕ) : Type 0 where
   pub live : Live t o
   pub inside : offset + n ≤ sizeOf t o
 
-module _ (s : Store) (o offset n : ℕ) (g : GoodRecords s) (z : Writable s o offset n) where
-  pub grown-small : grown s o offset n ≤ 8192
+module _ (s : Store) (o offset n : ℕ) (g : GoodRecords s) (z : MayWrite s o offset n) where
+  pub grown-small : grown s o offset n ≤ mostFileBytes
   grown-small = omega (arith, size-few s g o (z .below), z .fits)
 
   pub grown-file : (t : Store) → t ≡ resize s o (grown s o offset n) → Grown s t o offset n

@@ -10,7 +10,7 @@ ghost use Rattle.spec.specs.Procedures.Data.{writeEdit, writeStore, writeDone};
 ghost use Rattle.laws.proofs.GoodRecords.{GoodRecords, StillGood};
 ghost use Rattle.store_blocks.specs.Blocks.{UsedMap};
 ghost use Rattle.results.specs.Does.{Does};
-ghost use Rattle.act_write.specs.Writable.{Writable, WritableSome};
+ghost use Rattle.act_write.specs.MayWrite.{MayWrite, MayWriteSome};
 use check_handles::failure::unchanged;
 use edit_attributes::touch;
 use edit_data::write_file;
@@ -37,7 +37,7 @@ fn write_edit(
 )
     requires { ⌜ GoodRecords (now store) ⌝ }
     requires { ⌜ UsedMap (now store) (now used) ⌝ }
-    requires { ⌜ Writable (now store) (o .0) offset n ⌝ }
+    requires { ⌜ MayWrite (now store) (o .0) offset n ⌝ }
     requires { ⌜ start + n ≤ length (now call) ⌝ }
     ensures { λ _. ⌜ now (store .exit) ≡ writeEdit (now (store .entry)) context (o .0) offset (part (now (call .entry)) start n) ⌝ }
 {
@@ -62,7 +62,7 @@ pub fn write_checked(
     requires { ⌜ GoodRecords (now store) ⌝ }
     requires { ⌜ UsedMap (now store) (now used) ⌝ }
     requires { ⌜ o .0 < objects (now store) ⌝ }
-    requires { ⌜ WritableSome (now store) (o .0) offset count ⌝ }
+    requires { ⌜ MayWriteSome (now store) (o .0) offset count ⌝ }
     requires { ⌜ bytes .start + bytes .length ≤ length (now call) ⌝ }
     requires { ⌜ min count mostTransferBytes ≤ bytes .length ⌝ }
     requires { ⌜ StillGood (now store) (writeStore (now store) context (o .0) offset (take (min count mostTransferBytes) (cut (now call) bytes))) ⌝ }

@@ -5,6 +5,6 @@ use Rattle.check_room.specs.declared.RoomChecked.{RoomChecked}
 use Rattle.check_room.specs.declared.RoomChecked.the-variants as RoomChecked
 
 -- the object record and the name record, or the status
-abbrev pub roomOf : RoomChecked → Checked (ℕ × ℕ)
-roomOf (RoomChecked.At o n) = passed (o .0, n .0)
-roomOf (RoomChecked.Refused status) = refused (status .0)
+abbrev pub roomCheckedOf : RoomChecked → Checked (ℕ × ℕ)
+roomCheckedOf (RoomChecked.At o n) = passed (o .0, n .0)
+roomCheckedOf (RoomChecked.Refused status) = refused (status .0)

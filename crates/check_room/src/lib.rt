@@ -2,6 +2,7 @@
 ghost use mathlib.Core.Path.{_≡_};
 ghost use Prim.Native.Nat.{_+_, _<_, _≤_};
 ghost use lib.Dec.{ltb};
+ghost use Rattle.kinds.specs.Numbers.{mostFileBytes, mostTransferBytes};
 ghost use Rattle.spec.specs.Image.{objects};
 ghost use Rattle.spec.specs.Room.{sizeOf};
 ghost use Rattle.spec.specs.Procedures.Attributes.{sizeSet, lacksRoom};
@@ -9,7 +10,7 @@ ghost use Rattle.spec.specs.Procedures.Data.{grown};
 ghost use Rattle.spec.specs.Procedures.Names.{roomForNew};
 ghost use Rattle.laws.proofs.GoodRecords.{GoodRecords};
 ghost use Rattle.store_blocks.specs.Blocks.{UsedMap};
-ghost use Rattle.check_room.specs.Meaning.{roomOf};
+ghost use Rattle.check_room.specs.Meaning.{roomCheckedOf};
 use check_settable::size_set;
 use kinds::call::SetSize;
 use kinds::numbers::Limit;
@@ -35,8 +36,8 @@ pub enum RoomChecked {
 fn lacks_room(store: &[u8], used: &[u8; 1024], old: usize, size: usize) -> bool
     requires { ⌜ GoodRecords (now store) ⌝ }
     requires { ⌜ UsedMap (now store) (now used) ⌝ }
-    requires { ⌜ old ≤ 8192 ⌝ }
-    requires { ⌜ size ≤ 8192 ⌝ }
+    requires { ⌜ old ≤ mostFileBytes ⌝ }
+    requires { ⌜ size ≤ mostFileBytes ⌝ }
     ensures { λ r. ⌜ r ≡ lacksRoom (now (store .entry)) old size ⌝ }
 {
     let held = need(old);
@@ -52,7 +53,7 @@ pub fn lacks_room_for_size(store: &[u8], used: &[u8; 1024], o: ObjectNumber, siz
     requires { ⌜ GoodRecords (now store) ⌝ }
     requires { ⌜ UsedMap (now store) (now used) ⌝ }
     requires { ⌜ o .0 < objects (now store) ⌝ }
-    requires { ⌜ sizeSet size 0 ≤ 8192 ⌝ }
+    requires { ⌜ sizeSet size 0 ≤ mostFileBytes ⌝ }
     ensures { λ r. ⌜ r ≡ lacksRoom (now (store .entry)) (sizeOf (now (store .entry)) (o .0)) (sizeSet size (sizeOf (now (store .entry)) (o .0))) ⌝ }
 {
     let old = size_of(store, o);
@@ -62,8 +63,8 @@ pub fn lacks_room_for_size(store: &[u8], used: &[u8; 1024], o: ObjectNumber, siz
 
 // Whether bytes at an offset reach past the end of the largest file. The offset is compared first, so that the sum fits.
 pub fn is_past_end(offset: u64, n: usize) -> bool
-    requires { ⌜ n ≤ 4096 ⌝ }
-    ensures { λ r. ⌜ r ≡ ltb 8192 (offset + n) ⌝ }
+    requires { ⌜ n ≤ mostTransferBytes ⌝ }
+    ensures { λ r. ⌜ r ≡ ltb mostFileBytes (offset + n) ⌝ }
 {
     if Limit::MOST_FILE_BYTES < offset {
         return true;
@@ -82,7 +83,7 @@ pub fn lacks_room_for_bytes(
     requires { ⌜ GoodRecords (now store) ⌝ }
     requires { ⌜ UsedMap (now store) (now used) ⌝ }
     requires { ⌜ o .0 < objects (now store) ⌝ }
-    requires { ⌜ offset + n ≤ 8192 ⌝ }
+    requires { ⌜ offset + n ≤ mostFileBytes ⌝ }
     ensures { λ r. ⌜ r ≡ lacksRoom (now (store .entry)) (sizeOf (now (store .entry)) (o .0)) (grown (now (store .entry)) (o .0) offset n) ⌝ }
 {
     let old = size_of(store, o) as usize;
@@ -93,8 +94,8 @@ pub fn lacks_room_for_bytes(
 pub fn room_for_new(store: &[u8], used: &[u8; 1024], size: usize) -> RoomChecked
     requires { ⌜ GoodRecords (now store) ⌝ }
     requires { ⌜ UsedMap (now store) (now used) ⌝ }
-    requires { ⌜ size ≤ 8192 ⌝ }
-    ensures { λ r. ⌜ roomOf r ≡ roomForNew (now (store .entry)) size ⌝ }
+    requires { ⌜ size ≤ mostFileBytes ⌝ }
+    ensures { λ r. ⌜ roomCheckedOf r ≡ roomForNew (now (store .entry)) size ⌝ }
 {
     let object = find_available(store);
     let FoundObject::At(o) = object else {

@@ -2,11 +2,13 @@
 -- whole. Assumes nothing.
 use mathlib.Core.Path.{_≡_, refl, sym, ap, ap₂, _∙_}
 use mathlib.Core.List.{List, _++_, append-assoc}
-use Prim.Native.Nat.{ℕ, zero, suc, _+_, _*_, _≤_}
+use Prim.Native.Nat.{ℕ, zero, suc, _+_, _-_, _*_, _≤_}
 use native.Mathlib.Omega.{arith}
 use lib.ListN.{length, take, drop, length-append, take-append-drop}
 use lib.Seq.{drop-drop}
-use Rattle.kinds.specs.Layout.{objectLength}
+use Rattle.kinds.specs.Layout.{generationOffset, modeOffset, uidOffset, gidOffset, sizeOffset, atimeOffset, mtimeOffset, ctimeOffset, blocksOffset}
+use Rattle.kinds.specs.Layout.{objectLength, nanosecondsOffset, timeLength}
+use Rattle.kinds.specs.Numbers.{fileBlocks}
 use Rattle.kinds.specs.declared.object.Object.{Object}
 use Rattle.kinds.specs.declared.object.Time.{Time}
 use Rattle.spec.specs.Bytes.{part, overlay, bytesOf}
@@ -37,16 +39,26 @@ overlay-kept s p n xs e h =
     ∙ ap (λ (x : List ℕ). take p s ++ x) (take-append-drop n (drop p s)) ∙ take-append-drop p s
 
 -- bytes that stand there already, before others
-skip : (s : List ℕ) (p n : ℕ) (xs ys : List ℕ) → xs ≡ part s p n → p + n ≤ length s → overlay s p (xs ++ ys) ≡ overlay s (p + n) ys
+pub skip : (s : List ℕ) (p n : ℕ) (xs ys : List ℕ) → xs ≡ part s p n → p + n ≤ length s → overlay s p (xs ++ ys) ≡ overlay s (p + n) ys
 skip s p n xs ys e h =
     let l : length xs ≡ n = ap length e ∙ part-length s p n h in
     sym (overlay-join s p xs (omega (arith, l)) ys) ∙ ap₂ (λ (z : List ℕ) (k : ℕ). overlay z (p + k) ys) (overlay-kept s p n xs e h) l
 
+-- the bytes of mode, uid and gid, of the three times, and of the block numbers
+abbrev pub ownerLength : ℕ
+ownerLength = sizeOffset - modeOffset
+
+abbrev pub timesLength : ℕ
+timesLength = blocksOffset - atimeOffset
+
+abbrev pub blocksLength : ℕ
+blocksLength = objectLength - blocksOffset
+
 -- the bytes of a mode, uid and gid, and of a time
-pub owner-size : (mode uid gid : ℕ) → length (bytesOf 4 mode ++ bytesOf 4 uid ++ bytesOf 4 gid) ≡ 12
+pub owner-size : (mode uid gid : ℕ) → length (bytesOf 4 mode ++ bytesOf 4 uid ++ bytesOf 4 gid) ≡ ownerLength
 owner-size mode uid gid = simp (length-append, bytes-length)
 
-pub time-length : (t : Time) → length (timeBytes t) ≡ 8
+pub time-length : (t : Time) → length (timeBytes t) ≡ timeLength
 unfolding timeBytes
 time-length t = simp (length-append, bytes-length)
 
@@ -56,51 +68,54 @@ module _ (s : Store) (o : ℕ) (w : Object) (f : Below 256 s) (h : objectStart o
   abbrev at : ℕ
   at = objectStart o
 
-  front : bytesOf 4 (w .kind) ++ bytesOf 4 (w .generation) ≡ part s at 8
+  front : bytesOf 4 (w .kind) ++ bytesOf 4 (w .generation) ≡ part s at modeOffset
   unfolding objectAt objectFrom
   front =
       ap₂ (λ (x y : ℕ). bytesOf 4 x ++ bytesOf 4 y) kind generation
-      ∙ ap₂ (λ (x y : List ℕ). x ++ y) (bytes-kept s f 4 at (omega arith)) (bytes-kept s f 4 (at + 4) (omega arith)) ∙ sym (part-add s at 4 4)
+      ∙ ap₂ (λ (x y : List ℕ). x ++ y) (bytes-kept s f 4 at (omega arith)) (bytes-kept s f 4 (at + generationOffset) (omega arith))
+      ∙ sym (part-add s at generationOffset 4)
 
-  middle : bytesOf 4 (w .size) ≡ part s (at + 20) 4
+  middle : bytesOf 4 (w .size) ≡ part s (at + sizeOffset) 4
   unfolding objectAt objectFrom
-  middle = ap (bytesOf 4) size ∙ bytes-kept s f 4 (at + 20) (omega arith)
+  middle = ap (bytesOf 4) size ∙ bytes-kept s f 4 (at + sizeOffset) (omega arith)
 
-  end : halvesBytes 16 (w .blocks) ≡ part s (at + 48) 32
+  end : halvesBytes fileBlocks (w .blocks) ≡ part s (at + blocksOffset) blocksLength
   unfolding objectAt objectFrom
-  end = ap (halvesBytes 16) blocks ∙ halves-low s f (at + 48) 16 16 (omega arith) (omega arith)
+  end = ap (halvesBytes fileBlocks) blocks ∙ halves-low s f (at + blocksOffset) fileBlocks fileBlocks (omega arith) (omega arith)
 
   abbrev owner : List ℕ
   owner = bytesOf 4 (w .mode) ++ bytesOf 4 (w .uid) ++ bytesOf 4 (w .gid)
 
-  owner-length : length owner ≡ 12
+  owner-length : length owner ≡ ownerLength
   owner-length = owner-size (w .mode) (w .uid) (w .gid)
 
-  times-length : length (timesBytes w) ≡ 24
+  times-length : length (timesBytes w) ≡ timesLength
   unfolding timesBytes
   times-length = simp (length-append, time-length)
 
   abbrev first : Store
-  first = overlay s (at + 8) owner
+  first = overlay s (at + modeOffset) owner
 
   abbrev second : Store
-  second = overlay first (at + 24) (timesBytes w)
+  second = overlay first (at + atimeOffset) (timesBytes w)
 
   first-length : length first ≡ length s
-  first-length = overlay-length s (at + 8) owner (omega (arith, owner-length))
+  first-length = overlay-length s (at + modeOffset) owner (omega (arith, owner-length))
 
   second-length : length second ≡ length s
-  second-length = overlay-length first (at + 24) (timesBytes w) (omega (arith, times-length, first-length)) ∙ first-length
+  second-length = overlay-length first (at + atimeOffset) (timesBytes w) (omega (arith, times-length, first-length)) ∙ first-length
 
-  size-kept : part first (at + 20) 4 ≡ part s (at + 20) 4
-  size-kept = part-after s (at + 8) owner (omega (arith, owner-length)) (at + 20) 4 (omega (arith, owner-length))
+  size-kept : part first (at + sizeOffset) 4 ≡ part s (at + sizeOffset) 4
+  size-kept = part-after s (at + modeOffset) owner (omega (arith, owner-length)) (at + sizeOffset) 4 (omega (arith, owner-length))
 
-  blocks-kept : part second (at + 48) 32 ≡ part s (at + 48) 32
+  blocks-kept : part second (at + blocksOffset) blocksLength ≡ part s (at + blocksOffset) blocksLength
   blocks-kept =
-      part-after first (at + 24) (timesBytes w) (omega (arith, times-length, first-length)) (at + 48) 32 (omega (arith, times-length))
-      ∙ part-after s (at + 8) owner (omega (arith, owner-length)) (at + 48) 32 (omega (arith, owner-length))
+      part-after first (at + atimeOffset) (timesBytes w) (omega (arith, times-length, first-length)) (at + blocksOffset) blocksLength
+      (omega (arith, times-length))
+      ∙ part-after s (at + modeOffset) owner (omega (arith, owner-length)) (at + blocksOffset) blocksLength (omega (arith, owner-length))
 
-  spelt : objectBytes w ≡ (bytesOf 4 (w .kind) ++ bytesOf 4 (w .generation)) ++ (owner ++ (bytesOf 4 (w .size) ++ (timesBytes w ++ halvesBytes 16 (w .blocks))))
+  spelt : objectBytes w
+      ≡ (bytesOf 4 (w .kind) ++ bytesOf 4 (w .generation)) ++ (owner ++ (bytesOf 4 (w .size) ++ (timesBytes w ++ halvesBytes fileBlocks (w .blocks))))
   unfolding objectBytes headBytes
   spelt = simp append-assoc
 
@@ -108,66 +123,86 @@ module _ (s : Store) (o : ℕ) (w : Object) (f : Below 256 s) (h : objectStart o
   pub attributes-written : second ≡ putObject s o w
   unfolding putObject
   attributes-written =
-      let past : at + 8 + length owner ≡ at + 20 = omega (arith, owner-length) in
-      let behind : at + 24 + length (timesBytes w) ≡ at + 48 = omega (arith, times-length) in
-      let sized : at + 20 + 4 ≡ at + 24 = omega arith in
+      let past : at + modeOffset + length owner ≡ at + sizeOffset = omega (arith, owner-length) in
+      let behind : at + atimeOffset + length (timesBytes w) ≡ at + blocksOffset = omega (arith, times-length) in
+      let sized : at + sizeOffset + 4 ≡ at + atimeOffset = omega arith in
       sym (ap (overlay s at) spelt
-      ∙ skip s at 8 _ _ front (omega arith)
-      ∙ sym (overlay-join s (at + 8) owner (omega (arith, owner-length)) _)
-      ∙ ap (λ (k : ℕ). overlay first k (bytesOf 4 (w .size) ++ (timesBytes w ++ halvesBytes 16 (w .blocks)))) past
-      ∙ skip first (at + 20) 4 _ _ (middle ∙ sym size-kept) (omega (arith, first-length))
-      ∙ ap (λ (k : ℕ). overlay first k (timesBytes w ++ halvesBytes 16 (w .blocks))) sized
-      ∙ sym (overlay-join first (at + 24) (timesBytes w) (omega (arith, times-length, first-length)) _)
-      ∙ ap (λ (k : ℕ). overlay second k (halvesBytes 16 (w .blocks))) behind
-      ∙ overlay-kept second (at + 48) 32 _ (end ∙ sym blocks-kept) (omega (arith, second-length)))
+      ∙ skip s at modeOffset _ _ front (omega arith)
+      ∙ sym (overlay-join s (at + modeOffset) owner (omega (arith, owner-length)) _)
+      ∙ ap (λ (k : ℕ). overlay first k (bytesOf 4 (w .size) ++ (timesBytes w ++ halvesBytes fileBlocks (w .blocks)))) past
+      ∙ skip first (at + sizeOffset) 4 _ _ (middle ∙ sym size-kept) (omega (arith, first-length))
+      ∙ ap (λ (k : ℕ). overlay first k (timesBytes w ++ halvesBytes fileBlocks (w .blocks))) sized
+      ∙ sym (overlay-join first (at + atimeOffset) (timesBytes w) (omega (arith, times-length, first-length)) _)
+      ∙ ap (λ (k : ℕ). overlay second k (halvesBytes fileBlocks (w .blocks))) behind
+      ∙ overlay-kept second (at + blocksOffset) blocksLength _ (end ∙ sym blocks-kept) (omega (arith, second-length)))
 
 -- two parts, one behind the other
 joined : (s : List ℕ) (p q n m : ℕ) (xs ys : List ℕ) → q ≡ p + n → xs ≡ part s p n → ys ≡ part s q m → xs ++ ys ≡ part s p (n + m)
 joined s p q n m xs ys e a b = ap₂ (λ (x y : List ℕ). x ++ y) a (b ∙ ap (λ (k : ℕ). part s k m) e) ∙ sym (part-add s p n m)
 
 module _ (s : Store) (o : ℕ) (f : Below 256 s) (h : objectStart o + objectLength ≤ length s) where
-  time-kept : (p : ℕ) → p + 8 ≤ length s → timeBytes (timeAt s p) ≡ part s p 8
+  time-kept : (p : ℕ) → p + timeLength ≤ length s → timeBytes (timeAt s p) ≡ part s p timeLength
   unfolding timeBytes timeAt
-  time-kept p k = joined s p (p + 4) 4 4 _ _ refl (bytes-kept s f 4 p (omega arith)) (bytes-kept s f 4 (p + 4) (omega arith))
+  time-kept p k =
+      joined s p (p + nanosecondsOffset) nanosecondsOffset 4 _ _ refl (bytes-kept s f 4 p (omega arith))
+      (bytes-kept s f 4 (p + nanosecondsOffset) (omega arith))
 
-  owner-kept : bytesOf 4 (objectAt s o .mode) ++ bytesOf 4 (objectAt s o .uid) ++ bytesOf 4 (objectAt s o .gid) ≡ part s (objectStart o + 8) 12
+  -- the numbers before the size
+  pub numbers-kept : bytesOf 4 (objectAt s o .kind) ++ bytesOf 4 (objectAt s o .generation) ++ bytesOf 4 (objectAt s o .mode)
+      ++ bytesOf 4 (objectAt s o .uid) ++ bytesOf 4 (objectAt s o .gid) ≡ part s (objectStart o) sizeOffset
+  unfolding objectAt objectFrom
+  numbers-kept =
+      joined s (objectStart o) (objectStart o + gidOffset) gidOffset 4 _ _ refl
+      (joined s (objectStart o) (objectStart o + uidOffset) uidOffset 4 _ _ refl
+      (joined s (objectStart o) (objectStart o + modeOffset) modeOffset 4 _ _ refl
+      (joined s (objectStart o) (objectStart o + generationOffset) generationOffset 4 _ _ refl (bytes-kept s f 4 (objectStart o) (omega arith))
+      (bytes-kept s f 4 (objectStart o + generationOffset) (omega arith)))
+      (bytes-kept s f 4 (objectStart o + modeOffset) (omega arith)))
+      (bytes-kept s f 4 (objectStart o + uidOffset) (omega arith)))
+      (bytes-kept s f 4 (objectStart o + gidOffset) (omega arith))
+
+  owner-kept : bytesOf 4 (objectAt s o .mode) ++ bytesOf 4 (objectAt s o .uid) ++ bytesOf 4 (objectAt s o .gid)
+      ≡ part s (objectStart o + modeOffset) ownerLength
   unfolding objectAt objectFrom
   owner-kept =
-      joined s (objectStart o + 8) (objectStart o + 16) 8 4 _ _ (omega arith)
-      (joined s (objectStart o + 8) (objectStart o + 12) 4 4 _ _ (omega arith) (bytes-kept s f 4 (objectStart o + 8) (omega arith))
-      (bytes-kept s f 4 (objectStart o + 12) (omega arith)))
-      (bytes-kept s f 4 (objectStart o + 16) (omega arith))
+      joined s (objectStart o + modeOffset) (objectStart o + gidOffset) (gidOffset - modeOffset) 4 _ _ (omega arith)
+      (joined s (objectStart o + modeOffset) (objectStart o + uidOffset) (uidOffset - modeOffset) 4 _ _ (omega arith)
+      (bytes-kept s f 4 (objectStart o + modeOffset) (omega arith))
+      (bytes-kept s f 4 (objectStart o + uidOffset) (omega arith)))
+      (bytes-kept s f 4 (objectStart o + gidOffset) (omega arith))
 
-  times-kept : timesBytes (objectAt s o) ≡ part s (objectStart o + 24) 24
+  pub times-kept : timesBytes (objectAt s o) ≡ part s (objectStart o + atimeOffset) timesLength
   unfolding timesBytes objectAt objectFrom
   times-kept =
-      joined s (objectStart o + 24) (objectStart o + 40) 16 8 _ _ (omega arith)
-      (joined s (objectStart o + 24) (objectStart o + 32) 8 8 _ _ (omega arith) (time-kept (objectStart o + 24) (omega arith))
-      (time-kept (objectStart o + 32) (omega arith)))
-      (time-kept (objectStart o + 40) (omega arith))
+      joined s (objectStart o + atimeOffset) (objectStart o + ctimeOffset) (2 * timeLength) timeLength _ _ (omega arith)
+      (joined s (objectStart o + atimeOffset) (objectStart o + mtimeOffset) timeLength timeLength _ _ (omega arith)
+      (time-kept (objectStart o + atimeOffset) (omega arith))
+      (time-kept (objectStart o + mtimeOffset) (omega arith)))
+      (time-kept (objectStart o + ctimeOffset) (omega arith))
 
-  atime-kept : timeBytes (objectAt s o .atime) ≡ part s (objectStart o + 24) 8
+  atime-kept : timeBytes (objectAt s o .atime) ≡ part s (objectStart o + atimeOffset) timeLength
   unfolding objectAt objectFrom
-  atime-kept = time-kept (objectStart o + 24) (omega arith)
+  atime-kept = time-kept (objectStart o + atimeOffset) (omega arith)
 
   -- an object written where it was read
   pub object-kept : putObject s o (objectAt s o) ≡ s
   object-kept =
       sym (attributes-written s o (objectAt s o) f h refl refl refl refl)
-      ∙ ap (λ (z : Store). overlay z (objectStart o + 24) (timesBytes (objectAt s o))) (overlay-kept s (objectStart o + 8) 12 _ owner-kept (omega arith))
-      ∙ overlay-kept s (objectStart o + 24) 24 _ times-kept (omega arith)
+      ∙ ap (λ (z : Store). overlay z (objectStart o + atimeOffset) (timesBytes (objectAt s o)))
+      (overlay-kept s (objectStart o + modeOffset) ownerLength _ owner-kept (omega arith))
+      ∙ overlay-kept s (objectStart o + atimeOffset) timesLength _ times-kept (omega arith)
 
   -- mtime and ctime written alone
-  pub touched : (clock : Time) → overlay s (objectStart o + 32) (timeBytes clock ++ timeBytes clock) ≡ setAttributes s clock o mtimeAndCtime
+  pub touched : (clock : Time) → overlay s (objectStart o + mtimeOffset) (timeBytes clock ++ timeBytes clock) ≡ setAttributes s clock o mtimeAndCtime
   unfolding setAttributes withAttributes timesBytes
   touched clock =
       let v = objectAt s o in
       let w = withAttributes clock mtimeAndCtime v in
-      let p : objectStart o + 24 + 8 ≡ objectStart o + 32 = omega arith in
-      let atime : timeBytes (v .atime) ≡ part s (objectStart o + 24) 8 = atime-kept in
+      let p : objectStart o + atimeOffset + timeLength ≡ objectStart o + mtimeOffset = omega arith in
+      let atime : timeBytes (v .atime) ≡ part s (objectStart o + atimeOffset) timeLength = atime-kept in
       sym (sym (attributes-written s o w f h refl refl refl refl)
-      ∙ ap (λ (z : Store). overlay z (objectStart o + 24) (timeBytes (v .atime) ++ timeBytes clock ++ timeBytes clock))
-      (overlay-kept s (objectStart o + 8) 12 _ owner-kept (omega arith))
-      ∙ ap (overlay s (objectStart o + 24)) (append-assoc (timeBytes (v .atime)) (timeBytes clock) (timeBytes clock))
-      ∙ skip s (objectStart o + 24) 8 _ _ atime (omega arith)
+      ∙ ap (λ (z : Store). overlay z (objectStart o + atimeOffset) (timeBytes (v .atime) ++ timeBytes clock ++ timeBytes clock))
+      (overlay-kept s (objectStart o + modeOffset) ownerLength _ owner-kept (omega arith))
+      ∙ ap (overlay s (objectStart o + atimeOffset)) (append-assoc (timeBytes (v .atime)) (timeBytes clock) (timeBytes clock))
+      ∙ skip s (objectStart o + atimeOffset) timeLength _ _ atime (omega arith)
       ∙ ap (λ (k : ℕ). overlay s k (timeBytes clock ++ timeBytes clock)) p)

@@ -1,9 +1,9 @@
 // The first edit of the store: an object's attributes and times.
 ghost use mathlib.Core.Path.{_≡_};
-ghost use Prim.Native.Nat.{_+_, _≤_};
+ghost use Prim.Native.Nat.{_+_, _-_, _≤_};
 ghost use mathlib.Core.List.{_++_};
 ghost use lib.ListN.{length};
-ghost use Rattle.kinds.specs.Layout.{objectLength};
+ghost use Rattle.kinds.specs.Layout.{modeOffset, sizeOffset, objectLength};
 ghost use Rattle.spec.specs.Bytes.{overlay, bytesOf};
 ghost use Rattle.spec.specs.Image.{objectStart};
 ghost use Rattle.spec.specs.Edits.{numberSet, timeSet, withAttributes, setAttributes, onlyCtime, mtimeAndCtime};
@@ -71,14 +71,19 @@ pub fn with_attributes(clock: Time, a: Settable, v: Object) -> Object
     }
 }
 
+// Where uid and gid stand after the mode.
+const UID_AFTER_MODE: usize = ObjectRecord::UID - ObjectRecord::MODE;
+
+const GID_AFTER_MODE: usize = ObjectRecord::GID - ObjectRecord::MODE;
+
 // Writes the mode, uid and gid of an object.
 fn save_owner(store: &mut [u8], at: usize, mode: u32, uid: u32, gid: u32)
-    requires { ⌜ at + 12 ≤ length (now store) ⌝ }
+    requires { ⌜ at + (sizeOffset - modeOffset) ≤ length (now store) ⌝ }
     ensures { λ _. ⌜ now (store .exit) ≡ overlay (now (store .entry)) at (bytesOf 4 mode ++ bytesOf 4 uid ++ bytesOf 4 gid) ⌝ }
 {
     wire::put_u32(store, at, mode);
-    wire::put_u32(store, at + 4, uid);
-    wire::put_u32(store, at + 8, gid);
+    wire::put_u32(store, at + UID_AFTER_MODE, uid);
+    wire::put_u32(store, at + GID_AFTER_MODE, gid);
 }
 
 // Sets attributes, but for the size. The other bytes of the record stay.

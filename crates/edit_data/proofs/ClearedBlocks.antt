@@ -4,6 +4,7 @@ use mathlib.Core.Path.{_≡_, sym, ap, _∙_}
 use mathlib.Core.List.{List, [], _∷_}
 use native.Mathlib.Omega.{arith}
 use lib.ListN.{length, getD}
+use Rattle.kinds.specs.Layout.{blockLength}
 use Rattle.spec.specs.Bytes.{part, overlay, zeros}
 use Rattle.spec.specs.Edits.{clearBlocks}
 use Rattle.spec.specs.Image.{Store, blocks, blockStart}
@@ -36,7 +37,7 @@ module _ (s : Store) (numbers : List ℕ) (start end : ℕ) (h : Sound s) (few :
   cleared-shape k t a b e = rw e (cleared-kept k a b .shape)
 
   -- the next one lies in the store
-  pub next-fits : (k : ℕ) (t : Store) → start ≤ k → k < end → t ≡ cleared k → blockStart t (getD numbers k 0) + 512 ≤ length t
+  pub next-fits : (k : ℕ) (t : Store) → start ≤ k → k < end → t ≡ cleared k → blockStart t (getD numbers k 0) + blockLength ≤ length t
   next-fits k t a b e =
       let w = cleared-shape k t a (omega arith) e in
       let r = place-range k a b in
@@ -44,12 +45,12 @@ module _ (s : Store) (numbers : List ℕ) (start end : ℕ) (h : Sound s) (few :
       omega arith
 
   -- and is zeroed
-  pub cleared-next : (k : ℕ) (t u : Store) → start ≤ k → k < end → t ≡ cleared k → u ≡ overlay t (blockStart t (getD numbers k 0)) (zeros 512)
+  pub cleared-next : (k : ℕ) (t u : Store) → start ≤ k → k < end → t ≡ cleared k → u ≡ overlay t (blockStart t (getD numbers k 0)) (zeros blockLength)
       → u ≡ cleared (k + 1)
   unfolding clearBlocks
   cleared-next k t u a b p q =
       let e : start + (k - start) ≡ k = omega arith in
       let f : k + 1 - start ≡ k - start + 1 = omega arith in
-      q ∙ ap (λ (z : Store). overlay z (blockStart z (getD numbers k 0)) (zeros 512)) p
+      q ∙ ap (λ (z : Store). overlay z (blockStart z (getD numbers k 0)) (zeros blockLength)) p
       ∙ sym (rw e at (clear-append s (part numbers start (k - start)) (getD numbers (start + (k - start)) 0 ∷ [])))
       ∙ ap (clearBlocks s) (sym (rw e at (part-snoc numbers start (k - start) (omega arith)))) ∙ ap (λ (n : ℕ). clearBlocks s (part numbers start n)) (sym f)

@@ -5,6 +5,8 @@ use mathlib.Core.List.{List}
 use native.Mathlib.Omega.{arith}
 use lib.Dec.{lit<}
 use lib.ListN.{length}
+use Rattle.kinds.specs.Layout.{blockLength}
+use Rattle.kinds.specs.Numbers.{mostFileBytes}
 use Rattle.spec.specs.Bytes.{part, overlay}
 use Rattle.spec.specs.Edits.{writeFile}
 use Rattle.spec.specs.Image.{Store, objects, blocks, objectAt}
@@ -33,7 +35,7 @@ module _ {s : Store} {o offset : ℕ} {call : List ℕ} {start n : ℕ} (w : Wri
   record-live : LiveObject (blocks s) (objectAt s o)
   record-live = live-at s (w .good) o (w .below) (w .live)
 
-  pub offset-low : offset + n ≤ 8192
+  pub offset-low : offset + n ≤ mostFileBytes
   unfolding sizeOf
   offset-low = omega (arith, live-size (blocks s) (objectAt s o) record-live)
 
@@ -50,14 +52,16 @@ module _ {s : Store} {o offset : ℕ} {call : List ℕ} {start n : ℕ} (w : Wri
   written-shape k t h e = rw e (written-kept k h .shape)
 
   -- the next byte's block lies in the store
-  pub next-place : (k : ℕ) (t : Store) → k < n → t ≡ writeFile s o offset (part call start k) → byteAt t o (offset + k) + (512 - (offset + k) % 512) ≤ length t
+  pub next-place : (k : ℕ) (t : Store) → k < n → t ≡ writeFile s o offset (part call start k)
+      → byteAt t o (offset + k) + (blockLength - (offset + k) % blockLength) ≤ length t
   next-place k t h e =
       let a : RecordsKept s t = rw e (written-kept k (omega arith)) in
       let q = byteAt-same s t (kept-structure s t a) o (w .below) (offset + k) in
       omega (arith, a .shape .long, place-end s o (w .good .sound) record-live (offset + k) (omega arith))
 
   -- m bytes more, within one block
-  pub written-more : (k m : ℕ) (t u : Store) (place : ℕ) → k < n → k + m ≤ n → (offset + k) % 512 + m ≤ 512 → t ≡ writeFile s o offset (part call start k)
+  pub written-more : (k m : ℕ) (t u : Store) (place : ℕ) → k < n → k + m ≤ n → (offset + k) % blockLength + m ≤ blockLength
+      → t ≡ writeFile s o offset (part call start k)
       → place ≡ byteAt t o (offset + k) → u ≡ overlay t place (part call (start + k) m) → u ≡ writeFile s o offset (part call start (k + m))
   written-more k m t u place h i j e p q =
       let xs = part call start k in

@@ -2,7 +2,8 @@
 ghost use mathlib.Core.Path.{_≡_};
 ghost use Prim.Native.Nat.{_+_, _-_, _≤_, _<_};
 ghost use lib.ListN.{length};
-ghost use Rattle.kinds.specs.Numbers.{REGULAR};
+ghost use Rattle.kinds.specs.BlockNumbers.{numbersOf};
+ghost use Rattle.kinds.specs.Numbers.{REGULAR, fileBlocks};
 ghost use Rattle.spec.specs.Bytes.{part};
 ghost use Rattle.spec.specs.Image.{objects, blocks, objectAt};
 ghost use Rattle.spec.specs.Room.{sizeOf};
@@ -18,16 +19,17 @@ use store_records::block::byte_at;
 use store_records::block::clear_block;
 
 // Zeroes the blocks from place `start` to place `end` of a list.
-pub fn clear_blocks(store: &mut [u8], numbers: [u16; 16], start: usize, end: usize)
+pub fn clear_blocks(store: &mut [u8], list: [BlockNumber; 16], start: usize, end: usize)
     requires { ⌜ Sound (now store) ⌝ }
     requires { ⌜ start ≤ end ⌝ }
-    requires { ⌜ end ≤ 16 ⌝ }
-    requires { ⌜ InRange (blocks (now store)) (part numbers start (end - start)) ⌝ }
-    ensures { λ _. ⌜ now (store .exit) ≡ clearBlocks (now (store .entry)) (part numbers start (end - start)) ⌝ }
+    requires { ⌜ end ≤ fileBlocks ⌝ }
+    requires { ⌜ InRange (blocks (now store)) (part (numbersOf list) start (end - start)) ⌝ }
+    ensures { λ _. ⌜ now (store .exit) ≡ clearBlocks (now (store .entry)) (part (numbersOf list) start (end - start)) ⌝ }
 {
     let mut k = start;
     while k < end {
-        clear_block(store, BlockNumber(numbers[k] as usize));
+        let r = list[k];
+        clear_block(store, r);
         k += 1;
     }
 }

@@ -5,6 +5,7 @@ use mathlib.Core.List.{List, _++_}
 use native.Mathlib.Omega.{arith}
 use lib.ListN.{take}
 use Rattle.kinds.specs.Layout.{modeOffset, objectLength}
+use Rattle.kinds.specs.Numbers.{mostFileBytes}
 use Rattle.kinds.specs.Objects.{freeObject}
 use Rattle.kinds.specs.declared.object.Object.{Object}
 use Rattle.spec.specs.Bytes.{part, bytesOf, zeros}
@@ -33,7 +34,7 @@ module _ {s : Store} {n o : ℕ} (r : Removing s n o) where
   pub child-record : LiveObject (blocks s) (objectAt s o)
   child-record = live-at s (r .good) o child-below (rw (r .child) (used-at s (r .good) n (r .below) (r .used) .1))
 
-  pub child-size : sizeOf s o ≤ 8192
+  pub child-size : sizeOf s o ≤ mostFileBytes
   unfolding sizeOf
   child-size = live-size (blocks s) (objectAt s o) child-record
 

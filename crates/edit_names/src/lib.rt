@@ -3,8 +3,9 @@ ghost use mathlib.Core.Path.{_≡_};
 ghost use Prim.Native.Nat.{_+_, _≤_, _<_};
 ghost use lib.ListN.{length};
 ghost use Rattle.kinds.specs.Layout.{objectLength};
+ghost use Rattle.kinds.specs.Numbers.{mostNameBytes};
 ghost use Rattle.kinds.specs.Objects.{freeObject};
-ghost use Rattle.spec.specs.Image.{objectStart, objects, names, nameAt, putObject};
+ghost use Rattle.spec.specs.Image.{objectStart, objects, names, putObject};
 ghost use Rattle.spec.specs.Edits.{withGeneration, createObject, removeObject, moveName};
 ghost use Rattle.spec.specs.Procedures.{cut};
 ghost use Rattle.laws.proofs.GoodRecords.{GoodRecords};
@@ -50,7 +51,7 @@ pub fn create_object(
     requires { ⌜ n .0 < names (now store) ⌝ }
     requires { ⌜ directory .0 < objects (now store) ⌝ }
     requires { ⌜ name .start + name .length ≤ length (now call) ⌝ }
-    requires { ⌜ name .length ≤ 32 ⌝ }
+    requires { ⌜ name .length ≤ mostNameBytes ⌝ }
     ensures { λ _. ⌜ now (store .exit) ≡ createObject (now (store .entry)) (o .0) (n .0) v (directory .0) (cut (now (call .entry)) name) ⌝ }
 {
     let generation = generation_of(store, o);
@@ -95,7 +96,7 @@ pub fn move_name(store: &mut [u8], n: NameNumber, directory: ObjectNumber, call:
     requires { ⌜ n .0 < names (now store) ⌝ }
     requires { ⌜ directory .0 < objects (now store) ⌝ }
     requires { ⌜ name .start + name .length ≤ length (now call) ⌝ }
-    requires { ⌜ name .length ≤ 32 ⌝ }
+    requires { ⌜ name .length ≤ mostNameBytes ⌝ }
     ensures { λ _. ⌜ now (store .exit) ≡ moveName (now (store .entry)) (n .0) (directory .0) (cut (now (call .entry)) name) ⌝ }
 {
     let child = name_child(store, n);

@@ -1,3 +1,4 @@
 pub mod ResizedNumbers
 pub mod Resized
 pub mod Same
+pub mod SizeWritten

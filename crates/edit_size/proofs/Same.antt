@@ -1,6 +1,6 @@
 -- A file that gets the size that it has stays as it is. Assumes nothing.
 use Prim.Native.Nat.{ℕ, _+_, _-_, _%_, _≤_, _<_, min, max}
-use mathlib.Core.Path.{_≡_, refl, sym, ap, ap₂, _∙_}
+use mathlib.Core.Path.{_≡_, refl, sym, ap, _∙_}
 use mathlib.Core.Bool.{Bool, true, false, cond}
 use mathlib.Core.Logic.{⊎-elim}
 use mathlib.Core.List.{List, [], _++_, append-nil}
@@ -8,21 +8,22 @@ use native.Mathlib.Omega.{arith}
 use lib.Dec.{eqb}
 use lib.ListN.{length, getD, take, drop, length-take, drop-of-length-le}
 use lib.Seq.{take-take, getD-take, ext-getD}
-use Rattle.kinds.specs.Numbers.{REGULAR}
+use Rattle.kinds.specs.Layout.{blockLength}
+use Rattle.kinds.specs.Numbers.{REGULAR, fileBlocks}
 use Rattle.kinds.specs.declared.object.Object.{Object}
 use Rattle.spec.specs.Edits.{clearBlocks, clearTail, blockNumbers, withSize, resize}
-use Rattle.spec.specs.Image.{Store, objects, objectStart, objectFrom, objectAt, putObject}
+use Rattle.spec.specs.Image.{Store, objects, objectAt, putObject}
 use Rattle.spec.specs.Room.{sizeOf, need, held, freeBlocks, byteAt}
 use Rattle.laws.proofs.Bytes.{lt-or-le, overlay-none}
 use Rattle.laws.proofs.GoodRecords.{GoodRecords, live-at}
 use Rattle.laws.proofs.Range.{Below}
-use Rattle.laws.proofs.Records.{halves-count}
 use Rattle.laws.proofs.Resize.{numbers-long, numbers-held, numbers-rest}
 use Rattle.laws.proofs.Valid.{LiveObject, live-size}
+use Rattle.store_records.proofs.Numbered.{blocks-long}
 use Rattle.edit_attributes.proofs.Kept.{object-kept}
 
--- the numbers that an object holds, and 65535 in its other places, are all its numbers
-numbers-same : (v : Object) (r : ℕ) → LiveObject r v → length (v .blocks) ≡ 16 → need (v .size) ≤ 16
+-- the numbers that an object holds, and the number of an unused block in its other places, are all its numbers
+numbers-same : (v : Object) (r : ℕ) → LiveObject r v → length (v .blocks) ≡ fileBlocks → need (v .size) ≤ fileBlocks
     → blockNumbers (take (need (v .size)) (v .blocks)) ≡ v .blocks
 numbers-same v r l k b =
     let n = need (v .size) in
@@ -34,10 +35,6 @@ numbers-same v r l k b =
     (λ (q : n ≤ i). numbers-rest rs i (omega (arith, long)) (omega (arith, numbers-long rs)) ∙ sym (l .rest i q (omega (arith, numbers-long rs))))
     (lt-or-le i n))
 
-blocks-long : (s : Store) (o : ℕ) → length (objectAt s o .blocks) ≡ 16
-unfolding objectAt objectFrom
-blocks-long s o = halves-count s (objectStart o + 48) 16
-
 either-way : (t : Bool) (s : Store) → cond t s s ≡ s
 either-way true s = refl
 either-way false s = refl
@@ -46,8 +43,8 @@ either-way false s = refl
 tail-none : (s : Store) (o start end : ℕ) → end ≤ start → clearTail s o start end ≡ s
 unfolding clearTail
 tail-none s o start end h =
-    let e : min (end - start) (512 - start % 512) ≡ 0 = omega arith in
-    rw (e, overlay-none s (byteAt s o start)) (either-way (eqb (start % 512) 0) s)
+    let e : min (end - start) (blockLength - start % blockLength) ≡ 0 = omega arith in
+    rw (e, overlay-none s (byteAt s o start)) (either-way (eqb (start % blockLength) 0) s)
 
 pub resize-same : (s : Store) (o : ℕ) → GoodRecords s → o < objects s → objectAt s o .kind ≡ REGULAR → Below 256 s → resize s o (sizeOf s o) ≡ s
 unfolding resize held clearBlocks sizeOf withSize

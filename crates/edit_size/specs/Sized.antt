@@ -3,7 +3,7 @@ use Prim.Native.Nat.{ℕ}
 use mathlib.Core.List.{List}
 use Rattle.kinds.specs.declared.object.Object.{Object}
 
--- object v with that size and those 16 block numbers
+-- object v with that size and those block numbers
 unfoldable pub sized : ℕ → List ℕ → Object → Object
 sized size numbers v =
     record {

@@ -55,6 +55,9 @@ objectLength = 80
 abbrev pub nanosecondsOffset : ℕ
 nanosecondsOffset = 4
 
+abbrev pub timeLength : ℕ
+timeLength = 8
+
 -- "44 bytes each: directory, child, length (4 each), 32 name bytes": the directory stands first
 abbrev pub childOffset : ℕ
 childOffset = 4
@@ -77,4 +80,4 @@ abbrev pub layout : List ℕ
 layout =
     stampOffset ∷ objectCountOffset ∷ objectsHead ∷ namesHead ∷ blocksHead
     ∷ generationOffset ∷ modeOffset ∷ uidOffset ∷ gidOffset ∷ sizeOffset ∷ atimeOffset ∷ mtimeOffset ∷ ctimeOffset ∷ blocksOffset ∷ objectLength
-    ∷ nanosecondsOffset ∷ childOffset ∷ lengthOffset ∷ textOffset ∷ nameRecordLength ∷ blockLength ∷ []
+    ∷ nanosecondsOffset ∷ timeLength ∷ childOffset ∷ lengthOffset ∷ textOffset ∷ nameRecordLength ∷ blockLength ∷ []

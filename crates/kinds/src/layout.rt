@@ -17,7 +17,7 @@ impl Image {
     pub const BLOCKS_HEAD: usize = 20;
 
     // The numbers of this file, in their order.
-    pub fn layout() -> [usize; 21]
+    pub fn layout() -> [usize; 22]
         ensures { λ r. ⌜ r ≡ layout ⌝ }
     {
         [
@@ -37,6 +37,7 @@ impl Image {
             ObjectRecord::BLOCKS,
             ObjectRecord::BYTES,
             TimeField::NANOSECONDS,
+            TimeField::BYTES,
             NameRecord::CHILD,
             NameRecord::LENGTH,
             NameRecord::TEXT,
@@ -76,6 +77,8 @@ pub struct TimeField(pub usize);
 
 impl TimeField {
     pub const NANOSECONDS: usize = 4;
+
+    pub const BYTES: usize = 8;
 }
 
 // A name record: the directory stands first, each other field at its offset.

@@ -2,12 +2,13 @@
 ghost use mathlib.Core.Path.{_≡_};
 ghost use Rattle.kinds.specs.Numbers.{statuses, procedures, limits, answers, messages, kinds, zeroWords};
 
-// The number of an object, of a name record and of a block: three types, so that none is taken for another.
+// The number of an object, of a name record and of a block: three types, so that none is taken for another. A block number has two bytes, as an
+// object record holds it.
 pub struct ObjectNumber(pub usize);
 
 pub struct NameNumber(pub usize);
 
-pub struct BlockNumber(pub usize);
+pub struct BlockNumber(pub u16);
 
 // An NFS version 3 status, RFC 1813 section 2.6.
 pub struct Status(pub u32);

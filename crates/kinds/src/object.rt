@@ -1,6 +1,6 @@
 // Times, objects, and attributes as they are shown.
 ghost use mathlib.Core.Path.{_≡_};
-ghost use Rattle.kinds.specs.Objects.{rootObject, freeObject};
+ghost use Rattle.kinds.specs.Objects.{rootObject};
 use crate::numbers::Kind;
 use crate::numbers::Limit;
 
@@ -39,28 +39,6 @@ impl Object {
             mtime: clock,
             ctime: clock,
             blocks: [Limit::UNUSED_BLOCK; 16],
-        }
-    }
-
-    // A free record of that generation.
-    pub fn free(generation: u32) -> Object
-        ensures { λ r. ⌜ r ≡ freeObject generation ⌝ }
-    {
-        let never = Time {
-            seconds: 0,
-            nanoseconds: 0,
-        };
-        Object {
-            kind: Kind::FREE,
-            generation,
-            mode: 0,
-            uid: 0,
-            gid: 0,
-            size: 0,
-            atime: never,
-            mtime: never,
-            ctime: never,
-            blocks: [0u16; 16],
         }
     }
 }

@@ -76,10 +76,3 @@ module _ (s : Store) (o i left : ℕ) (f : Readable s o i left) (asked : 1 ≤ l
         together = rw t (together-more s o i run m (rw e at (h .together))
             (together-block s o (i + run) m (f .good) (f .object) b (omega (arith, h .end))) (z ∙ omega (arith, h .place, n)));
       }
-
-  -- the number of a block of the file, and the one behind it, are numbers of the machine
-  pub block-small : (k run : ℕ) → RunTo s o i left k run → run < left → getD (objectAt s o .blocks) k 0 < 65536
-  block-small k run h l =
-      let e : min run left ≡ run = omega arith in
-      let g = f .good .sound .shaped in
-      omega (arith, h .place, (rw e at (h .together)) .inside)

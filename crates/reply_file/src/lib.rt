@@ -28,7 +28,7 @@ fn run_length(store: &[u8], o: ObjectNumber, i: usize, left: usize) -> usize
     while run < left {
         let here = block_of(store, o, k);
         let next = block_of(store, o, k + 1);
-        if next.0 != here.0 + 1 {
+        if next.0 as usize != here.0 as usize + 1 {
             return run;
         }
         k += 1;

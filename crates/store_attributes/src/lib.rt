@@ -1,10 +1,10 @@
 // The attributes of an object, as replies show them.
 ghost use mathlib.Core.Path.{_≡_};
-ghost use mathlib.Core.Bool.{true};
-ghost use Prim.Native.Nat.{_<_, _≤_};
-ghost use Rattle.spec.specs.Image.{objects, objectAt};
+ghost use Prim.Native.Nat.{_<_};
+ghost use Rattle.spec.specs.Image.{objects};
 ghost use Rattle.spec.specs.Handles.{shownSize, usedBytes, linkCount, attributes, before};
 ghost use Rattle.laws.proofs.GoodRecords.{GoodRecords};
+use kinds::layout::Block;
 use kinds::numbers::ObjectNumber;
 use kinds::object::Attributes;
 use kinds::object::Before;
@@ -21,14 +21,17 @@ use store_records::object::size_of;
 use store_records::object::uid_of;
 use store_search::name::subdirectory_count;
 
-// The size that is shown: a directory's is 512.
+// The size that is shown of a directory.
+const DIRECTORY_SIZE: u32 = 512;
+
+// The size that is shown.
 pub fn shown_size(store: &[u8], o: ObjectNumber) -> u32
     requires { ⌜ GoodRecords (now store) ⌝ }
     requires { ⌜ o .0 < objects (now store) ⌝ }
     ensures { λ r. ⌜ r ≡ shownSize (now (store .entry)) (o .0) ⌝ }
 {
     if is_directory(store, o) {
-        return 512;
+        return DIRECTORY_SIZE;
     }
     size_of(store, o)
 }
@@ -39,7 +42,7 @@ pub fn used_bytes(store: &[u8], o: ObjectNumber) -> u32
     requires { ⌜ o .0 < objects (now store) ⌝ }
     ensures { λ r. ⌜ r ≡ usedBytes (now (store .entry)) (o .0) ⌝ }
 {
-    (512 * need(size_of(store, o) as usize)) as u32
+    (Block::BYTES * need(size_of(store, o) as usize)) as u32
 }
 
 // The links to an object: 1 to a file, 2 and its subdirectories to a directory.

@@ -7,12 +7,13 @@ use Prim.Native.Nat.{ℕ, suc, _+_, _-_, _≤_, _<_, zero-le}
 use native.Mathlib.Decide.{ℕ-discrete}
 use native.Mathlib.Omega.{arith}
 use lib.Dec.{eqb}
-use lib.ListN.{length, take, set, replicate, length-set, length-append}
+use lib.ListN.{length, take, set, replicate, length-append}
 use lib.Seq.{set-at, append-snoc, take-all}
 use borrow.Author.Tests.{eq-eqb, ne-eqb}
+use Rattle.kinds.specs.Numbers.{fileBlocks, unusedBlock}
 use Rattle.spec.specs.Count.{bit, count, passing}
 use Rattle.laws.proofs.Count.{count-more, passing-hit, passing-miss, passing-length, passing-front}
-use Rattle.store_blocks.specs.Blocks.{blockList}
+use Rattle.store_blocks.specs.Blocks.{blockList, group}
 
 -- a byte of the map, tested
 pub free-byte : (t : Bool) (m : ℕ) → m ≡ bit (not t) → eqb m 0 ≡ t
@@ -29,12 +30,12 @@ used-more p i k m n e q =
     both true = refl
     both false = refl
 
--- of 64 blocks the used ones are 64 where as many are free below their end as below their start
-pub all-used : (u a b : ℕ) → u + a ≡ 64 + b → eqb u 64 ≡ eqb a b
+-- of a group of blocks all are used where as many are free below their end as below their start
+pub all-used : (u a b : ℕ) → u + a ≡ group + b → eqb u group ≡ eqb a b
 all-used u a b e =
-    by-cases (ℕ-discrete u 64)
-    (λ q. eq-eqb u 64 q ∙ sym (eq-eqb a b (omega arith)))
-    (λ d. ne-eqb u 64 d ∙ sym (ne-eqb a b (λ q. d (omega arith))))
+    by-cases (ℕ-discrete u group)
+    (λ q. eq-eqb u group q ∙ sym (eq-eqb a b (omega arith)))
+    (λ d. ne-eqb u group d ∙ sym (ne-eqb a b (λ q. d (omega arith))))
 
 -- where as many pass below n as below i, they are the same
 pub passing-same : (p : ℕ → Bool) (i n : ℕ) → i ≤ n → count n p ≡ count i p → passing n p ≡ passing i p
@@ -46,48 +47,48 @@ mark-small true m e = omega (arith, e)
 mark-small false m e = omega (arith, e)
 
 -- one more block in the list
-pub listed-more : (xs : List ℕ) (k x : ℕ) → k ≡ length xs → k < 16
-    → set (xs ++ replicate (16 - k) 65535) k x ≡ xs ++ (x ∷ []) ++ replicate (16 - (k + 1)) 65535
+pub listed-more : (xs : List ℕ) (k x : ℕ) → k ≡ length xs → k < fileBlocks
+    → set (xs ++ replicate (fileBlocks - k) unusedBlock) k x ≡ xs ++ (x ∷ []) ++ replicate (fileBlocks - (k + 1)) unusedBlock
 listed-more xs k x e h =
-    let q : 16 - k ≡ suc (16 - (k + 1)) = omega arith in
-    rw q (set-at xs 65535 (replicate (16 - (k + 1)) 65535) x k (sym e) ∙ sym (append-snoc xs x (replicate (16 - (k + 1)) 65535)))
+    let q : fileBlocks - k ≡ suc (fileBlocks - (k + 1)) = omega arith in
+    let rest = replicate (fileBlocks - (k + 1)) unusedBlock in
+    rw q (set-at xs unusedBlock rest x k (sym e) ∙ sym (append-snoc xs x rest))
 
--- the list has the k numbers below i that pass, not more than are wanted, and 65535 in its other places
+-- the list has the k numbers below i that pass, not more than are wanted, and the number of an unused block in its other places
 pub record Listed (p : ℕ → Bool) (wanted i k : ℕ) (list : List ℕ) : Type 0 where
   pub few : k ≤ wanted
-  pub long : length list ≡ 16
   pub count : k ≡ length (passing i p)
-  pub all : list ≡ passing i p ++ replicate (16 - k) 65535
+  pub all : list ≡ passing i p ++ replicate (fileBlocks - k) unusedBlock
 
-pub listed-none : (p : ℕ → Bool) (wanted : ℕ) → Listed p wanted 0 0 (replicate 16 65535)
+pub listed-none : (p : ℕ → Bool) (wanted : ℕ) → Listed p wanted 0 0 (replicate fileBlocks unusedBlock)
 unfolding passing
-listed-none p wanted = record { few = zero-le; long = refl; count = refl; all = refl }
+listed-none p wanted = record { few = zero-le; count = refl; all = refl }
 
 module _ (p : ℕ → Bool) (wanted i k : ℕ) (list : List ℕ) (h : Listed p wanted i k list) where
   -- i passes, and is listed
-  pub listed-hit : (k′ : ℕ) (list′ : List ℕ) → wanted ≤ 16 → k ≢ wanted → p i ≡ true → list′ ≡ set list k i → k′ ≡ k + 1 → Listed p wanted (i + 1) k′ list′
+  pub listed-hit : (k′ : ℕ) (list′ : List ℕ) → wanted ≤ fileBlocks → k ≢ wanted → p i ≡ true → list′ ≡ set list k i → k′ ≡ k + 1
+      → Listed p wanted (i + 1) k′ list′
   listed-hit k′ list′ few d t e q =
       record {
         few = omega arith;
-        long = rw e (simp length-set (h .long));
         count = rw (passing-hit p i t) (simp length-append (omega arith));
         all =
             rw (passing-hit p i t)
             (e ∙ ap (λ (l : List ℕ). set l k i) (h .all) ∙ listed-more (passing i p) k i (h .count) (omega arith)
-            ∙ ap (λ (m : ℕ). passing i p ++ (i ∷ []) ++ replicate (16 - m) 65535) (sym q));
+            ∙ ap (λ (m : ℕ). passing i p ++ (i ∷ []) ++ replicate (fileBlocks - m) unusedBlock) (sym q));
       }
 
   pub listed-miss : (k′ : ℕ) (list′ : List ℕ) → p i ≡ false → list′ ≡ list → k′ ≡ k → Listed p wanted (i + 1) k′ list′
   listed-miss k′ list′ t e q =
-      rw (e, q) (record { few = h .few; long = h .long; count = rw (passing-miss p i t) (h .count); all = rw (passing-miss p i t) (h .all) })
+      rw (e, q) (record { few = h .few; count = rw (passing-miss p i t) (h .count); all = rw (passing-miss p i t) (h .all) })
 
   -- none from i up to n passes
   pub listed-skip : (n : ℕ) → passing n p ≡ passing i p → Listed p wanted n k list
-  listed-skip n e = record { few = h .few; long = h .long; count = rw e (h .count); all = rw e (h .all) }
+  listed-skip n e = record { few = h .few; count = rw e (h .count); all = rw e (h .all) }
 
   listed-by : (n : ℕ) → take wanted (passing n p) ≡ passing i p → list ≡ blockList wanted (passing n p)
   unfolding blockList
-  listed-by n r = rw r (h .all ∙ ap (λ (m : ℕ). passing i p ++ replicate (16 - m) 65535) (h .count))
+  listed-by n r = rw r (h .all ∙ ap (λ (m : ℕ). passing i p ++ replicate (fileBlocks - m) unusedBlock) (h .count))
 
   -- as many as are wanted are listed
   pub listed-wanted : (n : ℕ) → i ≤ n → k ≡ wanted → list ≡ blockList wanted (passing n p)

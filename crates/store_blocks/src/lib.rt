@@ -2,11 +2,13 @@
 ghost use mathlib.Core.Path.{_≡_};
 ghost use Prim.Native.Nat.{_+_, _<_, _≤_};
 ghost use lib.Dec.{eqb};
+ghost use Rattle.kinds.specs.BlockNumbers.{numbersOf};
+ghost use Rattle.kinds.specs.Numbers.{fileBlocks};
 ghost use Rattle.spec.specs.Count.{count};
 ghost use Rattle.spec.specs.Image.{blocks};
 ghost use Rattle.spec.specs.Room.{isFreeBlock, freeBlocks, freeBlockCount};
 ghost use Rattle.store_records.specs.Shaped.{Shaped};
-ghost use Rattle.store_blocks.specs.Blocks.{UsedMap, blockList};
+ghost use Rattle.store_blocks.specs.Blocks.{UsedMap, blockList, group};
 use kinds::numbers::BlockNumber;
 use kinds::numbers::Limit;
 use store_records::counts::block_count;
@@ -17,7 +19,7 @@ fn is_free_block(store: &[u8], map: &[u8; 1024], r: BlockNumber) -> bool
     requires { ⌜ r .0 < blocks (now store) ⌝ }
     ensures { λ q. ⌜ q ≡ isFreeBlock (now (store .entry)) (r .0) ⌝ }
 {
-    let i = r.0;
+    let i = r.0 as usize;
     map[i] == 0
 }
 
@@ -37,47 +39,52 @@ pub fn free_block_count(store: &[u8], map: &[u8; 1024]) -> usize
     total - used as usize
 }
 
-// Whether the 64 blocks from i on are all used: as many are free below i + 64 as below i.
-fn all_used(store: &[u8], map: &[u8; 1024], i: usize) -> bool
+// How many blocks are tested together.
+const GROUP: usize = 64;
+
+// Whether the blocks of the group that starts with a block are all used: as many are free below its end as below its start.
+fn all_used(store: &[u8], map: &[u8; 1024], first: BlockNumber) -> bool
     requires { ⌜ Shaped (now store) ⌝ }
     requires { ⌜ UsedMap (now store) (now map) ⌝ }
-    requires { ⌜ i + 64 ≤ blocks (now store) ⌝ }
-    ensures { λ r. ⌜ r ≡ eqb (count (i + 64) (isFreeBlock (now (store .entry)))) (count i (isFreeBlock (now (store .entry)))) ⌝ }
+    requires { ⌜ first .0 + group ≤ blocks (now store) ⌝ }
+    ensures { λ r. ⌜ r ≡ eqb (count (first .0 + group) (isFreeBlock (now (store .entry)))) (count (first .0) (isFreeBlock (now (store .entry)))) ⌝ }
 {
+    let i = first.0 as usize;
     let mut used: u8 = 0;
     let mut j = 0;
-    while j < 64 {
+    while j < GROUP {
         used += map[i + j];
         j += 1;
     }
-    used == 64
+    used as usize == GROUP
 }
 
 // The lowest-numbered free blocks, as many as are wanted and free, then the number of an unused block.
-pub fn free_blocks(store: &[u8], map: &[u8; 1024], wanted: usize) -> [u16; 16]
+pub fn free_blocks(store: &[u8], map: &[u8; 1024], wanted: usize) -> [BlockNumber; 16]
     requires { ⌜ Shaped (now store) ⌝ }
     requires { ⌜ UsedMap (now store) (now map) ⌝ }
-    requires { ⌜ wanted ≤ 16 ⌝ }
-    ensures { λ r. ⌜ r ≡ blockList wanted (freeBlocks (now (store .entry))) ⌝ }
+    requires { ⌜ wanted ≤ fileBlocks ⌝ }
+    ensures { λ r. ⌜ numbersOf r ≡ blockList wanted (freeBlocks (now (store .entry))) ⌝ }
 {
     let total = block_count(store);
-    let mut list = [Limit::UNUSED_BLOCK; 16];
+    let mut list = [BlockNumber(Limit::UNUSED_BLOCK); 16];
     let mut k = 0;
     let mut i = 0;
     while i < total {
         if k == wanted {
             return list;
         }
-        if i % 64 == 0 {
-            if total - i >= 64 {
-                if all_used(store, map, i) {
-                    i += 64;
+        let r = BlockNumber(i as u16);
+        if i % GROUP == 0 {
+            if total - i >= GROUP {
+                if all_used(store, map, r) {
+                    i += GROUP;
                     continue;
                 }
             }
         }
-        if is_free_block(store, map, BlockNumber(i)) {
-            list[k] = i as u16;
+        if is_free_block(store, map, r) {
+            list[k] = r;
             k += 1;
         }
         i += 1;

@@ -2,6 +2,7 @@
 ghost use mathlib.Core.Path.{_≡_};
 ghost use Prim.Native.Nat.{_+_, _*_, _≤_, _<_};
 ghost use Rattle.kinds.specs.Layout.{namesHead, blocksHead, objectLength, nameRecordLength, blockLength};
+ghost use Rattle.kinds.specs.Numbers.{mostFileBytes};
 ghost use Rattle.spec.specs.Image.{objectStart};
 ghost use Rattle.spec.specs.Room.{need};
 use kinds::layout::Block;
@@ -35,14 +36,14 @@ pub fn block_place(p: usize, q: usize, r: BlockNumber) -> usize
     requires { ⌜ blocksHead + objectLength * p + nameRecordLength * q + blockLength * r .0 < 18446744073709551616 ⌝ }
     ensures { λ at. ⌜ at ≡ blocksHead + objectLength * p + nameRecordLength * q + blockLength * r .0 ⌝ }
 {
-    let i = r.0;
+    let i = r.0 as usize;
     Image::BLOCKS_HEAD + ObjectRecord::BYTES * p + NameRecord::BYTES * q + Block::BYTES * i
 }
 
 // How many blocks a size needs.
 pub fn need(size: usize) -> usize
-    requires { ⌜ size ≤ 8192 ⌝ }
+    requires { ⌜ size ≤ mostFileBytes ⌝ }
     ensures { λ r. ⌜ r ≡ need size ⌝ }
 {
-    (size + 511) / 512
+    (size + Block::BYTES - 1) / Block::BYTES
 }

@@ -4,6 +4,7 @@ use mathlib.Core.Path.{_≡_, ap}
 use mathlib.Core.Logic.{_⊎_}
 use mathlib.Core.Bool.{true, _&&_}
 use native.Mathlib.Omega.{arith}
+use Rattle.kinds.specs.Numbers.{mostFileBytes}
 use Rattle.kinds.specs.declared.object.Object.{Object}
 use Rattle.spec.specs.Image.{Store, objects, names, blocks, objectAt, nameAt}
 use Rattle.spec.specs.Room.{isDirectory, isIn, isUsedName, sizeOf, subdirectories}
@@ -13,7 +14,7 @@ use Rattle.laws.proofs.GoodRecords.{GoodRecords}
 use Rattle.laws.proofs.Valid.{GoodObject, UsedName, live-size, used-true}
 use Rattle.store_records.specs.Shaped.{Shaped, SoundNames}
 
-small : (r : ℕ) (v : Object) → GoodObject r v → v .size ≤ 8192
+small : (r : ℕ) (v : Object) → GoodObject r v → v .size ≤ mostFileBytes
 small r v (_⊎_.inl f) = omega (arith, ap (λ (x : Object). x .size) f)
 small r v (_⊎_.inr l) = live-size r v l
 
@@ -32,6 +33,6 @@ module _ (s : Store) (g : GoodRecords s) where
   good-names-sound =
       record { short = g .sound .short; directory = λ n l u. used-record n l u .directory; child = λ n l u. used-record n l u .child }
 
-  pub size-few : (o : ℕ) → o < objects s → sizeOf s o ≤ 8192
+  pub size-few : (o : ℕ) → o < objects s → sizeOf s o ≤ mostFileBytes
   unfolding sizeOf
   size-few o l = small (blocks s) (objectAt s o) (g .good-objects o l)

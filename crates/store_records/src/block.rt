@@ -3,6 +3,7 @@ ghost use mathlib.Core.Path.{_≡_};
 ghost use Prim.Native.Nat.{_+_, _<_, _≤_};
 ghost use lib.ListN.{length};
 ghost use Rattle.kinds.specs.Layout.{objectLength, blockLength};
+ghost use Rattle.kinds.specs.Numbers.{mostFileBytes};
 ghost use Rattle.spec.specs.Bytes.{overlay, zeros};
 ghost use Rattle.spec.specs.Image.{objectStart, blockStart};
 ghost use Rattle.spec.specs.Room.{byteAt};
@@ -15,7 +16,7 @@ use kinds::numbers::ObjectNumber;
 // Where byte i of an object's file lies; it lies in the store.
 pub fn byte_at(store: &[u8], o: ObjectNumber, i: usize) -> usize
     requires { ⌜ objectStart (o .0) + objectLength ≤ length (now store) ⌝ }
-    requires { ⌜ i < 8192 ⌝ }
+    requires { ⌜ i < mostFileBytes ⌝ }
     requires { ⌜ byteAt (now store) (o .0) i < length (now store) ⌝ }
     ensures { λ r. ⌜ r ≡ byteAt (now (store .entry)) (o .0) i ⌝ }
 {

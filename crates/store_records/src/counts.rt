@@ -2,8 +2,8 @@
 ghost use mathlib.Core.Path.{_≡_};
 ghost use Prim.Native.Nat.{_+_, _≤_};
 ghost use lib.ListN.{length};
-ghost use Rattle.kinds.specs.Layout.{objectLength, nameRecordLength};
-ghost use Rattle.spec.specs.Image.{volumes, stamp, objects, names, blocks, objectStart, nameStart, blockStart};
+ghost use Rattle.kinds.specs.Layout.{objectCountOffset, objectsHead, objectLength, nameRecordLength};
+ghost use Rattle.spec.specs.Image.{stamp, objects, names, blocks, objectStart, nameStart, blockStart};
 use kinds::layout::Image;
 use kinds::layout::NameRecord;
 use kinds::layout::ObjectRecord;
@@ -14,22 +14,15 @@ use store_places::block_place;
 use store_places::name_place;
 use store_places::object_place;
 
-pub fn volume_count(store: &[u8]) -> usize
-    requires { ⌜ 4 ≤ length (now store) ⌝ }
-    ensures { λ r. ⌜ r ≡ volumes (now (store .entry)) ⌝ }
-{
-    wire::get_u32(store, 0) as usize
-}
-
 pub fn stamp_of(store: &[u8]) -> u32
-    requires { ⌜ 8 ≤ length (now store) ⌝ }
+    requires { ⌜ objectCountOffset ≤ length (now store) ⌝ }
     ensures { λ r. ⌜ r ≡ stamp (now (store .entry)) ⌝ }
 {
     wire::get_u32(store, Image::STAMP)
 }
 
 pub fn object_count(store: &[u8]) -> usize
-    requires { ⌜ 12 ≤ length (now store) ⌝ }
+    requires { ⌜ objectsHead ≤ length (now store) ⌝ }
     ensures { λ r. ⌜ r ≡ objects (now (store .entry)) ⌝ }
 {
     wire::get_u32(store, Image::OBJECT_COUNT) as usize

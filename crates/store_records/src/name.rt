@@ -3,7 +3,7 @@ ghost use mathlib.Core.Path.{_≡_};
 ghost use Prim.Native.Nat.{_+_, _<_, _≤_};
 ghost use lib.ListN.{length};
 ghost use Rattle.kinds.specs.Layout.{nameRecordLength};
-ghost use Rattle.spec.specs.Bytes.{part};
+ghost use Rattle.kinds.specs.Numbers.{mostNameBytes};
 ghost use Rattle.spec.specs.Image.{nameStart, nameAt, nameLength, putName, freeName};
 ghost use Rattle.spec.specs.Room.{isUsedName};
 ghost use Rattle.store_records.specs.Text.{nameOf, textOf};
@@ -61,7 +61,7 @@ pub fn save_name(
     requires { ⌜ directory .0 < 4294967296 ⌝ }
     requires { ⌜ child .0 < 4294967296 ⌝ }
     requires { ⌜ name .start + name .length ≤ length (now call) ⌝ }
-    requires { ⌜ name .length ≤ 32 ⌝ }
+    requires { ⌜ name .length ≤ mostNameBytes ⌝ }
     ensures { λ _. ⌜ now (store .exit) ≡ putName (now (store .entry)) (n .0) (nameOf (directory .0) (child .0) (textOf (now (call .entry)) name)) ⌝ }
 {
     let at = name_start(store, n);

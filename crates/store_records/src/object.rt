@@ -1,23 +1,26 @@
-// Object records: read, written, and single fields of one.
+// Object records: one written, and single fields of one.
 ghost use mathlib.Core.Path.{_≡_};
 ghost use mathlib.Core.List.{_++_};
-ghost use Prim.Native.Nat.{_+_, _<_, _≤_};
+ghost use Prim.Native.Nat.{_+_, _-_, _*_, _<_, _≤_};
 ghost use lib.ListN.{length, getD};
-ghost use Rattle.kinds.specs.Layout.{objectLength};
+ghost use Rattle.kinds.specs.BlockNumbers.{numbersOf};
+ghost use Rattle.kinds.specs.Layout.{atimeOffset, blocksOffset, objectLength, timeLength};
+ghost use Rattle.kinds.specs.Numbers.{fileBlocks};
 ghost use Rattle.spec.specs.Bytes.{overlay};
-ghost use Rattle.spec.specs.Image.{objectStart, timeAt, timeBytes, halvesAt, halvesBytes, headBytes, objectAt, putObject};
+ghost use Rattle.spec.specs.Image.{objectStart, timeAt, timeBytes, halvesBytes, headBytes, objectAt, putObject};
 ghost use Rattle.spec.specs.Room.{isLive, isRegular, isDirectory, sizeOf};
 use crate::counts::object_start;
 use kinds::layout::ObjectRecord;
 use kinds::layout::TimeField;
 use kinds::numbers::BlockNumber;
 use kinds::numbers::Kind;
+use kinds::numbers::Limit;
 use kinds::numbers::ObjectNumber;
 use kinds::object::Object;
 use kinds::object::Time;
 
 fn load_time(store: &[u8], at: usize) -> Time
-    requires { ⌜ at + 8 ≤ length (now store) ⌝ }
+    requires { ⌜ at + timeLength ≤ length (now store) ⌝ }
     ensures { λ r. ⌜ r ≡ timeAt (now (store .entry)) at ⌝ }
 {
     let seconds = wire::get_u32(store, at);
@@ -28,73 +31,44 @@ fn load_time(store: &[u8], at: usize) -> Time
     }
 }
 
-// The 16 block numbers of a record.
-fn load_blocks(store: &[u8], at: usize) -> [u16; 16]
-    requires { ⌜ at + 32 ≤ length (now store) ⌝ }
-    ensures { λ r. ⌜ r ≡ halvesAt (now (store .entry)) at 16 ⌝ }
-{
-    let mut blocks = [0u16; 16];
-    let mut i = 0;
-    while i < 16 {
-        blocks[i] = wire::get_u16(store, at + 2 * i);
-        i += 1;
-    }
-    blocks
-}
-
-pub fn load_object(store: &[u8], o: ObjectNumber) -> Object
-    requires { ⌜ objectStart (o .0) + objectLength ≤ length (now store) ⌝ }
-    ensures { λ r. ⌜ r ≡ objectAt (now (store .entry)) (o .0) ⌝ }
-{
-    let at = object_start(store, o);
-    let kind = wire::get_u32(store, at);
-    let generation = wire::get_u32(store, at + ObjectRecord::GENERATION);
-    let mode = wire::get_u32(store, at + ObjectRecord::MODE);
-    let uid = wire::get_u32(store, at + ObjectRecord::UID);
-    let gid = wire::get_u32(store, at + ObjectRecord::GID);
-    let size = wire::get_u32(store, at + ObjectRecord::SIZE);
-    let atime = load_time(store, at + ObjectRecord::ATIME);
-    let mtime = load_time(store, at + ObjectRecord::MTIME);
-    let ctime = load_time(store, at + ObjectRecord::CTIME);
-    let blocks = load_blocks(store, at + ObjectRecord::BLOCKS);
-    Object {
-        kind,
-        generation,
-        mode,
-        uid,
-        gid,
-        size,
-        atime,
-        mtime,
-        ctime,
-        blocks,
-    }
-}
-
 // Writes a time.
 pub fn save_time(store: &mut [u8], at: usize, t: Time)
-    requires { ⌜ at + 8 ≤ length (now store) ⌝ }
+    requires { ⌜ at + timeLength ≤ length (now store) ⌝ }
     ensures { λ _. ⌜ now (store .exit) ≡ overlay (now (store .entry)) at (timeBytes t) ⌝ }
 {
     wire::put_u32(store, at, t.seconds);
     wire::put_u32(store, at + TimeField::NANOSECONDS, t.nanoseconds);
 }
 
-// Writes the 16 block numbers of a record.
-fn save_blocks(store: &mut [u8], at: usize, blocks: [u16; 16])
-    requires { ⌜ at + 32 ≤ length (now store) ⌝ }
-    ensures { λ _. ⌜ now (store .exit) ≡ overlay (now (store .entry)) at (halvesBytes 16 blocks) ⌝ }
+// The block numbers of an object, each of its kind.
+fn block_numbers(numbers: [u16; 16]) -> [BlockNumber; 16]
+    ensures { λ r. ⌜ numbersOf r ≡ numbers ⌝ }
 {
-    let mut i = 0;
-    while i < 16 {
-        wire::put_u16(store, at + 2 * i, blocks[i]);
-        i += 1;
+    let mut blocks = [BlockNumber(Limit::UNUSED_BLOCK); 16];
+    let mut k = 0;
+    while k < Limit::FILE_BLOCKS {
+        blocks[k] = BlockNumber(numbers[k]);
+        k += 1;
+    }
+    blocks
+}
+
+// Writes the block numbers of a record.
+pub fn save_blocks(store: &mut [u8], at: usize, blocks: [BlockNumber; 16])
+    requires { ⌜ at + (objectLength - blocksOffset) ≤ length (now store) ⌝ }
+    ensures { λ _. ⌜ now (store .exit) ≡ overlay (now (store .entry)) at (halvesBytes fileBlocks (numbersOf blocks)) ⌝ }
+{
+    let mut k = 0;
+    while k < Limit::FILE_BLOCKS {
+        let r = blocks[k];
+        wire::put_u16(store, at + 2 * k, r.0);
+        k += 1;
     }
 }
 
 // Writes the six numbers before an object's times.
 fn save_head(store: &mut [u8], at: usize, v: Object)
-    requires { ⌜ at + 24 ≤ length (now store) ⌝ }
+    requires { ⌜ at + atimeOffset ≤ length (now store) ⌝ }
     ensures { λ _. ⌜ now (store .exit) ≡ overlay (now (store .entry)) at (headBytes v) ⌝ }
 {
     wire::put_u32(store, at, v.kind);
@@ -107,12 +81,12 @@ fn save_head(store: &mut [u8], at: usize, v: Object)
 
 // Writes an object's times.
 pub fn save_times(store: &mut [u8], at: usize, atime: Time, mtime: Time, ctime: Time)
-    requires { ⌜ at + 24 ≤ length (now store) ⌝ }
+    requires { ⌜ at + 3 * timeLength ≤ length (now store) ⌝ }
     ensures { λ _. ⌜ now (store .exit) ≡ overlay (now (store .entry)) at (timeBytes atime ++ timeBytes mtime ++ timeBytes ctime) ⌝ }
 {
     save_time(store, at, atime);
-    save_time(store, at + 8, mtime);
-    save_time(store, at + 16, ctime);
+    save_time(store, at + TimeField::BYTES, mtime);
+    save_time(store, at + 2 * TimeField::BYTES, ctime);
 }
 
 pub fn save_object(store: &mut [u8], o: ObjectNumber, v: Object)
@@ -126,7 +100,7 @@ pub fn save_object(store: &mut [u8], o: ObjectNumber, v: Object)
     let ctime = v.ctime;
     save_times(store, at + ObjectRecord::ATIME, atime, mtime, ctime);
     let blocks = v.blocks;
-    save_blocks(store, at + ObjectRecord::BLOCKS, blocks);
+    save_blocks(store, at + ObjectRecord::BLOCKS, block_numbers(blocks));
 }
 
 // Single fields of a record.
@@ -202,22 +176,28 @@ pub fn ctime_of(store: &[u8], o: ObjectNumber) -> Time
     load_time(store, at + ObjectRecord::CTIME)
 }
 
-pub fn blocks_of(store: &[u8], o: ObjectNumber) -> [u16; 16]
-    requires { ⌜ objectStart (o .0) + objectLength ≤ length (now store) ⌝ }
-    ensures { λ r. ⌜ r ≡ objectAt (now (store .entry)) (o .0) .blocks ⌝ }
-{
-    let at = object_start(store, o);
-    load_blocks(store, at + ObjectRecord::BLOCKS)
-}
-
-// The k-th of the 16 block numbers of a record.
+// The k-th of the block numbers of a record.
 pub fn block_of(store: &[u8], o: ObjectNumber, k: usize) -> BlockNumber
     requires { ⌜ objectStart (o .0) + objectLength ≤ length (now store) ⌝ }
-    requires { ⌜ k < 16 ⌝ }
+    requires { ⌜ k < fileBlocks ⌝ }
     ensures { λ r. ⌜ r .0 ≡ getD (objectAt (now (store .entry)) (o .0) .blocks) k 0 ⌝ }
 {
     let at = object_start(store, o);
-    BlockNumber(wire::get_u16(store, at + ObjectRecord::BLOCKS + 2 * k) as usize)
+    BlockNumber(wire::get_u16(store, at + ObjectRecord::BLOCKS + 2 * k))
+}
+
+// The block numbers of a record.
+pub fn blocks_of(store: &[u8], o: ObjectNumber) -> [BlockNumber; 16]
+    requires { ⌜ objectStart (o .0) + objectLength ≤ length (now store) ⌝ }
+    ensures { λ r. ⌜ numbersOf r ≡ objectAt (now (store .entry)) (o .0) .blocks ⌝ }
+{
+    let mut blocks = [BlockNumber(Limit::UNUSED_BLOCK); 16];
+    let mut k = 0;
+    while k < Limit::FILE_BLOCKS {
+        blocks[k] = block_of(store, o, k);
+        k += 1;
+    }
+    blocks
 }
 
 // Whether an object is live, a regular file, or a directory.

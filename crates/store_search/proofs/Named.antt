@@ -10,6 +10,7 @@ use native.Mathlib.Numerals.{add-one}
 use native.Mathlib.Omega.{arith}
 use lib.ListN.{length, getD}
 use borrow.Author.Tests.{eq-eqb, ne-eqb}
+use Rattle.kinds.specs.Layout.{childOffset, lengthOffset, textOffset}
 use Rattle.spec.specs.Bytes.{part, beAt, sameBytes}
 use Rattle.spec.specs.Count.{passing, lowest}
 use Rattle.spec.specs.Image.{Store, names, nameStart, nameAt, nameFrom, nameLength}
@@ -47,11 +48,11 @@ module _ (s : Store) (d n : ℕ) where
   unfolding nameAt nameFrom
   directory-at at e = rw e
 
-  pub child-at : (at : ℕ) → at ≡ nameStart s n → beAt s (at + 4) 4 ≡ nameAt s n .child
+  pub child-at : (at : ℕ) → at ≡ nameStart s n → beAt s (at + childOffset) 4 ≡ nameAt s n .child
   unfolding nameAt nameFrom
   child-at at e = rw e
 
-  pub length-at : (at : ℕ) → at ≡ nameStart s n → beAt s (at + 8) 4 ≡ nameLength s n
+  pub length-at : (at : ℕ) → at ≡ nameStart s n → beAt s (at + lengthOffset) 4 ≡ nameLength s n
   unfolding nameLength
   length-at at e = rw e
 
@@ -75,20 +76,20 @@ module _ (s : Store) (d n : ℕ) where
   named-free text e = rw (free-in e)
 
   -- a byte of the name differs
-  pub named-other : (text : List ℕ) (k : ℕ) → k < length text → getD s (nameStart s n + 12 + k) 0 ≢ getD text k 0 → isNamed s d text n ≡ false
+  pub named-other : (text : List ℕ) (k : ℕ) → k < length text → getD s (nameStart s n + textOffset + k) 0 ≢ getD text k 0 → isNamed s d text n ≡ false
   unfolding isNamed nameAt nameFrom nameLength
   named-other text k l f =
       by-cases (ℕ-discrete (nameLength s n) (length text))
       (λ (e : nameLength s n ≡ length text). rw (
-        same-no _ _ (λ (q : part s (nameStart s n + 12) (nameLength s n) ≡ text). f
-            (sym (getD-part s (nameStart s n + 12) (nameLength s n) k (omega arith)) ∙ ap (λ (t : List ℕ). getD t k 0) q)),
+        same-no _ _ (λ (q : part s (nameStart s n + textOffset) (nameLength s n) ≡ text). f
+            (sym (getD-part s (nameStart s n + textOffset) (nameLength s n) k (omega arith)) ∙ ap (λ (t : List ℕ). getD t k 0) q)),
         and-false,
         and-false,
       ))
       (λ d. named-longer text d)
 
   pub named-same : (text : List ℕ) (len : ℕ) → nameAt s n .directory ≡ d → nameLength s n ≡ len → length text ≡ len → len ≢ 0
-      → sameBytes (part s (nameStart s n + 12) len) text ≡ isNamed s d text n
+      → sameBytes (part s (nameStart s n + textOffset) len) text ≡ isNamed s d text n
   unfolding isNamed nameAt nameFrom nameLength
   named-same text len e l t z =
       let i = used-in e (λ q. z (sym l ∙ q)) in

@@ -4,9 +4,10 @@ ghost use mathlib.Core.Bool.{_&&_, not};
 ghost use Prim.Native.Nat.{_+_, _<_, _≤_};
 ghost use lib.ListN.{length};
 ghost use Rattle.kinds.specs.Layout.{nameRecordLength};
+ghost use Rattle.kinds.specs.Numbers.{mostNameBytes};
 ghost use Rattle.spec.specs.Count.{lowest};
 ghost use Rattle.spec.specs.Image.{names, nameStart, nameAt};
-ghost use Rattle.spec.specs.Room.{isUsedName, isNaming, isIn, isNamed, isDirectory, availableName, freeNameCount, findName, subdirectories, parent};
+ghost use Rattle.spec.specs.Room.{isUsedName, isNaming, isIn, isNamed, isDirectory, availableName, findName, subdirectories, parent};
 ghost use Rattle.store_records.specs.Shaped.{Shaped, SoundNames};
 ghost use Rattle.store_records.specs.Text.{textOf};
 ghost use Rattle.store_search.specs.Found.{foundName};
@@ -46,20 +47,6 @@ pub fn find_free_name(store: &[u8]) -> FoundName
         n += 1;
     }
     FoundName::Nothing
-}
-
-pub fn free_name_count(store: &[u8]) -> usize
-    requires { ⌜ Shaped (now store) ⌝ }
-    ensures { λ r. ⌜ r ≡ freeNameCount (now (store .entry)) ⌝ }
-{
-    let total = name_count(store);
-    let mut found = 0;
-    let mut i = 0;
-    while i < total {
-        found += one_if(is_free_name(store, NameNumber(i)));
-        i += 1;
-    }
-    found
 }
 
 // Whether a record is used, and names an object.
@@ -147,7 +134,7 @@ fn is_named(
 ) -> bool
     requires { ⌜ at ≡ nameStart (now store) (n .0) ⌝ }
     requires { ⌜ at + nameRecordLength ≤ length (now store) ⌝ }
-    requires { ⌜ (0 < name .length) × (name .length ≤ 32) ⌝ }
+    requires { ⌜ (0 < name .length) × (name .length ≤ mostNameBytes) ⌝ }
     requires { ⌜ name .start + name .length ≤ length (now call) ⌝ }
     ensures { λ r. ⌜ r ≡ isNamed (now (store .entry)) (directory .0) (textOf (now (call .entry)) name) (n .0) ⌝ }
 {

@@ -5,7 +5,8 @@ use Rattle.spec.specs.Procedures.{act}
 use Rattle.laws.proofs.Arguments.{Within}
 use Rattle.laws.proofs.ArgumentRange.{FitsArguments}
 use Rattle.laws.proofs.Error.{getattr-store, lookup-store, access-store, read-store, readdir-store, fsstat-store, fsinfo-store, pathconf-store, commit-store}
-use Rattle.act_procedures.proofs.Told.{good, told, reading}
+use Rattle.store_blocks.proofs.Ready.{ready-records}
+use Rattle.act_procedures.proofs.Told.{told, reading}
 use Rattle.act_procedures.proofs.run.Statement.{statement}
 use Rattle.act_procedures.proofs.run.Tie as tie
 
@@ -19,7 +20,7 @@ getattr-requires : tie.Need-getattr-requires
 getattr-requires c κs =
     let st = c .before .before .before .before .before .before in
     let w = subst (Within (length (st .args .call .now))) (c .before .before .a .given .1) (st .pre .1 .0) in
-    (good (st .pre .0), w)
+    (ready-records (st .pre .0), w)
 
 enum-known-a-2 : tie.Need-enum-known-a-2
 enum-known-a-2 c = search needs
@@ -37,7 +38,7 @@ lookup-requires : tie.Need-lookup-requires
 lookup-requires c κs =
     let st = c .before .before .before .before .before .before in
     let w = subst (Within (length (st .args .call .now))) (c .before .before .a3 .given .1) (st .pre .1 .0) in
-    (good (st .pre .0), w)
+    (ready-records (st .pre .0), w)
 
 enum-known-a-4 : tie.Need-enum-known-a-4
 enum-known-a-4 c = search needs
@@ -46,7 +47,7 @@ access-requires : tie.Need-access-requires
 access-requires c κs =
     let st = c .before .before .before .before .before .before in
     let w = subst (Within (length (st .args .call .now))) (c .before .before .a4 .given .1) (st .pre .1 .0) in
-    (good (st .pre .0), w)
+    (ready-records (st .pre .0), w)
 
 enum-known-a-5 : tie.Need-enum-known-a-5
 enum-known-a-5 c = search needs
@@ -55,7 +56,7 @@ read-requires : tie.Need-read-requires
 read-requires c κs =
     let st = c .before .before .before .before .before .before in
     let w = subst (Within (length (st .args .call .now))) (c .before .before .a5 .given .1) (st .pre .1 .0) in
-    (good (st .pre .0), w)
+    (ready-records (st .pre .0), w)
 
 enum-known-a-6 : tie.Need-enum-known-a-6
 enum-known-a-6 c = search needs
@@ -91,7 +92,7 @@ remove-requires : tie.Need-remove-requires
 remove-requires c κs =
     let st = c .before .before .before .before .before .before in
     let w = subst (Within (length (st .args .call .now))) (c .before .before .a9 .given .1) (st .pre .1 .0) in
-    (st .pre .0 .valid, (good (st .pre .0), (st .pre .0 .clock, w)))
+    (st .pre .0 .valid, (ready-records (st .pre .0), (st .pre .0 .clock, w)))
 
 enum-known-a-10 : tie.Need-enum-known-a-10
 enum-known-a-10 c = search needs
@@ -100,7 +101,7 @@ rmdir-requires : tie.Need-rmdir-requires
 rmdir-requires c κs =
     let st = c .before .before .before .before .before .before in
     let w = subst (Within (length (st .args .call .now))) (c .before .before .a10 .given .1) (st .pre .1 .0) in
-    (st .pre .0 .valid, (good (st .pre .0), (st .pre .0 .clock, w)))
+    (st .pre .0 .valid, (ready-records (st .pre .0), (st .pre .0 .clock, w)))
 
 enum-known-a-11 : tie.Need-enum-known-a-11
 enum-known-a-11 c = search needs
@@ -109,7 +110,7 @@ rename-requires : tie.Need-rename-requires
 rename-requires c κs =
     let st = c .before .before .before .before .before .before in
     let w = subst (Within (length (st .args .call .now))) (c .before .before .a11 .given .1) (st .pre .1 .0) in
-    (st .pre .0 .valid, (good (st .pre .0), (st .pre .0 .clock, (w .0 .0, (w .0 .1, w .1)))))
+    (st .pre .0 .valid, (ready-records (st .pre .0), (st .pre .0 .clock, (w .0 .0, (w .0 .1, w .1)))))
 
 enum-known-a-12 : tie.Need-enum-known-a-12
 enum-known-a-12 c = search needs
@@ -118,7 +119,7 @@ readdir-requires : tie.Need-readdir-requires
 readdir-requires c κs =
     let st = c .before .before .before .before .before .before in
     let w = subst (Within (length (st .args .call .now))) (c .before .before .a12 .given .1) (st .pre .1 .0) in
-    (good (st .pre .0), w)
+    (ready-records (st .pre .0), w)
 
 enum-known-a-13 : tie.Need-enum-known-a-13
 enum-known-a-13 c = search needs
@@ -127,7 +128,7 @@ fsstat-requires : tie.Need-fsstat-requires
 fsstat-requires c κs =
     let st = c .before .before .before .before .before .before in
     let w = subst (Within (length (st .args .call .now))) (c .before .before .a13 .given .1) (st .pre .1 .0) in
-    (good (st .pre .0), (w, st .pre .0 .map))
+    (ready-records (st .pre .0), (w, st .pre .0 .map))
 
 enum-known-a-14 : tie.Need-enum-known-a-14
 enum-known-a-14 c = search needs
@@ -136,7 +137,7 @@ fsinfo-requires : tie.Need-fsinfo-requires
 fsinfo-requires c κs =
     let st = c .before .before .before .before .before .before in
     let w = subst (Within (length (st .args .call .now))) (c .before .before .a14 .given .1) (st .pre .1 .0) in
-    (good (st .pre .0), w)
+    (ready-records (st .pre .0), w)
 
 enum-known-a-15 : tie.Need-enum-known-a-15
 enum-known-a-15 c = search needs
@@ -145,7 +146,7 @@ pathconf-requires : tie.Need-pathconf-requires
 pathconf-requires c κs =
     let st = c .before .before .before .before .before .before in
     let w = subst (Within (length (st .args .call .now))) (c .before .before .a15 .given .1) (st .pre .1 .0) in
-    (good (st .pre .0), w)
+    (ready-records (st .pre .0), w)
 
 enum-known-a-16 : tie.Need-enum-known-a-16
 enum-known-a-16 c = search needs
@@ -154,7 +155,7 @@ commit-requires : tie.Need-commit-requires
 commit-requires c κs =
     let st = c .before .before .before .before .before .before in
     let w = subst (Within (length (st .args .call .now))) (c .before .before .a16 .given .1) (st .pre .1 .0) in
-    (good (st .pre .0), w)
+    (ready-records (st .pre .0), w)
 
 enum-told-2 : tie.Need-enum-told-2
 enum-told-2 c = search needs

@@ -1,6 +1,7 @@
 use Prim.Native.Nat.{_≤_}
 use native.Mathlib.Omega.{arith}
 use borrow.Author.Needs.{needs}
+use Rattle.kinds.specs.Numbers.{mostFileBytes}
 use Rattle.store_records.proofs.Good.{size-few}
 use Rattle.check_room.proofs.lacks_room_for_bytes.Statement.{statement}
 use Rattle.check_room.proofs.lacks_room_for_bytes.Tie as tie
@@ -21,7 +22,7 @@ lacks-room-requires : tie.Need-lacks-room-requires
 lacks-room-requires c κs =
     let st = c .before .before .before in
     let old = size-few (st .args .store .now) (st .pre .0) (st .args .o .0) (st .pre .1 .1 .0) in
-    let small : c .before .size-of .result ≤ 8192 = omega (arith, c .before .size-of .ensures) in
+    let small : c .before .size-of .result ≤ mostFileBytes = omega (arith, c .before .size-of .ensures) in
     (st .pre .0, (st .pre .1 .0, (small, omega (arith, c .larger .ensures, st .pre .1 .1 .1))))
 
 returns : tie.Need-returns

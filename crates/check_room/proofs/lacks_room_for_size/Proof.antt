@@ -1,6 +1,7 @@
 use Prim.Native.Nat.{_≤_}
 use native.Mathlib.Omega.{arith}
 use borrow.Author.Needs.{needs}
+use Rattle.kinds.specs.Numbers.{mostFileBytes}
 use Rattle.store_records.proofs.Good.{size-few}
 use Rattle.check_room.proofs.Sizes.{size-fits}
 use Rattle.check_room.proofs.lacks_room_for_size.Statement.{statement}
@@ -22,7 +23,7 @@ lacks-room-requires : tie.Need-lacks-room-requires
 lacks-room-requires c κs =
     let st = c .before .before .before in
     let old = size-few (st .args .store .now) (st .pre .0) (st .args .o .0) (st .pre .1 .1 .0) in
-    let small : c .before .size-of .result ≤ 8192 = omega arith in
+    let small : c .before .size-of .result ≤ mostFileBytes = omega arith in
     (st .pre .0, (st .pre .1 .0, (small, rw (c .size-set .ensures) (size-fits (st .args .size) (c .before .size-of .result) (st .pre .1 .1 .1) small))))
 
 returns : tie.Need-returns

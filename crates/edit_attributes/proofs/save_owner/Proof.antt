@@ -1,6 +1,8 @@
+use Prim.Native.Nat.{_-_}
 use mathlib.Core.List.{_++_}
 use native.Mathlib.Omega.{arith}
 use lib.ListN.{length-append}
+use Rattle.kinds.specs.Layout.{modeOffset, uidOffset, gidOffset}
 use Rattle.spec.specs.Bytes.{bytesOf}
 use Rattle.laws.proofs.Bytes.{overlay-more, bytes-length}
 use borrow.Author.Needs.{needs}
@@ -28,10 +30,10 @@ same-length c = search needs
 returns : tie.Need-returns
 returns c =
     let a = c .before .before .before .before .before .before .before .before .before .before .before .before .before .args in
-    let two = overlay-more (a .store .now) (a .at) (bytesOf 4 (a .mode)) (bytesOf 4 (a .uid)) _ _ 4 (omega arith) (bytes-length 4 _)
+    let two = overlay-more (a .store .now) (a .at) (bytesOf 4 (a .mode)) (bytesOf 4 (a .uid)) _ _ (uidOffset - modeOffset) (omega arith) (bytes-length 4 _)
     (c .before .before .before .before .before .before .before .before .before .before .put-u32 .ensures)
     (c .before .before .before .before .before .before .put-u322 .ensures) in
-    overlay-more (a .store .now) (a .at) (bytesOf 4 (a .mode) ++ bytesOf 4 (a .uid)) (bytesOf 4 (a .gid)) _ _ 8 (omega arith)
+    overlay-more (a .store .now) (a .at) (bytesOf 4 (a .mode) ++ bytesOf 4 (a .uid)) (bytesOf 4 (a .gid)) _ _ (gidOffset - modeOffset) (omega arith)
     (simp (length-append, bytes-length)) two (c .before .before .put-u323 .ensures)
 
 pub save-owner-spec : {M : Type 1} → statement M

@@ -2,10 +2,11 @@ use mathlib.Core.Path.{refl, ap, _∙_}
 use Prim.Native.Nat.{_+_, _≤_}
 use native.Mathlib.Omega.{arith}
 use lib.ListN.{length}
+use Rattle.kinds.specs.Layout.{modeOffset}
 use Rattle.spec.specs.Edits.{withAttributes, setAttributes}
 use Rattle.spec.specs.Image.{objectAt, timesBytes}
 use Rattle.laws.proofs.Bytes.{overlay-length}
-use Rattle.edit_attributes.proofs.Kept.{owner-size, attributes-written}
+use Rattle.edit_attributes.proofs.Kept.{ownerLength, owner-size, attributes-written}
 use borrow.Author.Needs.{needs}
 use Rattle.edit_attributes.proofs.set_attributes.Statement.{statement}
 use Rattle.edit_attributes.proofs.set_attributes.Tie as tie
@@ -61,8 +62,8 @@ save-times-requires c κs =
     .before .before .before .before .before .before .before in
     let s = st .args .store .now in
     let at = c .before .before .before .before .before .object-start .result in
-    let inside : at + 8 + 12 ≤ length s = omega (arith, c .before .before .before .before .before .object-start .ensures, st .pre) in
-    let same = ap length (c .before .before .before .save-owner .ensures) ∙ overlay-length s (at + 8) _ (rw owner-size inside) in
+    let inside : at + modeOffset + ownerLength ≤ length s = omega (arith, c .before .before .before .before .before .object-start .ensures, st .pre) in
+    let same = ap length (c .before .before .before .save-owner .ensures) ∙ overlay-length s (at + modeOffset) _ (rw owner-size inside) in
     omega (arith, c .before .before .before .before .before .object-start .ensures, st .pre, same)
 
 same-length : tie.Need-same-length

@@ -2,6 +2,7 @@ use Prim.Native.Nat.{ℕ, _+_}
 use mathlib.Core.List.{_++_}
 use mathlib.Core.Path.{_≡_, ap, _∙_}
 use native.Mathlib.Omega.{arith}
+use Rattle.kinds.specs.Layout.{mtimeOffset, ctimeOffset, timeLength}
 use Rattle.spec.specs.Bytes.{overlay}
 use Rattle.spec.specs.Image.{timeBytes}
 use Rattle.laws.proofs.Bytes.{overlay-more}
@@ -35,12 +36,12 @@ returns c =
     let t = timeBytes (st .args .clock) in
     let start = c .before .before .before .before .before .before .before .before .object-start in
     let at = start .result in
-    let p : at + 40 ≡ at + 32 + 8 = omega arith in
-    overlay-more s (at + 32) t t _ _ 8 (omega (arith, start .ensures, st .pre)) (time-length (st .args .clock))
+    let p : at + ctimeOffset ≡ at + mtimeOffset + timeLength = omega arith in
+    overlay-more s (at + mtimeOffset) t t _ _ timeLength (omega (arith, start .ensures, st .pre)) (time-length (st .args .clock))
     (c .before .before .before .before .before .before .save-time .ensures)
     (c .before .before .save-time2 .ensures ∙ ap (λ (k : ℕ). overlay (c .before .before .before .before .before .before .save-time .last .0) k t)
     p)
-    ∙ ap (λ (k : ℕ). overlay s (k + 32) (t ++ t)) (start .ensures)
+    ∙ ap (λ (k : ℕ). overlay s (k + mtimeOffset) (t ++ t)) (start .ensures)
     ∙ touched s (st .args .o .0) (λ k. c .before .before .before .before .before .before .before .before .before .before .slice-known .given k .fits)
     (st .pre) (st .args .clock)
 

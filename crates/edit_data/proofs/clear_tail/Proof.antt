@@ -4,6 +4,8 @@ use native.Mathlib.Omega.{arith}
 use borrow.Author.Tests.{eq-eqb, ne-eqb}
 use borrow.Author.Needs.{needs}
 use lib.ListN.{length}
+use Rattle.kinds.specs.Layout.{blockLength}
+use Rattle.kinds.specs.Numbers.{mostFileBytes}
 use Rattle.spec.specs.Room.{byteAt}
 use Rattle.spec.specs.Bytes.{overlay, zeros}
 use Rattle.spec.specs.Edits.{clearTail}
@@ -12,7 +14,7 @@ use Rattle.edit_data.proofs.clear_tail.Statement.{statement}
 use Rattle.edit_data.proofs.clear_tail.Tie as tie
 
 tail : (c : tie.Else1) → let a = c .before .before .args in
-    (a .start < 8192) × (byteAt (a .store .now) (a .o .0) (a .start) + (512 - a .start % 512) ≤ length (a .store .now))
+    (a .start < mostFileBytes) × (byteAt (a .store .now) (a .o .0) (a .start) + (blockLength - a .start % blockLength) ≤ length (a .store .now))
 tail c =
     let st = c .before .before in
     tail-fits (st .args .store .now) (st .args .o .0) (st .args .start) (st .pre .0) (st .pre .1 .0) (st .pre .1 .1 .0) (st .pre .1 .1 .1 .0) (c .if1 .left)
@@ -44,7 +46,7 @@ returns-2 : tie.Need-returns-2
 unfolding clearTail
 returns-2 c =
     let a = c .before .before .before .before .before .before .before .before .before .args in
-    let m : min (a .end - a .start) (512 - a .start % 512) ≡ a .end - a .start = omega arith in
+    let m : min (a .end - a .start) (blockLength - a .start % blockLength) ≡ a .end - a .start = omega arith in
     rw (ne-eqb _ _ (c .before .before .before .before .before .before .before .if1 .left), m)
     (c .before .before .clear-bytes .ensures ∙ ap (λ (k : ℕ). overlay (a .store .now) k (zeros (a .end - a .start)))
     (c .before .before .before .before .before .byte-at .ensures))
@@ -59,9 +61,9 @@ returns-3 : tie.Need-returns-3
 unfolding clearTail
 returns-3 c =
     let a = c .before .before .before .before .before .before .before .before .before .args in
-    let m : min (a .end - a .start) (512 - a .start % 512) ≡ 512 - a .start % 512 = omega arith in
+    let m : min (a .end - a .start) (blockLength - a .start % blockLength) ≡ blockLength - a .start % blockLength = omega arith in
     rw (ne-eqb _ _ (c .before .before .before .before .before .before .before .if1 .left), m)
-    (c .before .before .clear-bytes2 .ensures ∙ ap (λ (k : ℕ). overlay (a .store .now) k (zeros (512 - a .start % 512)))
+    (c .before .before .clear-bytes2 .ensures ∙ ap (λ (k : ℕ). overlay (a .store .now) k (zeros (blockLength - a .start % blockLength)))
     (c .before .before .before .before .before .byte-at .ensures))
 
 pub clear-tail-spec : {M : Type 1} → statement M

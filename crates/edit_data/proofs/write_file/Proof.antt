@@ -2,6 +2,7 @@ use Prim.Native.Nat.{_+_, _-_, _≤_, zero-le}
 use mathlib.Core.Path.{_≡_, refl}
 use native.Mathlib.Omega.{arith}
 use borrow.Author.Needs.{needs}
+use Rattle.kinds.specs.Numbers.{mostFileBytes}
 use Rattle.spec.specs.Bytes.{part}
 use Rattle.spec.specs.Edits.{writeThrough, writeFile}
 use Rattle.edit_data.proofs.WrittenFile.{Writing, offset-low, written-shape, next-place, written-more}
@@ -10,7 +11,7 @@ use Rattle.edit_data.proofs.write_file.Tie as tie
 
 abbrev Inv-loop : tie.InvT-loop
 Inv-loop store₀ o offset call start n done₀ store done =
-    Writing store₀ (o .0) offset call start n × (offset + n ≤ 8192) × (done ≤ n) × (store ≡ writeFile store₀ (o .0) offset (part call start done))
+    Writing store₀ (o .0) offset call start n × (offset + n ≤ mostFileBytes) × (done ≤ n) × (store ≡ writeFile store₀ (o .0) offset (part call start done))
 
 abbrev μ-loop : tie.MeasureT-loop
 μ-loop store₀ o offset call start n done₀ store done = n - done

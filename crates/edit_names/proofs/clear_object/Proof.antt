@@ -4,7 +4,7 @@ use mathlib.Core.Path.{ap, _∙_}
 use native.Mathlib.Omega.{arith}
 use lib.ListN.{length-append}
 use borrow.Author.Needs.{needs}
-use Rattle.kinds.specs.Layout.{modeOffset, objectLength}
+use Rattle.kinds.specs.Layout.{generationOffset, modeOffset, objectLength}
 use Rattle.spec.specs.Bytes.{overlay, bytesOf, zeros}
 use Rattle.kinds.specs.Objects.{freeObject}
 use Rattle.spec.specs.Image.{objectBytes, putObject}
@@ -42,10 +42,10 @@ returns c =
     let g = st .args .generation in
     let start = c .before .before .before .before .before .before .before .before .before .before .before .before .object-start in
     let at = start .result in
-    let two = overlay-more s at (bytesOf 4 0) (bytesOf 4 g) _ _ 4 (omega (arith, start .ensures, st .pre)) (bytes-length 4 0)
+    let two = overlay-more s at (bytesOf 4 0) (bytesOf 4 g) _ _ generationOffset (omega (arith, start .ensures, st .pre)) (bytes-length 4 0)
     (c .before .before .before .before .before .before .before .before .before .before .put-u32 .ensures)
     (c .before .before .before .before .before .before .put-u322 .ensures) in
-    overlay-more s at (bytesOf 4 0 ++ bytesOf 4 g) (zeros (objectLength - modeOffset)) _ _ 8 (omega (arith, start .ensures, st .pre))
+    overlay-more s at (bytesOf 4 0 ++ bytesOf 4 g) (zeros (objectLength - modeOffset)) _ _ modeOffset (omega (arith, start .ensures, st .pre))
     (simp (length-append, bytes-length)) two (c .before .before .clear-bytes .ensures)
     ∙ ap (overlay s at) (free-bytes g) ∙ ap (λ (k : ℕ). overlay s k (objectBytes (freeObject g))) (start .ensures)
 

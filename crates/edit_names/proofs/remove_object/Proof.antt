@@ -2,6 +2,7 @@ use Prim.Native.Nat.{_+_, _≤_, zero-le}
 use native.Mathlib.Omega.{arith}
 use lib.ListN.{length}
 use borrow.Author.Needs.{needs}
+use Rattle.kinds.specs.BlockNumbers.{numbersOf}
 use Rattle.kinds.specs.Layout.{objectLength}
 use Rattle.kinds.specs.Objects.{freeObject}
 use Rattle.spec.specs.Image.{objectStart}
@@ -51,7 +52,7 @@ clear-blocks-requires c κs =
         zero-le,
         (
           omega (arith, n .need .ensures, z .size-of .ensures, child-size r),
-          child-range r (b .blocks-of .result) (z .size-of .result)
+          child-range r (numbersOf (b .blocks-of .result)) (z .size-of .result)
               (n .need .result) (b .blocks-of .ensures) (z .size-of .ensures) (n .need .ensures),
         ),
       ),
@@ -76,8 +77,8 @@ clear-name-requires c κs =
     let b = n .before in
     let z = b .before .before .before .before in
     let r = removing (z .before .before) in
-    let k = freed-shape r (b .blocks-of .result) (z .size-of .result) (n .need .result) (b .blocks-of .ensures) (z .size-of .ensures) (n .need .ensures)
-    (t .clear-blocks .last .0) (u .clear-object .last .0) (freeObject _) (t .clear-blocks .ensures) (u .clear-object .ensures) in
+    let k = freed-shape r (numbersOf (b .blocks-of .result)) (z .size-of .result) (n .need .result) (b .blocks-of .ensures) (z .size-of .ensures)
+    (n .need .ensures) (t .clear-blocks .last .0) (u .clear-object .last .0) (freeObject _) (t .clear-blocks .ensures) (u .clear-object .ensures) in
     let w = r .good .sound .shaped in
     omega (arith, r .below)
 
@@ -93,7 +94,7 @@ returns c =
     let b = n .before in
     let g = b .before .before in
     let z = g .before .before in
-    removed (removing (z .before .before)) (b .blocks-of .result) (z .size-of .result) (n .need .result) (b .blocks-of .ensures)
+    removed (removing (z .before .before)) (numbersOf (b .blocks-of .result)) (z .size-of .result) (n .need .result) (b .blocks-of .ensures)
     (z .size-of .ensures) (n .need .ensures)
     (t .clear-blocks .last .0) (u .clear-object .last .0) (e .clear-name .last .0) (g .generation-of .result) (g .generation-of .ensures)
     (t .clear-blocks .ensures) (u .clear-object .ensures) (e .clear-name .ensures)

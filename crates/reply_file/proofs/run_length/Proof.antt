@@ -4,7 +4,7 @@ use lib.ListN.{getD}
 use Rattle.spec.specs.Image.{objectAt}
 use native.Mathlib.Omega.{arith}
 use Rattle.reply_file.proofs.Files.{object-in}
-use Rattle.reply_file.proofs.Together.{RunTo, first-run, run-few, block-small, next-run}
+use Rattle.reply_file.proofs.Together.{RunTo, first-run, run-few, next-run}
 use borrow.Author.Needs.{needs}
 use Rattle.reply_file.proofs.run_length.Statement.{statement}
 use Rattle.reply_file.proofs.run_length.Tie as tie
@@ -50,17 +50,14 @@ block-of-requires-2 c κs =
           (st .pre .1) (l .k) (l .run) (l .inv) (omega arith),
     )
 
+cast-if1 : tie.Need-cast-if1 Inv-loop μ-loop
+cast-if1 c = search needs
+
+cast-if1-2 : tie.Need-cast-if1-2 Inv-loop μ-loop
+cast-if1-2 c = search needs
+
 add-if1 : tie.Need-add-if1 Inv-loop μ-loop
-add-if1 c =
-    let st = c .before .before .before .before .before .before in
-    let l = c .before .before .before .before .loop in
-    let a = st .args in
-    omega (
-      arith,
-      c .before .before .block-of .ensures,
-      block-small (a .store .now) (a .o .0) (a .i) (a .left) (st .pre .0) (st .pre .1) (l .k)
-          (l .run) (l .inv) (omega arith),
-    )
+add-if1 c = search needs
 
 returns : tie.Need-returns Inv-loop μ-loop
 returns c =
@@ -107,5 +104,5 @@ returns-2 c =
 pub run-length-spec : {M : Type 1} → statement M
 run-length-spec =
     tie.close
-    (tie.spec Inv-loop μ-loop sub-run loop-holds block-of-requires add-block-of block-of-requires-2 add-if1 returns add-k add-run loop-less
+    (tie.spec Inv-loop μ-loop sub-run loop-holds block-of-requires add-block-of block-of-requires-2 cast-if1 cast-if1-2 add-if1 returns add-k add-run loop-less
     loop-again returns-2)

@@ -3,7 +3,7 @@ use borrow.Author.Needs.{needs}
 use Rattle.spec.specs.Procedures.Attributes.{setattr}
 use Rattle.spec.specs.Procedures.{cut}
 use Rattle.spec.specs.Handles.{change}
-use Rattle.laws.proofs.GoodRecords.{valid-records}
+use Rattle.store_blocks.proofs.Ready.{ready-records}
 use Rattle.check_handles.specs.Meaning.{reachedOf}
 use Rattle.laws.proofs.Passed.{setattr-passed}
 use Rattle.act_write.proofs.Written.{left-showable}
@@ -14,7 +14,7 @@ use Rattle.act_change.proofs.attributes.setattr.Tie as tie
 check-setattr-requires : tie.Need-check-setattr-requires
 check-setattr-requires c κs =
     let st = c .before .before .before in
-    let g = valid-records (st .args .store .now) (st .pre .0 .valid) (st .pre .0 .bytes) in
+    let g = ready-records (st .pre .0) in
     (g, (st .pre .0 .map, st .pre .1 .1))
 
 enum-known-answer : tie.Need-enum-known-answer
@@ -26,7 +26,7 @@ enum-known-answer-2 c = search needs
 fail-changing-requires : tie.Need-fail-changing-requires
 fail-changing-requires c κs =
     let st = c .before .before .before .before .before .before .before .before in
-    let g = valid-records (st .args .store .now) (st .pre .0 .valid) (st .pre .0 .bytes) in
+    let g = ready-records (st .pre .0) in
     (g, st .pre .1 .1)
 
 same-length : tie.Need-same-length
@@ -41,7 +41,7 @@ returns c =
 before-requires : tie.Need-before-requires
 before-requires c κs =
     let st = c .before .before .before .before .before .before .before .before in
-    let g = valid-records (st .args .store .now) (st .pre .0 .valid) (st .pre .0 .bytes) in
+    let g = ready-records (st .pre .0) in
     let e = sym (c .before .before .before .before .check-setattr .ensures) ∙ ap reachedOf (c .before .before .answer .given .1) in
     let p = setattr-passed (st .args .store .now) (cut (st .args .call .now) (st .args .h)) (st .args .a) (st .args .g) _ e in
     (g, p .reached .below)
@@ -49,7 +49,7 @@ before-requires c κs =
 setattr-edit-requires : tie.Need-setattr-edit-requires
 setattr-edit-requires c κs =
     let st = c .before .before .before .before .before .before .before .before .before .before in
-    let g = valid-records (st .args .store .now) (st .pre .0 .valid) (st .pre .0 .bytes) in
+    let g = ready-records (st .pre .0) in
     let e = sym (c .before .before .before .before .before .before .check-setattr .ensures) ∙ ap reachedOf
     (c .before .before .before .before .answer .given .1) in
     let p = setattr-passed (st .args .store .now) (cut (st .args .call .now) (st .args .h)) (st .args .a) (st .args .g) _ e in

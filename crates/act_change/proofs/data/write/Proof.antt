@@ -2,7 +2,7 @@ use mathlib.Core.Path.{refl, sym, ap, _∙_}
 use borrow.Author.Needs.{needs}
 use Rattle.spec.specs.Procedures.Data.{write}
 use Rattle.spec.specs.Procedures.{cut}
-use Rattle.laws.proofs.GoodRecords.{valid-records}
+use Rattle.store_blocks.proofs.Ready.{ready-records}
 use Rattle.check_handles.specs.Meaning.{reachedOf}
 use Rattle.laws.proofs.Passed.{write-passed}
 use Rattle.act_change.proofs.Edited.{few-moved, write-writable, write-left}
@@ -12,7 +12,7 @@ use Rattle.act_change.proofs.data.write.Tie as tie
 check-write-requires : tie.Need-check-write-requires
 check-write-requires c κs =
     let st = c .before .before .before in
-    let g = valid-records (st .args .store .now) (st .pre .0 .valid) (st .pre .0 .bytes) in
+    let g = ready-records (st .pre .0) in
     (g, (st .pre .0 .map, (st .pre .1 .0, st .pre .1 .1)))
 
 enum-known-answer : tie.Need-enum-known-answer
@@ -24,7 +24,7 @@ write-checked-requires c κs =
     let s = st .args .store .now in
     let call = st .args .call .now in
     let bytes = st .args .bytes in
-    let g = valid-records s (st .pre .0 .valid) (st .pre .0 .bytes) in
+    let g = ready-records (st .pre .0) in
     let e = sym (c .before .before .before .before .check-write .ensures) ∙ ap reachedOf (c .before .before .answer .given .1) in
     let p = write-passed s (cut call (st .args .h)) (st .args .offset) (st .args .count) (cut call bytes) _ e in
     let few = few-moved call bytes (st .args .count) (st .pre .1 .1) (p .counted) in
@@ -53,7 +53,7 @@ enum-known-answer-2 c = search needs
 fail-changing-requires : tie.Need-fail-changing-requires
 fail-changing-requires c κs =
     let st = c .before .before .before .before .before .before .before .before in
-    let g = valid-records (st .args .store .now) (st .pre .0 .valid) (st .pre .0 .bytes) in
+    let g = ready-records (st .pre .0) in
     (g, st .pre .1 .0)
 
 same-length : tie.Need-same-length

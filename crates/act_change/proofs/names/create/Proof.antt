@@ -2,7 +2,7 @@ use mathlib.Core.Path.{refl, sym, ap, _∙_}
 use borrow.Author.Needs.{needs}
 use Rattle.spec.specs.Procedures.Names.{create}
 use Rattle.spec.specs.Procedures.{cut}
-use Rattle.laws.proofs.GoodRecords.{valid-records}
+use Rattle.store_blocks.proofs.Ready.{ready-records}
 use Rattle.laws.proofs.Passed.{create-passed}
 use Rattle.check_create.specs.Meaning.{createCheckedOf}
 use Rattle.act_change.proofs.Makable.{create-makable, create-sizable}
@@ -12,7 +12,7 @@ use Rattle.act_change.proofs.names.create.Tie as tie
 check-create-requires : tie.Need-check-create-requires
 check-create-requires c κs =
     let st = c .before .before .before .before in
-    let g = valid-records (st .args .store .now) (st .pre .0 .valid) (st .pre .0 .bytes) in
+    let g = ready-records (st .pre .0) in
     (g, (st .pre .0 .map, (st .pre .1 .1 .0, st .pre .1 .1 .1)))
 
 settable-of-requires : tie.Need-settable-of-requires
@@ -28,7 +28,7 @@ make-new-requires : tie.Need-make-new-requires
 make-new-requires c κs =
     let st = c .before .before .before .before .before .before .before .before .before .before .before .before .before .before in
     let w = c .before .before .before .before .before .before .before .before .settable-of in
-    let g = valid-records (st .args .store .now) (st .pre .0 .valid) (st .pre .0 .bytes) in
+    let g = ready-records (st .pre .0) in
     let e = sym (c .before .before .before .before .before .before .before .before .before .check-create .ensures) ∙ ap createCheckedOf
     (c .before .before .before .before .before .answer .given .1) in
     let p = create-passed (st .args .store .now) (cut (st .args .call .now) (st .args .place .directory))
@@ -53,7 +53,7 @@ obey-size-requires : tie.Need-obey-size-requires
 obey-size-requires c κs =
     let st = c .before .before .before .before .before .before .before .before .before .before .before .before .before .before in
     let w = c .before .before .before .before .before .before .before .before .settable-of in
-    let g = valid-records (st .args .store .now) (st .pre .0 .valid) (st .pre .0 .bytes) in
+    let g = ready-records (st .pre .0) in
     let e = sym (c .before .before .before .before .before .before .before .before .before .check-create .ensures) ∙ ap createCheckedOf
     (c .before .before .before .before .before .answer .given .1) in
     let p = create-passed (st .args .store .now) (cut (st .args .call .now) (st .args .place .directory))
@@ -79,7 +79,7 @@ enum-known-answer-2 c = search needs
 fail-changing-requires : tie.Need-fail-changing-requires
 fail-changing-requires c κs =
     let st = c .before .before .before .before .before .before .before .before .before .before .before in
-    let g = valid-records (st .args .store .now) (st .pre .0 .valid) (st .pre .0 .bytes) in
+    let g = ready-records (st .pre .0) in
     (g, st .pre .1 .1 .0)
 
 same-length : tie.Need-same-length

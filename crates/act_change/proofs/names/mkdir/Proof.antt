@@ -2,7 +2,7 @@ use mathlib.Core.Path.{refl, sym, ap, _∙_}
 use borrow.Author.Needs.{needs}
 use Rattle.spec.specs.Procedures.Names.{mkdir}
 use Rattle.spec.specs.Procedures.{cut}
-use Rattle.laws.proofs.GoodRecords.{valid-records}
+use Rattle.store_blocks.proofs.Ready.{ready-records}
 use Rattle.laws.proofs.Passed.{mkdir-passed}
 use Rattle.check_make.specs.Meaning.{mkdirCheckedOf}
 use Rattle.act_change.proofs.Makable.{mkdir-makable}
@@ -12,7 +12,7 @@ use Rattle.act_change.proofs.names.mkdir.Tie as tie
 check-mkdir-requires : tie.Need-check-mkdir-requires
 check-mkdir-requires c κs =
     let st = c .before .before .before .before .before in
-    let g = valid-records (st .args .store .now) (st .pre .0 .valid) (st .pre .0 .bytes) in
+    let g = ready-records (st .pre .0) in
     (g, (st .pre .0 .map, (st .pre .1 .1 .0, st .pre .1 .1 .1)))
 
 enum-known-answer : tie.Need-enum-known-answer
@@ -21,7 +21,7 @@ enum-known-answer c = search needs
 make-new-requires : tie.Need-make-new-requires
 make-new-requires c κs =
     let st = c .before .before .before .before .before .before .before .before .before .before in
-    let g = valid-records (st .args .store .now) (st .pre .0 .valid) (st .pre .0 .bytes) in
+    let g = ready-records (st .pre .0) in
     let e = sym (c .before .before .before .before .check-mkdir .ensures) ∙ ap mkdirCheckedOf (c .before .before .answer .given .1) in
     let p = mkdir-passed (st .args .store .now) (cut (st .args .call .now) (st .args .place .directory))
     (cut (st .args .call .now) (st .args .place .name)) (st .args .a) _ e in (
@@ -43,7 +43,7 @@ enum-known-answer-2 c = search needs
 fail-changing-requires : tie.Need-fail-changing-requires
 fail-changing-requires c κs =
     let st = c .before .before .before .before .before .before .before .before .before .before in
-    let g = valid-records (st .args .store .now) (st .pre .0 .valid) (st .pre .0 .bytes) in
+    let g = ready-records (st .pre .0) in
     (g, st .pre .1 .1 .0)
 
 same-length : tie.Need-same-length

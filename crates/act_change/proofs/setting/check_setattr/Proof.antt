@@ -21,8 +21,8 @@ returns : tie.Need-returns
 unfolding checkSetattr
 returns c = rw (← c .before .before .reach .ensures, c .enum-told .given .1)
 
-load-object-requires : tie.Need-load-object-requires
-load-object-requires c κs =
+ctime-of-requires : tie.Need-ctime-of-requires
+ctime-of-requires c κs =
     let st = c .before .before .before .before .before .before in
     let below = object-reached (st .args .store .now) (cut (st .args .call .now) (st .args .h)) _ _ (c .before .answer .given .1)
     (c .before .before .before .reach .ensures) .below in
@@ -35,9 +35,9 @@ returns-2 : tie.Need-returns-2
 unfolding checkSetattr
 returns-2 c =
     rw (
-      ← c .before .before .before .before .before .before .before .reach .ensures,
-      c .before .before .before .before .before .answer .given .1,
-      ← c .before .before .before .load-object .ensures,
+      ← c .before .before .before .before .before .before .reach .ensures,
+      c .before .before .before .before .answer .given .1,
+      ← c .before .before .ctime-of .ensures,
       ← c .before .differs .ensures,
       c .if1 .taken,
     )
@@ -49,9 +49,9 @@ returns-3 : tie.Need-returns-3
 unfolding checkSetattr
 returns-3 c =
     rw (
-      ← c .before .before .before .before .before .before .before .before .before .reach .ensures,
-      c .before .before .before .before .before .before .before .answer .given .1,
-      ← c .before .before .before .before .before .load-object .ensures,
+      ← c .before .before .before .before .before .before .before .before .reach .ensures,
+      c .before .before .before .before .before .before .answer .given .1,
+      ← c .before .before .before .before .ctime-of .ensures,
       ← c .before .before .before .differs .ensures,
       c .before .before .if1 .left,
       ← c .before .bad-attributes .ensures,
@@ -60,19 +60,19 @@ returns-3 c =
 
 sizes-directory-requires : tie.Need-sizes-directory-requires
 sizes-directory-requires c κs =
-    let st = c .before .before .before .before .before .before .before .before .before .before .before .before in
+    let st = c .before .before .before .before .before .before .before .before .before .before .before in
     let below = object-reached (st .args .store .now) (cut (st .args .call .now) (st .args .h)) _ _
-    (c .before .before .before .before .before .before .before .answer .given .1)
-    (c .before .before .before .before .before .before .before .before .before .reach .ensures) .below in
+    (c .before .before .before .before .before .before .answer .given .1)
+    (c .before .before .before .before .before .before .before .before .reach .ensures) .below in
     (st .pre .0, below)
 
 returns-4 : tie.Need-returns-4
 unfolding checkSetattr
 returns-4 c =
     rw (
-      ← c .before .before .before .before .before .before .before .before .before .before .before .reach .ensures,
-      c .before .before .before .before .before .before .before .before .before .answer .given .1,
-      ← c .before .before .before .before .before .before .before .load-object .ensures,
+      ← c .before .before .before .before .before .before .before .before .before .before .reach .ensures,
+      c .before .before .before .before .before .before .before .before .answer .given .1,
+      ← c .before .before .before .before .before .before .ctime-of .ensures,
       ← c .before .before .before .before .before .differs .ensures,
       c .before .before .before .before .if1 .left,
       ← c .before .before .before .bad-attributes .ensures,
@@ -83,19 +83,19 @@ returns-4 c =
 
 lacks-room-for-size-requires : tie.Need-lacks-room-for-size-requires
 lacks-room-for-size-requires c κs =
-    let st = c .before .before .before .before .before .before .before .before .before .before .before .before .before .before in
+    let st = c .before .before .before .before .before .before .before .before .before .before .before .before .before in
     let below = object-reached (st .args .store .now) (cut (st .args .call .now) (st .args .h)) _ _
-    (c .before .before .before .before .before .before .before .before .before .answer .given .1)
-    (c .before .before .before .before .before .before .before .before .before .before .before .reach .ensures) .below in
+    (c .before .before .before .before .before .before .before .before .answer .given .1)
+    (c .before .before .before .before .before .before .before .before .before .before .reach .ensures) .below in
     (st .pre .0, (st .pre .1 .0, (below, valid-size (st .args .a) (sym (c .before .before .before .bad-attributes .ensures) ∙ c .before .before .if2 .left))))
 
 returns-5 : tie.Need-returns-5
 unfolding checkSetattr
 returns-5 c =
     rw (
-      ← c .before .before .before .before .before .before .before .before .before .before .before .before .before .reach .ensures,
-      c .before .before .before .before .before .before .before .before .before .before .before .answer .given .1,
-      ← c .before .before .before .before .before .before .before .before .before .load-object .ensures,
+      ← c .before .before .before .before .before .before .before .before .before .before .before .before .reach .ensures,
+      c .before .before .before .before .before .before .before .before .before .before .answer .given .1,
+      ← c .before .before .before .before .before .before .before .before .ctime-of .ensures,
       ← c .before .before .before .before .before .before .before .differs .ensures,
       c .before .before .before .before .before .before .if1 .left,
       ← c .before .before .before .before .before .bad-attributes .ensures,
@@ -110,9 +110,9 @@ returns-6 : tie.Need-returns-6
 unfolding checkSetattr
 returns-6 c =
     rw (
-      ← c .before .before .before .before .before .before .before .before .before .before .before .before .before .reach .ensures,
-      c .before .before .before .before .before .before .before .before .before .before .before .answer .given .1,
-      ← c .before .before .before .before .before .before .before .before .before .load-object .ensures,
+      ← c .before .before .before .before .before .before .before .before .before .before .before .before .reach .ensures,
+      c .before .before .before .before .before .before .before .before .before .before .answer .given .1,
+      ← c .before .before .before .before .before .before .before .before .ctime-of .ensures,
       ← c .before .before .before .before .before .before .before .differs .ensures,
       c .before .before .before .before .before .before .if1 .left,
       ← c .before .before .before .before .before .bad-attributes .ensures,
@@ -131,7 +131,7 @@ check-setattr-spec =
     enum-known-answer
     enum-told
     returns
-    load-object-requires
+    ctime-of-requires
     differs-requires
     returns-2
     bad-attributes-requires

@@ -2,6 +2,7 @@ use Prim.Native.Nat.{_+_}
 use mathlib.Core.Path.{sym, _∙_}
 use borrow.Author.Needs.{needs}
 use borrow.Author.Tests.{eq-eqb, ltb-false, ne-eqb}
+use Rattle.kinds.specs.Numbers.{mostFileBytes}
 use Rattle.spec.specs.Procedures.Data.{checkWrite}
 use Rattle.spec.specs.Procedures.{cut}
 use Rattle.laws.proofs.Bytes.{part-length}
@@ -74,7 +75,7 @@ lacks-room-for-bytes-requires c κs =
         st .pre .1 .0,
         (
           below,
-          ltb-false 8192 (st .args .offset + c .before .before .smaller .result)
+          ltb-false mostFileBytes (st .args .offset + c .before .before .smaller .result)
               (sym (c .before .is-past-end .ensures) ∙ c .if3 .left),
         ),
       ),

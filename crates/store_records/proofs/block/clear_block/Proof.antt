@@ -1,6 +1,7 @@
 use mathlib.Core.Path.{ap, _∙_}
 use Prim.Native.Nat.{ℕ}
 use lib.ListN.{replicate}
+use Rattle.kinds.specs.Layout.{blockLength}
 use Rattle.spec.specs.Bytes.{overlay}
 use borrow.Author.Needs.{needs}
 use Rattle.store_records.proofs.block.clear_block.Statement.{statement}
@@ -19,7 +20,7 @@ returns : tie.Need-returns
 returns c =
     let at = c .before .before .before .before .block-start .ensures in
     let a = c .before .before .before .before .before .before .before .args in
-    c .before .before .clear-bytes .ensures ∙ ap (λ (q : ℕ). overlay (a .store .now) q (replicate 512 0)) at
+    c .before .before .clear-bytes .ensures ∙ ap (λ (q : ℕ). overlay (a .store .now) q (replicate blockLength 0)) at
 
 pub clear-block-spec : {M : Type 1} → statement M
 clear-block-spec =

@@ -1,4 +1,6 @@
 use Prim.Native.Nat.{_+_}
+use Rattle.kinds.specs.Layout.{blocksOffset}
+use Rattle.kinds.specs.Numbers.{fileBlocks}
 use Rattle.spec.specs.Image.{objectStart, objectAt, objectFrom}
 use Rattle.laws.proofs.Records.{half-read}
 use borrow.Author.Needs.{needs}
@@ -20,9 +22,6 @@ add-get-u16-2 c = search needs
 get-u16-requires : tie.Need-get-u16-requires
 get-u16-requires c κs = search needs
 
-cast-t9 : tie.Need-cast-t9
-cast-t9 c = search needs
-
 returns : tie.Need-returns
 unfolding objectAt objectFrom
 returns c =
@@ -30,7 +29,7 @@ returns c =
     rw (
       c .get-u16 .ensures,
       c .before .object-start .ensures,
-      half-read (st .args .store .now) (objectStart (st .args .o .0) + 48) 16 (st .args .k)
+      half-read (st .args .store .now) (objectStart (st .args .o .0) + blocksOffset) fileBlocks (st .args .k)
           (st .pre .1),
     )
 
@@ -43,5 +42,4 @@ block-of-spec =
     mul-get-u16
     add-get-u16-2
     get-u16-requires
-    cast-t9
     returns)

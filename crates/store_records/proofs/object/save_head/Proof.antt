@@ -1,4 +1,3 @@
-use native.Mathlib.Omega.{arith}
 use Rattle.store_records.proofs.Runs.{head-run}
 use borrow.Author.Needs.{needs}
 use Rattle.store_records.proofs.object.save_head.Statement.{statement}

@@ -19,6 +19,9 @@ save-times-requires c κs = search needs
 add-save-blocks : tie.Need-add-save-blocks
 add-save-blocks c = search needs
 
+block-numbers-requires : tie.Need-block-numbers-requires
+block-numbers-requires c κs = search needs
+
 save-blocks-requires : tie.Need-save-blocks-requires
 save-blocks-requires c κs = search needs
 
@@ -28,13 +31,17 @@ same-length c = search needs
 returns : tie.Need-returns
 unfolding timesBytes
 returns c =
-    let st = c .before .before .before .before .before .before .before .before .before .before .before .before .before .before .before .before
-    .before .before .before in
+    let numbers = c .before .before .before in
+    let times = numbers .before .before .before .before .before in
+    let head = times .before .before .before .before .before .before .before in
+    let start = head .before .before in
+    let st = start .before .before .before in
     rw (
       c .before .before .save-blocks .ensures,
-      c .before .before .before .before .before .before .before .save-times .ensures,
-      c .before .before .before .before .before .before .before .before .before .before .before .before .before .before .save-head .ensures,
-      c .before .before .before .before .before .before .before .before .before .before .before .before .before .before .before .before .object-start .ensures,
+      numbers .block-numbers .ensures,
+      times .save-times .ensures,
+      head .save-head .ensures,
+      start .object-start .ensures,
     )
     (object-run (st .args .store .now) (st .args .o .0) (st .args .v) (st .pre))
 
@@ -47,6 +54,7 @@ save-object-spec =
     add-save-times
     save-times-requires
     add-save-blocks
+    block-numbers-requires
     save-blocks-requires
     same-length
     returns)

@@ -12,6 +12,9 @@ add-save-time c = search needs
 save-time-requires-2 : tie.Need-save-time-requires-2
 save-time-requires-2 c κs = search needs
 
+mul-save-time : tie.Need-mul-save-time
+mul-save-time c = search needs
+
 add-save-time-2 : tie.Need-add-save-time-2
 add-save-time-2 c = search needs
 
@@ -38,6 +41,7 @@ save-times-spec =
     save-time-requires
     add-save-time
     save-time-requires-2
+    mul-save-time
     add-save-time-2
     save-time-requires-3
     same-length

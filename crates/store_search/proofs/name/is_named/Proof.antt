@@ -2,6 +2,7 @@ use mathlib.Core.Path.{_≡_, sym, ap, _∙_}
 use Prim.Native.Nat.{ℕ, _+_, _-_}
 use native.Mathlib.Omega.{arith}
 use lib.ListN.{getD}
+use Rattle.kinds.specs.Layout.{textOffset}
 use Rattle.spec.specs.Bytes.{part, sameBytes}
 use Rattle.laws.proofs.Bytes.{part-length, getD-part}
 use Rattle.store_records.specs.Text.{textOf}
@@ -37,7 +38,7 @@ returns c =
     let long = part-length (a .call .now) (a .name .start) (a .name .length) (st .pre .1 .1 .1) in
     sym (named-other s (a .directory .0) (a .n .0) (textOf (a .call .now) (a .name)) last (omega (arith, long))
     (λ e. c .if1 .taken
-    (ap (λ (q : ℕ). getD s (q + 12 + last) 0) (st .pre .0) ∙ e ∙ getD-part (a .call .now) (a .name .start) (a .name .length) last (omega arith))))
+    (ap (λ (q : ℕ). getD s (q + textOffset + last) 0) (st .pre .0) ∙ e ∙ getD-part (a .call .now) (a .name .start) (a .name .length) last (omega arith))))
 
 add-get-u32 : tie.Need-add-get-u32
 add-get-u32 c = search needs
@@ -88,7 +89,7 @@ returns-4 c =
     let text = textOf (a .call .now) (a .name) in
     let same : c .before .before .before .before .before .get-u32 .result ≡ len = omega arith in
     c .same-bytes .ensures
-    ∙ ap (λ (q : ℕ). sameBytes (part s (q + 12) len) text) (st .pre .0)
+    ∙ ap (λ (q : ℕ). sameBytes (part s (q + textOffset) len) text) (st .pre .0)
     ∙ named-same s d n text len
     (sym (directory-at s d n (a .at) (st .pre .0)) ∙ sym (c .before .before .before .get-u322 .ensures) ∙ c .before .if3 .left)
     (sym (length-at s d n (a .at) (st .pre .0)) ∙ sym (c .before .before .before .before .before .get-u32 .ensures) ∙ same)
