@@ -27,7 +27,7 @@ use Rattle.fsck.specs.declared.shape.Found.the-variants.{Bad, Good}
 use Rattle.store_blocks.specs.Blocks.{UsedMap}
 use Rattle.rpc.specs.Meaning.{procedureOf}
 use Rattle.call_end.specs.declared.reading.ArgumentsRead.{ArgumentsRead}
-use Rattle.call_arguments.specs.Reading.{argumentsOf}
+use Rattle.call_end.specs.Reading.{argumentsOf}
 use Rattle.call_whole.specs.After.{argumentsAfter}
 use Rattle.entry_tests.specs.Opens.{Hears}
 
