@@ -10,7 +10,7 @@ use Rattle.laws.proofs.Arguments.{Within}
 use Rattle.laws.proofs.ArgumentRange.{arguments-within}
 use Rattle.call_end.specs.declared.reading.ArgumentsRead.{ArgumentsRead}
 use Rattle.call_end.specs.declared.reading.ArgumentsRead.the-variants as ArgumentsRead
-use Rattle.call_arguments.specs.Reading.{argumentsOf}
+use Rattle.call_end.specs.Reading.{argumentsOf}
 
 pub read-within : (p : ℕ) (s : List ℕ) (at : ℕ) (r : ArgumentsRead) (a : Arguments) (c : Cursor)
     → argumentsOf r ≡ arguments p s at → r ≡ ArgumentsRead.Got a c → Within (length s) a

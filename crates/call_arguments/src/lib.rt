@@ -4,14 +4,11 @@ ghost use Rattle.kinds.specs.Reading.{got};
 ghost use Rattle.spec.specs.Arguments.{form, arguments, whole};
 ghost use Rattle.spec.specs.Xdr.{done};
 ghost use Rattle.call_arguments.specs.First.{Begins};
-ghost use Rattle.call_arguments.specs.Reading.{argumentsOf};
-
-pub mod reading; // what reading arguments answers
-
-use crate::reading::ArgumentsRead;
+ghost use Rattle.call_end.specs.Reading.{argumentsOf};
 use call_by_handle::of_handle;
 use call_by_name::of_name;
 use call_end::finish;
+use call_end::reading::ArgumentsRead;
 use kinds::call::Arguments;
 use kinds::call::Cursor;
 use kinds::numbers::Procedure;

@@ -2,10 +2,10 @@
 ghost use mathlib.Core.Path.{_≡_};
 ghost use Rattle.spec.specs.Header.{header};
 ghost use Rattle.rpc.specs.Meaning.{headerOf};
-ghost use Rattle.call_arguments.specs.Reading.{argumentsOf};
+ghost use Rattle.call_end.specs.Reading.{argumentsOf};
 ghost use Rattle.call_whole.specs.After.{argumentsAfter};
 use call_arguments::next_arguments;
-use call_arguments::reading::ArgumentsRead;
+use call_end::reading::ArgumentsRead;
 use reader::Reader;
 use reader::past;
 use rpc::header::HeaderRead;

@@ -19,7 +19,7 @@ use Rattle.laws.proofs.Valid.{valid}
 use Rattle.store_blocks.specs.Blocks.{UsedMap}
 use Rattle.rpc.specs.Meaning.{procedureOf}
 use Rattle.call_end.specs.declared.reading.ArgumentsRead.{ArgumentsRead}
-use Rattle.call_arguments.specs.Reading.{argumentsOf}
+use Rattle.call_end.specs.Reading.{argumentsOf}
 use Rattle.call_whole.specs.After.{argumentsAfter}
 use Rattle.entry_tests.specs.Opens.{Hears}
 

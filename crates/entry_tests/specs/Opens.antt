@@ -12,7 +12,7 @@ use Rattle.spec.specs.Serve.{refuse, send, respond, serve}
 use Rattle.store_blocks.specs.Ready.{Ready}
 use Rattle.rpc.specs.Meaning.{namedProcedure}
 use Rattle.call_end.specs.declared.reading.ArgumentsRead.{ArgumentsRead}
-use Rattle.call_arguments.specs.Reading.{argumentsOf}
+use Rattle.call_end.specs.Reading.{argumentsOf}
 use Rattle.entry_tests.specs.declared.Opened.{Opened}
 use Rattle.entry_tests.specs.declared.Opened.the-variants as Opened
 

@@ -2,7 +2,7 @@
 ghost use Rattle.kinds.specs.Numbers.{mostBlocks};
 ghost use Rattle.fsck_objects.specs.Objects.{Blank};
 ghost use Rattle.entry_tests.specs.Opens.{Opens};
-use call_arguments::reading::ArgumentsRead;
+use call_end::reading::ArgumentsRead;
 use call_whole::read_call;
 use fsck::check::check_store;
 use fsck::shape::Found;

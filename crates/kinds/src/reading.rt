@@ -72,7 +72,7 @@ impl PartRead {
     }
 }
 
-// For what has no value: padding, and the end of the call.
+// For what has no value: the end of the call.
 pub enum SkipRead {
     Got(Cursor),
     Bad(usize),

@@ -55,9 +55,9 @@ setSize = optional long SetSize.To SetSize.Keep
 -- set_atime, set_mtime: DONT_CHANGE 0, SET_TO_SERVER_TIME 1, SET_TO_CLIENT_TIME 2 with a time
 unfoldable pub setTime : Reader SetTime
 setTime = do
-  how ← choice 2
-  cond (eqb how 0) (done SetTime.Keep)
-      (cond (eqb how 1) (done SetTime.ToServer) (do
+  manner ← choice 2
+  cond (eqb manner 0) (done SetTime.Keep)
+      (cond (eqb manner 1) (done SetTime.ToServer) (do
         t ← time
         done (SetTime.ToClient t)))
 

@@ -7,7 +7,7 @@ use denote.Enum.Laws as EL
 use denote.Triple.Spec.{tripleOf}
 use denote.Triple.Table.{entered, cited}
 use Rattle.spec.specs.Arguments.{arguments}
-use Rattle.call_arguments.specs.Reading.{argumentsOf}
+use Rattle.call_end.specs.Reading.{argumentsOf}
 use Rattle.call_end.proofs.reading.ArgumentsRead as R
 use Rattle.call_end.proofs.reading.ArgumentsRead.Laws as R′
 use Rattle.reader.proofs.Taken.{taken}

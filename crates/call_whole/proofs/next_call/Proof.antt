@@ -31,7 +31,7 @@ use Rattle.rpc.proofs.header.next_header as f
 use Rattle.rpc.proofs.header.next_header.Symbol as f-def
 use Rattle.rpc.proofs.header.next_header.Symbol.{name as #f}
 use Rattle.rpc.proofs.header.next_header.Met as f-thm
-use Rattle.call_arguments.specs.Reading.{argumentsOf}
+use Rattle.call_end.specs.Reading.{argumentsOf}
 use Rattle.call_end.specs.declared.reading.ArgumentsRead.{ArgumentsRead}
 use Rattle.call_end.proofs.reading.ArgumentsRead as Y
 use Rattle.call_end.proofs.reading.ArgumentsRead.Laws as Y′

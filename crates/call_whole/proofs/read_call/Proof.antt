@@ -6,7 +6,7 @@ use denote.Triple.Spec.{tripleOf}
 use denote.Triple.Table.{entered, cited}
 use Rattle.spec.specs.Header.{header}
 use Rattle.rpc.specs.Meaning.{headerOf}
-use Rattle.call_arguments.specs.Reading.{argumentsOf}
+use Rattle.call_end.specs.Reading.{argumentsOf}
 use Rattle.call_whole.specs.After.{argumentsAfter}
 use Rattle.call_whole.proofs.CallRead as R
 use Rattle.call_whole.proofs.CallRead.Laws as R′

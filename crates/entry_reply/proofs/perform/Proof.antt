@@ -1,7 +1,7 @@
 use mathlib.Core.Path.{sym, ap, _∙_}
 use Rattle.spec.specs.Rpc.{mismatch}
 use Rattle.laws.proofs.ArgumentRange.{arguments-fit}
-use Rattle.call_arguments.specs.Reading.{argumentsOf}
+use Rattle.call_end.specs.Reading.{argumentsOf}
 use Rattle.call_arguments.proofs.Within.{read-within}
 use Rattle.entry_reply.proofs.Sent.{sends-kept}
 use borrow.Author.Needs.{needs}

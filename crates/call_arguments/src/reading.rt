@@ -1,2 +1,0 @@
-// What reading arguments answers.
-pub use call_end::reading::ArgumentsRead;
