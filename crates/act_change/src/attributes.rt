@@ -22,6 +22,7 @@ use kinds::call::Part;
 use kinds::call::SetSize;
 use kinds::call::SetTime;
 use kinds::call::Settable;
+use kinds::numbers::Limit;
 use kinds::numbers::ObjectNumber;
 use kinds::numbers::Status;
 use kinds::object::Context;
@@ -71,7 +72,7 @@ fn size_touches(a: Settable) -> Settable
 }
 
 // Gives a file the size, where one is given. The map says which blocks are used.
-pub fn resize_to(store: &mut [u8], used: &[u8; 1024], o: ObjectNumber, size: SetSize)
+pub fn resize_to(store: &mut [u8], used: &[u8; Limit::MOST_BLOCKS], o: ObjectNumber, size: SetSize)
     requires { ⌜ GoodRecords (now store) ⌝ }
     requires { ⌜ UsedMap (now store) (now used) ⌝ }
     requires { ⌜ Sizable (now store) (o .0) size ⌝ }
@@ -84,7 +85,13 @@ pub fn resize_to(store: &mut [u8], used: &[u8; 1024], o: ObjectNumber, size: Set
 }
 
 // What SETATTR does to the store.
-fn setattr_edit(store: &mut [u8], used: &[u8; 1024], context: Context, o: ObjectNumber, a: Settable)
+fn setattr_edit(
+    store: &mut [u8],
+    used: &[u8; Limit::MOST_BLOCKS],
+    context: Context,
+    o: ObjectNumber,
+    a: Settable,
+)
     requires { ⌜ GoodRecords (now store) ⌝ }
     requires { ⌜ UsedMap (now store) (now used) ⌝ }
     requires { ⌜ Sizable (now store) (o .0) (a .size) ⌝ }
@@ -99,7 +106,7 @@ fn setattr_edit(store: &mut [u8], used: &[u8; 1024], context: Context, o: Object
 // SETATTR: the object as it was and as it is, or the status of the check that failed.
 pub fn setattr(
     store: &mut [u8],
-    used: &[u8; 1024],
+    used: &[u8; Limit::MOST_BLOCKS],
     context: Context,
     call: &[u8],
     h: Part,

@@ -10,13 +10,14 @@ use act_write::write_checked;
 use check_handles::failure::fail_changing;
 use check_handles::handle::Reached;
 use kinds::call::Part;
+use kinds::numbers::Limit;
 use kinds::object::Context;
 use results::Reply;
 
 // WRITE: the file as it was and as it is, the bytes written and the verifier, or the status of the check that failed.
 pub fn write(
     store: &mut [u8],
-    used: &[u8; 1024],
+    used: &[u8; Limit::MOST_BLOCKS],
     context: Context,
     call: &[u8],
     h: Part,

@@ -62,7 +62,7 @@ fn new_object(clock: Time, kind: u32, a: Settable) -> Object
 // What CREATE and MKDIR do to the store for a new object.
 fn new_edit(
     store: &mut [u8],
-    used: &[u8; 1024],
+    used: &[u8; Limit::MOST_BLOCKS],
     context: Context,
     kind: u32,
     o: ObjectNumber,
@@ -89,7 +89,7 @@ fn new_edit(
 // What CREATE does to the store for a file that has the name: it obeys the size.
 fn existing_edit(
     store: &mut [u8],
-    used: &[u8; 1024],
+    used: &[u8; Limit::MOST_BLOCKS],
     context: Context,
     o: ObjectNumber,
     size: SetSize,
@@ -110,7 +110,7 @@ fn existing_edit(
 // Makes a new object in a directory, and shows it.
 fn make_new(
     store: &mut [u8],
-    used: &[u8; 1024],
+    used: &[u8; Limit::MOST_BLOCKS],
     context: Context,
     kind: u32,
     o: ObjectNumber,
@@ -138,7 +138,7 @@ fn make_new(
 // MKDIR: the new directory and the change of the one that it is in, or the status of the check that failed.
 pub fn mkdir(
     store: &mut [u8],
-    used: &[u8; 1024],
+    used: &[u8; Limit::MOST_BLOCKS],
     context: Context,
     call: &[u8],
     place: NameIn,
@@ -173,7 +173,7 @@ pub fn mkdir(
 // Gives the file that has the name the size, where one is given, and shows it.
 fn obey_size(
     store: &mut [u8],
-    used: &[u8; 1024],
+    used: &[u8; Limit::MOST_BLOCKS],
     context: Context,
     d: ObjectNumber,
     o: ObjectNumber,
@@ -209,7 +209,7 @@ fn settable_of(manner: How) -> Settable
 // CREATE: the file and the change of its directory, or the status of the check that failed.
 pub fn create(
     store: &mut [u8],
-    used: &[u8; 1024],
+    used: &[u8; Limit::MOST_BLOCKS],
     context: Context,
     call: &[u8],
     place: NameIn,

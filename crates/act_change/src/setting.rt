@@ -45,7 +45,7 @@ fn sizes_directory(store: &[u8], o: ObjectNumber, size: SetSize) -> bool
 // The object that SETATTR may change, or the status.
 pub fn check_setattr(
     store: &[u8],
-    used: &[u8; 1024],
+    used: &[u8; Limit::MOST_BLOCKS],
     call: &[u8],
     h: Part,
     a: Settable,
@@ -80,7 +80,7 @@ pub fn check_setattr(
 // The file that WRITE may change, or the status. The map says which blocks are used.
 pub fn check_write(
     store: &[u8],
-    used: &[u8; 1024],
+    used: &[u8; Limit::MOST_BLOCKS],
     call: &[u8],
     h: Part,
     offset: u64,

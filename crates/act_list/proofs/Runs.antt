@@ -35,7 +35,7 @@ extended-few given run cookie long =
 abbrev endedRun : ℕ → ℕ → Run
 endedRun room count = record { room = room; count = count; full = true }
 
--- ---- entries behind others, and behind a run that has ended
+-- ---- entries after others, and after a run that has ended
 pub run-append : (given : ℕ) (run : Run) (xs ys : List Entry) → runOf given run (xs ++ ys) ≡ runOf given (runOf given run xs) ys
 unfolding runOf
 run-append given run [] ys = refl
@@ -117,7 +117,7 @@ module _ (s : Store) (d given : ℕ) (start : Run) (i room count : ℕ) (e : ope
       sym (ap (runOf given start) (passing-split (entryOf s) (isIn s d) (i + 1) m (omega arith)) ∙ run-append given start (namedEntries s d (i + 1)) later
       ∙ ap (λ (r : Run). runOf given r later) one ∙ run-ended given ended later refl)
 
--- ---- the names of a directory, behind "." and ".."
+-- ---- the names of a directory, after "." and ".."
 pub behind-dots : (s : Store) (d given : ℕ) (start run : Run) → run ≡ extended given (extended given start 1 1) 2 2
     → runOf given run (namedEntries s d (names s)) ≡ runOf given start (entries s d)
 unfolding runOf entries dotEntries

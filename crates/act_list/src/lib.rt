@@ -86,7 +86,7 @@ fn length_in(store: &[u8], at: usize, d: ObjectNumber) -> usize
     wire::get_u32(store, at + NameRecord::LENGTH) as usize
 }
 
-// The run of a directory's names above a cookie, in a room, behind `count` entries; the first that does not fit ends it.
+// The run of a directory's names above a cookie, in a room, after `count` entries; the first that does not fit ends it.
 fn name_run(store: &[u8], d: ObjectNumber, given: u64, room: usize, count: usize) -> Run
     requires { ⌜ GoodRecords (now store) ⌝ }
     requires { ⌜ count ≤ 2 ⌝ }

@@ -14,6 +14,7 @@ use check_handles::handle::Reached;
 use check_handles::handle::reach;
 use kinds::call::Part;
 use kinds::layout::Block;
+use kinds::numbers::Limit;
 use kinds::numbers::ObjectNumber;
 use results::Reply;
 use store_blocks::free_block_count;
@@ -22,7 +23,7 @@ use store_records::counts::object_count;
 use store_search::object::available_count;
 
 // The room of a store. The map says which blocks are used.
-fn room(store: &[u8], used: &[u8; 1024], o: ObjectNumber) -> Reply
+fn room(store: &[u8], used: &[u8; Limit::MOST_BLOCKS], o: ObjectNumber) -> Reply
     requires { ⌜ GoodRecords (now store) ⌝ }
     requires { ⌜ o .0 < objects (now store) ⌝ }
     requires { ⌜ UsedMap (now store) (now used) ⌝ }
@@ -36,7 +37,7 @@ fn room(store: &[u8], used: &[u8; 1024], o: ObjectNumber) -> Reply
     Reply::GotRoom(o, total as u32, unused as u32, all as u32, available as u32)
 }
 
-pub fn fsstat(store: &[u8], used: &[u8; 1024], call: &[u8], h: Part) -> Reply
+pub fn fsstat(store: &[u8], used: &[u8; Limit::MOST_BLOCKS], call: &[u8], h: Part) -> Reply
     requires { ⌜ GoodRecords (now store) ⌝ }
     requires { ⌜ h .start + h .length ≤ length (now call) ⌝ }
     requires { ⌜ UsedMap (now store) (now used) ⌝ }

@@ -27,7 +27,7 @@ use store_records::object::size_of;
 // What WRITE does to the store: n bytes of the call, from `start` on, at an offset of a file.
 fn write_edit(
     store: &mut [u8],
-    used: &[u8; 1024],
+    used: &[u8; Limit::MOST_BLOCKS],
     context: Context,
     o: ObjectNumber,
     offset: usize,
@@ -51,7 +51,7 @@ fn write_edit(
 // Writes bytes of the call at an offset of a file that the checks passed: the file as it was and as it is, the bytes written and the verifier.
 pub fn write_checked(
     store: &mut [u8],
-    used: &[u8; 1024],
+    used: &[u8; Limit::MOST_BLOCKS],
     context: Context,
     o: ObjectNumber,
     offset: u64,

@@ -22,7 +22,7 @@ use xdr::read::choice;
 use xdr::read::long;
 use xdr::read::word;
 
-// SETATTR3args behind the handle.
+// SETATTR3args after the handle.
 fn setattr(s: &[u8], c: Cursor, object: Part) -> ArgumentsRead
     ensures { λ r. ⌜ argumentsOf r ≡ whole (setattrArguments object) (now (s .entry)) (c .at) ⌝ }
 {
@@ -37,7 +37,7 @@ fn setattr(s: &[u8], c: Cursor, object: Part) -> ArgumentsRead
     finish(s, c2, Arguments::Setattr(object, attributes, given))
 }
 
-// ACCESS3args behind the handle.
+// ACCESS3args after the handle.
 fn access(s: &[u8], c: Cursor, object: Part) -> ArgumentsRead
     ensures { λ r. ⌜ argumentsOf r ≡ whole (accessArguments object) (now (s .entry)) (c .at) ⌝ }
 {
@@ -48,7 +48,7 @@ fn access(s: &[u8], c: Cursor, object: Part) -> ArgumentsRead
     finish(s, c1, Arguments::Access(object, bits))
 }
 
-// READ3args behind the handle.
+// READ3args after the handle.
 fn read(s: &[u8], c: Cursor, file: Part) -> ArgumentsRead
     ensures { λ r. ⌜ argumentsOf r ≡ whole (readArguments file) (now (s .entry)) (c .at) ⌝ }
 {
@@ -63,7 +63,7 @@ fn read(s: &[u8], c: Cursor, file: Part) -> ArgumentsRead
     finish(s, c2, Arguments::Read(file, offset, count))
 }
 
-// WRITE3args behind the handle.
+// WRITE3args after the handle.
 fn write(s: &[u8], c: Cursor, file: Part) -> ArgumentsRead
     ensures { λ r. ⌜ argumentsOf r ≡ whole (writeArguments file) (now (s .entry)) (c .at) ⌝ }
 {
@@ -86,7 +86,7 @@ fn write(s: &[u8], c: Cursor, file: Part) -> ArgumentsRead
     finish(s, c4, Arguments::Write(file, offset, count, bytes))
 }
 
-// READDIR3args behind the handle.
+// READDIR3args after the handle.
 fn readdir(s: &[u8], c: Cursor, directory: Part) -> ArgumentsRead
     ensures { λ r. ⌜ argumentsOf r ≡ whole (readdirArguments directory) (now (s .entry)) (c .at) ⌝ }
 {
@@ -109,7 +109,7 @@ fn readdir(s: &[u8], c: Cursor, directory: Part) -> ArgumentsRead
     )
 }
 
-// COMMIT3args behind the handle.
+// COMMIT3args after the handle.
 fn commit(s: &[u8], c: Cursor, file: Part) -> ArgumentsRead
     ensures { λ r. ⌜ argumentsOf r ≡ whole (commitArguments file) (now (s .entry)) (c .at) ⌝ }
 {

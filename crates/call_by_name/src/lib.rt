@@ -16,7 +16,7 @@ use kinds::call::Cursor;
 use kinds::call::NameIn;
 use kinds::numbers::Procedure;
 
-// CREATE3args behind the name.
+// CREATE3args after the name.
 fn create(s: &[u8], c: Cursor, place: NameIn) -> ArgumentsRead
     ensures { λ r. ⌜ argumentsOf r ≡ whole (createArguments place) (now (s .entry)) (c .at) ⌝ }
 {
@@ -27,7 +27,7 @@ fn create(s: &[u8], c: Cursor, place: NameIn) -> ArgumentsRead
     finish(s, c1, Arguments::Create(place, manner))
 }
 
-// MKDIR3args behind the name.
+// MKDIR3args after the name.
 fn mkdir(s: &[u8], c: Cursor, place: NameIn) -> ArgumentsRead
     ensures { λ r. ⌜ argumentsOf r ≡ whole (mkdirArguments place) (now (s .entry)) (c .at) ⌝ }
 {
@@ -38,7 +38,7 @@ fn mkdir(s: &[u8], c: Cursor, place: NameIn) -> ArgumentsRead
     finish(s, c1, Arguments::Mkdir(place, attributes))
 }
 
-// RENAME3args behind the old name.
+// RENAME3args after the old name.
 fn rename(s: &[u8], c: Cursor, old: NameIn) -> ArgumentsRead
     ensures { λ r. ⌜ argumentsOf r ≡ whole (renameArguments old) (now (s .entry)) (c .at) ⌝ }
 {

@@ -1,4 +1,4 @@
-// What reading arguments answers, and the end of the call behind them.
+// What reading arguments answers, and the end of the call after them.
 ghost use mathlib.Core.Path.{_≡_};
 ghost use Rattle.spec.specs.Arguments.{whole};
 ghost use Rattle.spec.specs.Xdr.{done};
@@ -12,7 +12,7 @@ use kinds::call::Cursor;
 use kinds::reading::SkipRead;
 use xdr::read::end;
 
-// What was read of the arguments, where the call ends behind it.
+// What was read of the arguments, where the call ends after it.
 pub fn finish(s: &[u8], c: Cursor, read: Arguments) -> ArgumentsRead
     ensures { λ r. ⌜ argumentsOf r ≡ whole (done read) (now (s .entry)) (c .at) ⌝ }
 {

@@ -33,7 +33,7 @@ pub enum RoomChecked {
 
 // Whether growth from one size to another takes more blocks than are free. The map says which blocks are used; they
 // are counted only where more are needed.
-fn lacks_room(store: &[u8], used: &[u8; 1024], old: usize, size: usize) -> bool
+fn lacks_room(store: &[u8], used: &[u8; Limit::MOST_BLOCKS], old: usize, size: usize) -> bool
     requires { ⌜ GoodRecords (now store) ⌝ }
     requires { ⌜ UsedMap (now store) (now used) ⌝ }
     requires { ⌜ old ≤ mostFileBytes ⌝ }
@@ -49,7 +49,12 @@ fn lacks_room(store: &[u8], used: &[u8; 1024], old: usize, size: usize) -> bool
 }
 
 // Whether a file grows past the free blocks where it gets the size that is given.
-pub fn lacks_room_for_size(store: &[u8], used: &[u8; 1024], o: ObjectNumber, size: SetSize) -> bool
+pub fn lacks_room_for_size(
+    store: &[u8],
+    used: &[u8; Limit::MOST_BLOCKS],
+    o: ObjectNumber,
+    size: SetSize,
+) -> bool
     requires { ⌜ GoodRecords (now store) ⌝ }
     requires { ⌜ UsedMap (now store) (now used) ⌝ }
     requires { ⌜ o .0 < objects (now store) ⌝ }
@@ -75,7 +80,7 @@ pub fn is_past_end(offset: u64, n: usize) -> bool
 // Whether a file grows past the free blocks where bytes are written at an offset.
 pub fn lacks_room_for_bytes(
     store: &[u8],
-    used: &[u8; 1024],
+    used: &[u8; Limit::MOST_BLOCKS],
     o: ObjectNumber,
     offset: usize,
     n: usize,
@@ -91,7 +96,7 @@ pub fn lacks_room_for_bytes(
 }
 
 // A record for a new object, one for its name, and blocks for its size; else NOSPC.
-pub fn room_for_new(store: &[u8], used: &[u8; 1024], size: usize) -> RoomChecked
+pub fn room_for_new(store: &[u8], used: &[u8; Limit::MOST_BLOCKS], size: usize) -> RoomChecked
     requires { ⌜ GoodRecords (now store) ⌝ }
     requires { ⌜ UsedMap (now store) (now used) ⌝ }
     requires { ⌜ size ≤ mostFileBytes ⌝ }

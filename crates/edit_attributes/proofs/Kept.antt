@@ -136,7 +136,7 @@ module _ (s : Store) (o : ℕ) (w : Object) (f : Below 256 s) (h : objectStart o
       ∙ ap (λ (k : ℕ). overlay second k (halvesBytes fileBlocks (w .blocks))) behind
       ∙ overlay-kept second (at + blocksOffset) blocksLength _ (end ∙ sym blocks-kept) (omega (arith, second-length)))
 
--- two parts, one behind the other
+-- two parts, one after the other
 joined : (s : List ℕ) (p q n m : ℕ) (xs ys : List ℕ) → q ≡ p + n → xs ≡ part s p n → ys ≡ part s q m → xs ++ ys ≡ part s p (n + m)
 joined s p q n m xs ys e a b = ap₂ (λ (x y : List ℕ). x ++ y) a (b ∙ ap (λ (k : ℕ). part s k m) e) ∙ sym (part-add s p n m)
 

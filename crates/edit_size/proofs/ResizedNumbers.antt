@@ -17,7 +17,7 @@ use Rattle.store_blocks.proofs.Blocks.{listed-more}
 pub block-put : (bs cs : List BlockNumber) (k j : ℕ) → numbersOf (set bs k (getD cs j (blockOf 0))) ≡ set (numbersOf bs) k (getD (numbersOf cs) j 0)
 block-put bs cs k j = numbers-set bs k (getD cs j (blockOf 0)) ∙ ap (λ (n : ℕ). set (numbersOf bs) k n) (numbers-at cs j)
 
--- the first n + m of n numbers with a number repeated behind them
+-- the first n + m of n numbers with a number repeated after them
 filled : (rs : List ℕ) (m n x : ℕ) → length rs ≡ n → take (n + m) (rs ++ replicate (m + n) x) ≡ rs ++ replicate m x
 filled rs m n x l =
     ap (λ (i : ℕ). take (i + m) (rs ++ replicate (m + n) x)) (sym l)

@@ -82,7 +82,7 @@ fn shrink(store: &mut [u8], o: ObjectNumber, size: usize)
 }
 
 // A file's size, not below what it was: the bytes and the blocks that it gets are zeroed. The map says which blocks are used.
-fn grow(store: &mut [u8], used: &[u8; 1024], o: ObjectNumber, size: usize)
+fn grow(store: &mut [u8], used: &[u8; Limit::MOST_BLOCKS], o: ObjectNumber, size: usize)
     requires { ⌜ GoodRecords (now store) ⌝ }
     requires { ⌜ UsedMap (now store) (now used) ⌝ }
     requires { ⌜ o .0 < objects (now store) ⌝ }
@@ -108,7 +108,7 @@ fn grow(store: &mut [u8], used: &[u8; 1024], o: ObjectNumber, size: usize)
 }
 
 // A file's size. The map says which blocks are used. Nothing is written where the size is the old one.
-pub fn resize(store: &mut [u8], used: &[u8; 1024], o: ObjectNumber, size: usize)
+pub fn resize(store: &mut [u8], used: &[u8; Limit::MOST_BLOCKS], o: ObjectNumber, size: usize)
     requires { ⌜ GoodRecords (now store) ⌝ }
     requires { ⌜ UsedMap (now store) (now used) ⌝ }
     requires { ⌜ o .0 < objects (now store) ⌝ }

@@ -24,7 +24,7 @@ use Rattle.rpc.specs.declared.outcome.Judged.the-variants as Judged
 use Rattle.xdr.specs.Wrote.{Wrote}
 use Rattle.entry_reply.specs.Sends.{Sends}
 
--- a write at the start is as long as the place behind it
+-- a write at the start is as long as the place after it
 pub wrote-exact : {n m : ℕ} {r r₁ b : List ℕ} → Wrote m r r₁ 0 n b → Wrote n r r₁ 0 n b
 wrote-exact {n} {m} w = let e : m ≡ n = omega arith in record { size = w .size ∙ e; fits = omega arith; place = omega arith; bytes = w .bytes }
 

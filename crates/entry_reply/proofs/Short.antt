@@ -37,7 +37,7 @@ stopped-short p xid stat =
     rw (accepted-length xid stat (mismatch p stat))
     (by-bool (eqb stat PROG-MISMATCH) (λ t. rw (t, words-length) (lit≤ tt)) (λ t. rw t (lit≤ tt)))
 
--- ---- the results of a procedure, which fit into the least reply space behind the head of the reply
+-- ---- the results of a procedure, which fit into the least reply space after the head of the reply
 abbrev Short : List ℕ → Type 0
 Short results = 24 + length results ≤ leastReplyBytes
 

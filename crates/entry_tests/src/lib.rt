@@ -26,7 +26,7 @@ pub fn open(
     store: &[u8],
     reply: &[u8],
     context: Context,
-    used: &mut [u8; 1024],
+    used: &mut [u8; Limit::MOST_BLOCKS],
 ) -> Opened
     requires { ⌜ Blank mostBlocks (now used) ⌝ }
     ensures { λ r. ⌜ Opens (now (call .entry)) (now (store .entry)) (now (reply .entry)) context (now (used .exit)) r ⌝ }
@@ -41,7 +41,7 @@ pub fn open(
     if call.len() > Limit::MOST_CALL_BYTES {
         return Opened::Refused(Answer::CALL);
     }
-    let mut parents = [0u8; 64];
+    let mut parents = [0u8; Limit::MOST_OBJECTS];
     let found = check_store(store, used, &mut parents);
     let Found::Good(_) = found else {
         return Opened::Refused(Answer::STORE);

@@ -35,7 +35,7 @@ drop-zeros zero k = as-many k (k - 0) (omega arith)
 drop-zeros (suc g) zero = as-many 0 (0 - suc g) (omega arith)
 drop-zeros (suc g) (suc k) = drop-zeros g k ∙ as-many (k - g) (suc k - suc g) (omega arith)
 
--- ys written g bytes into the zeros behind xs
+-- ys written g bytes into the zeros after xs
 lay : (xs ys : List ℕ) (g n rest at : ℕ) → at ≡ length xs + g → length ys ≡ n → overlay (xs ++ zeros (g + n + rest)) at ys ≡ xs ++ zeros g ++ ys ++ zeros rest
 unfolding overlay
 lay xs ys g n rest at e l =

@@ -34,7 +34,7 @@ fn names_and_tree(
     inside: &[u8; 64],
     p: usize,
     q: usize,
-    parents: &mut [u8; 64],
+    parents: &mut [u8; Limit::MOST_OBJECTS],
 ) -> bool
     requires { ⌜ Shaped (now store) ⌝ }
     requires { ⌜ p ≡ objects (now store) ⌝ }
@@ -44,18 +44,22 @@ fn names_and_tree(
     ensures { λ r. ⌜ Told r (now (store .entry)) (NamesAndTreePass (now (store .entry))) ⌝ }
 {
     let mut head = [0u8; 256];
-    let mut next = [0u8; 128];
+    let mut next = [0u8; Limit::MOST_NAME_RECORDS];
     if !names_pass(store, inside, p, q, parents, &mut head, &mut next) {
         return false;
     }
-    let mut depths = [0u8; 64];
+    let mut depths = [0u8; Limit::MOST_OBJECTS];
     tree_passes(store, p, parents, &mut depths)
 }
 
 // Checks a store of any bytes, with maps of zeros. Of one that passes, gives its counts, and leaves in `used` a byte for each block, 1 where it is
 // used and else 0. `parents` is room to work in: a local map in its place, or an answer without the counts, makes the check of a full store 3 %
 // longer in instructions.
-pub fn check_store(store: &[u8], used: &mut [u8; 1024], parents: &mut [u8; 64]) -> Found
+pub fn check_store(
+    store: &[u8],
+    used: &mut [u8; Limit::MOST_BLOCKS],
+    parents: &mut [u8; Limit::MOST_OBJECTS],
+) -> Found
     requires { ⌜ Blank mostBlocks (now used) ⌝ }
     requires { ⌜ Blank mostObjects (now parents) ⌝ }
     ensures { λ r. ⌜ Verdict (now (store .entry)) r (now (used .exit)) ⌝ }

@@ -44,7 +44,7 @@ pub fn shape(store: &[u8]) -> Found
     rest_of_shape(store, objects)
 }
 
-// The same, with the number of objects, which is in range, and behind which the count of names lies.
+// The same, with the number of objects, which is in range, and after which the count of names lies.
 fn rest_of_shape(store: &[u8], objects: usize) -> Found
     requires { ⌜ First (now store) objects ⌝ }
     ensures { λ r. ⌜ r ≡ shapeOf (now (store .entry)) ⌝ }

@@ -10,11 +10,12 @@ ghost use Rattle.fsck_objects.specs.Objects.{Blank};
 ghost use Rattle.fsck_names.specs.Named.{NamedBy};
 ghost use Rattle.fsck.specs.Tree.{Parents, Known, Steps, Depth, Leads, TreePasses};
 use fsck_names::distinct::index;
+use kinds::numbers::Limit;
 use kinds::numbers::ObjectNumber;
 use store_records::object::is_live;
 
 // The parent of an object by the map.
-fn parent_of(parents: &[u8; 64], o: ObjectNumber) -> ObjectNumber
+fn parent_of(parents: &[u8; Limit::MOST_OBJECTS], o: ObjectNumber) -> ObjectNumber
     requires { ⌜ o .0 < mostObjects ⌝ }
     ensures { λ r. ⌜ r .0 ≡ getD (now (parents .entry)) (o .0) 0 - 1 ⌝ }
 {
@@ -27,7 +28,13 @@ fn parent_of(parents: &[u8; 64], o: ObjectNumber) -> ObjectNumber
 }
 
 // How many steps it is from object o to the root; more than p where p steps do not lead there. The store is there for the contract alone.
-fn steps(store: &[u8], p: usize, parents: &[u8; 64], depths: &[u8; 64], o: ObjectNumber) -> usize
+fn steps(
+    store: &[u8],
+    p: usize,
+    parents: &[u8; Limit::MOST_OBJECTS],
+    depths: &[u8; Limit::MOST_OBJECTS],
+    o: ObjectNumber,
+) -> usize
     requires { ⌜ Parents (now store) p (now parents) ⌝ }
     requires { ⌜ Known (now store) p (now depths) ⌝ }
     requires { ⌜ o .0 < p ⌝ }
@@ -50,8 +57,8 @@ fn steps(store: &[u8], p: usize, parents: &[u8; 64], depths: &[u8; 64], o: Objec
 fn note_steps(
     store: &[u8],
     p: usize,
-    parents: &[u8; 64],
-    depths: &mut [u8; 64],
+    parents: &[u8; Limit::MOST_OBJECTS],
+    depths: &mut [u8; Limit::MOST_OBJECTS],
     o: ObjectNumber,
     count: usize,
 )
@@ -75,8 +82,8 @@ fn note_steps(
 fn leads_by_steps(
     store: &[u8],
     p: usize,
-    parents: &[u8; 64],
-    depths: &mut [u8; 64],
+    parents: &[u8; Limit::MOST_OBJECTS],
+    depths: &mut [u8; Limit::MOST_OBJECTS],
     o: ObjectNumber,
 ) -> bool
     requires { ⌜ Shaped (now store) ⌝ }
@@ -102,7 +109,13 @@ fn leads_by_steps(
 }
 
 // The same, at once where the steps of the object's parent are known.
-fn leads(store: &[u8], p: usize, parents: &[u8; 64], depths: &mut [u8; 64], o: ObjectNumber) -> bool
+fn leads(
+    store: &[u8],
+    p: usize,
+    parents: &[u8; Limit::MOST_OBJECTS],
+    depths: &mut [u8; Limit::MOST_OBJECTS],
+    o: ObjectNumber,
+) -> bool
     requires { ⌜ Shaped (now store) ⌝ }
     requires { ⌜ p ≡ objects (now store) ⌝ }
     requires { ⌜ NamedBy (now store) (names (now store)) (now parents) ⌝ }
@@ -123,7 +136,12 @@ fn leads(store: &[u8], p: usize, parents: &[u8; 64], depths: &mut [u8; 64], o: O
 }
 
 // Whether every object is named as it must be, and its parents lead to the root. `depths` is zero before.
-pub fn tree_passes(store: &[u8], p: usize, parents: &[u8; 64], depths: &mut [u8; 64]) -> bool
+pub fn tree_passes(
+    store: &[u8],
+    p: usize,
+    parents: &[u8; Limit::MOST_OBJECTS],
+    depths: &mut [u8; Limit::MOST_OBJECTS],
+) -> bool
     requires { ⌜ Shaped (now store) ⌝ }
     requires { ⌜ p ≡ objects (now store) ⌝ }
     requires { ⌜ NamedBy (now store) (names (now store)) (now parents) ⌝ }

@@ -10,10 +10,11 @@ ghost use Rattle.fsck_objects.specs.Told.{Told};
 ghost use Rattle.fsck_objects.specs.Objects.{Blank, Inside, AreMarks, ObjectsPass};
 use fsck_objects::object::Uses;
 use fsck_objects::object::object_uses;
+use kinds::numbers::Limit;
 use kinds::numbers::ObjectNumber;
 
 // The sum of n bytes of a map from `from` on, which are 0 or 1.
-fn sum_part(used: &[u8; 1024], from: usize, n: usize) -> u8
+fn sum_part(used: &[u8; Limit::MOST_BLOCKS], from: usize, n: usize) -> u8
     requires { ⌜ from + n ≤ mostBlocks ⌝ }
     requires { ⌜ n ≤ 128 ⌝ }
     requires { ⌜ AreMarks (now used) from n ⌝ }
@@ -29,7 +30,7 @@ fn sum_part(used: &[u8; 1024], from: usize, n: usize) -> u8
 }
 
 // How many of the first `limit` blocks are marked: the sum of their bytes, 128 at a time.
-fn marked(used: &[u8; 1024], limit: usize) -> usize
+fn marked(used: &[u8; Limit::MOST_BLOCKS], limit: usize) -> usize
     requires { ⌜ limit ≤ mostBlocks ⌝ }
     requires { ⌜ AreMarks (now used) 0 limit ⌝ }
     ensures { λ r. ⌜ r ≡ sum limit (λ i. getD (now (used .entry)) i 0) ⌝ }
@@ -50,7 +51,7 @@ pub fn objects_pass(
     inside: &[u8; 64],
     count: usize,
     limit: usize,
-    used: &mut [u8; 1024],
+    used: &mut [u8; Limit::MOST_BLOCKS],
 ) -> bool
     requires { ⌜ Shaped (now store) ⌝ }
     requires { ⌜ Inside (now inside) ⌝ }

@@ -21,7 +21,7 @@ use Rattle.laws.proofs.Valid.{UsedName, good-bytes}
 use Rattle.fsck_names.specs.Distinct.{wordAt, joined, mix, paddedText, hash, isSame}
 use Rattle.fsck_names.proofs.Joins.{is-used}
 
--- lists of no zero that are equal when zeros are put behind them
+-- lists of no zero that are equal when zeros are put after them
 front-zero : (i : ℕ) → _≡_ {A = ℕ} (getD (zeros i) 0 0) 0
 front-zero zero = refl
 front-zero (suc i) = refl

@@ -12,6 +12,7 @@ ghost use Rattle.fsck_names.specs.Distinct.{wordAt, joined, hash, isSame
 use crate::record::directory_of;
 use crate::text::same_text;
 use kinds::layout::NameRecord;
+use kinds::numbers::Limit;
 use kinds::numbers::NameNumber;
 use store_places::name_place;
 
@@ -90,7 +91,7 @@ pub fn is_new(
     n: NameNumber,
     h: usize,
     head: &[u8; 256],
-    next: &[u8; 128],
+    next: &[u8; Limit::MOST_NAME_RECORDS],
 ) -> bool
     requires { ⌜ Shaped (now store) ⌝ }
     requires { ⌜ p ≡ objects (now store) ⌝ }
@@ -108,7 +109,12 @@ pub fn is_new(
 }
 
 // Puts record n before the others of its hash.
-pub fn put_first(head: &mut [u8; 256], next: &mut [u8; 128], h: usize, n: NameNumber)
+pub fn put_first(
+    head: &mut [u8; 256],
+    next: &mut [u8; Limit::MOST_NAME_RECORDS],
+    h: usize,
+    n: NameNumber,
+)
     requires { ⌜ h < 256 ⌝ }
     requires { ⌜ n .0 < mostNameRecords ⌝ }
     ensures { λ _. ⌜ (now (head .exit) ≡ set (now (head .entry)) h (n .0 + 1)) × (now (next .exit) ≡ set (now (next .entry)) (n .0) (getD (now (head .entry)) h 0)) ⌝ }

@@ -7,10 +7,16 @@ ghost use Rattle.fsck_objects.specs.Told.{Told};
 ghost use Rattle.fsck_names.specs.Named.{NamedBy};
 use crate::record::child_of;
 use crate::record::directory_of;
+use kinds::numbers::Limit;
 use kinds::numbers::NameNumber;
 
 // Marks the parent of the object that record n names; false where that is the root, or named before.
-pub fn mark_child(store: &[u8], p: usize, n: NameNumber, parents: &mut [u8; 64]) -> bool
+pub fn mark_child(
+    store: &[u8],
+    p: usize,
+    n: NameNumber,
+    parents: &mut [u8; Limit::MOST_OBJECTS],
+) -> bool
     requires { ⌜ Shaped (now store) ⌝ }
     requires { ⌜ p ≡ objects (now store) ⌝ }
     requires { ⌜ n .0 < names (now store) ⌝ }

@@ -13,6 +13,7 @@ use crate::distinct::put_first;
 use crate::named::mark_child;
 use crate::record::length_of;
 use crate::record::record_passes;
+use kinds::numbers::Limit;
 use kinds::numbers::NameNumber;
 
 // Whether name record n passes, and those before it.
@@ -21,9 +22,9 @@ fn name_passes(
     inside: &[u8; 64],
     p: usize,
     n: NameNumber,
-    parents: &mut [u8; 64],
+    parents: &mut [u8; Limit::MOST_OBJECTS],
     head: &mut [u8; 256],
-    next: &mut [u8; 128],
+    next: &mut [u8; Limit::MOST_NAME_RECORDS],
 ) -> bool
     requires { ⌜ Shaped (now store) ⌝ }
     requires { ⌜ p ≡ objects (now store) ⌝ }
@@ -57,9 +58,9 @@ pub fn names_pass(
     inside: &[u8; 64],
     p: usize,
     count: usize,
-    parents: &mut [u8; 64],
+    parents: &mut [u8; Limit::MOST_OBJECTS],
     head: &mut [u8; 256],
-    next: &mut [u8; 128],
+    next: &mut [u8; Limit::MOST_NAME_RECORDS],
 ) -> bool
     requires { ⌜ Shaped (now store) ⌝ }
     requires { ⌜ p ≡ objects (now store) ⌝ }

@@ -87,7 +87,7 @@ fn mark_four(
     count: usize,
     k: usize,
     limit: usize,
-    used: &mut [u8; 1024],
+    used: &mut [u8; Limit::MOST_BLOCKS],
 ) -> bool
     requires { ⌜ Shaped (now store) ⌝ }
     requires { ⌜ LiveAt (now store) (o .0) count ⌝ }
@@ -125,7 +125,7 @@ fn mark_fours(
     o: ObjectNumber,
     count: usize,
     limit: usize,
-    used: &mut [u8; 1024],
+    used: &mut [u8; Limit::MOST_BLOCKS],
 ) -> bool
     requires { ⌜ Shaped (now store) ⌝ }
     requires { ⌜ LiveAt (now store) (o .0) count ⌝ }
@@ -149,7 +149,7 @@ fn mark_last(
     o: ObjectNumber,
     count: usize,
     limit: usize,
-    used: &mut [u8; 1024],
+    used: &mut [u8; Limit::MOST_BLOCKS],
 ) -> bool
     requires { ⌜ Shaped (now store) ⌝ }
     requires { ⌜ LiveAt (now store) (o .0) count ⌝ }
@@ -206,7 +206,7 @@ fn blocks_pass(
     o: ObjectNumber,
     count: usize,
     limit: usize,
-    used: &mut [u8; 1024],
+    used: &mut [u8; Limit::MOST_BLOCKS],
 ) -> bool
     requires { ⌜ Shaped (now store) ⌝ }
     requires { ⌜ Inside (now inside) ⌝ }
@@ -230,7 +230,7 @@ pub fn object_uses(
     inside: &[u8; 64],
     o: ObjectNumber,
     limit: usize,
-    used: &mut [u8; 1024],
+    used: &mut [u8; Limit::MOST_BLOCKS],
 ) -> Uses
     requires { ⌜ Shaped (now store) ⌝ }
     requires { ⌜ Inside (now inside) ⌝ }

@@ -41,7 +41,7 @@ module _ (reply : List ℕ) (xid : ℕ) (ws rest : List ℕ) (b : Begins reply x
   unfolding whole
   reply-long = omega (arith, ap length b, length-append (words whole) rest, words-length whole)
 
-  -- word k behind the header
+  -- word k after the header
   pub word-of : (k : ℕ) → k < length ws → getD ws k 0 < 4294967296 → beAt reply (24 + 4 * k) 4 ≡ getD ws k 0
   unfolding whole
   word-of k l h =
@@ -97,7 +97,7 @@ words-between xs ys rest =
     ∙ part-left (words ys) rest 0 (4 * length ys) (omega (arith, words-length ys))
     ∙ part-whole (words ys) (4 * length ys) (words-length ys)
 
--- the handle behind the words ws and its length
+-- the handle after the words ws and its length
 pub handle-at : (reply : List ℕ) (xid : ℕ) (ws rest : List ℕ) (stamp o g at : ℕ) → Begins reply xid (ws ++ (handleLength ∷ stamp ∷ o ∷ g ∷ [])) rest
     → at ≡ 24 + 4 * length ws → handleAt reply at ≡ handleBytes stamp o g
 handle-at reply xid ws rest stamp o g at b e =

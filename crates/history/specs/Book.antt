@@ -110,7 +110,7 @@ headedArguments call (got (Header.Call h) at) = judgedArguments call h at (judge
 unfoldable pub asked : List ℕ → Option Arguments
 asked call = headedArguments call (header call 0)
 
--- the word of a reply behind its six header words: the status
+-- the word of a reply after its six header words: the status
 abbrev pub statusIn : List ℕ → ℕ
 statusIn reply = beAt reply 24 4
 
@@ -127,7 +127,7 @@ isOk reply = isStatus OK reply
 abbrev pub handleAt : List ℕ → ℕ → List ℕ
 handleAt reply at = part reply (at + 4) (beAt reply at 4)
 
--- the handle in an OK reply: LOOKUP's behind the status; CREATE's and MKDIR's behind the status and "handle follows"
+-- the handle in an OK reply: LOOKUP's after the status; CREATE's and MKDIR's after the status and "handle follows"
 abbrev pub foundHandle : List ℕ → List ℕ
 foundHandle reply = handleAt reply 28
 

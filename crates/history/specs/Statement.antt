@@ -72,7 +72,7 @@ abbrev pub BookPath : Book → List ℕ → List Line → Type 0
 BookPath b h [] = (l : Line) × In l b × (l .handle ≡ h) × (l .standing ≡ asRoot)
 BookPath b h (l ∷ ls) = In l b × (l .handle ≡ h) × ((d : List ℕ) × (text : List ℕ) × (l .standing ≡ under d text) × BookPath b d ls)
 
--- no line stands twice: none behind a line has the standing that it has
+-- no line stands twice: none after a line has the standing that it has
 abbrev pub StandApart : Book → Type 0
 StandApart [] = Unit {0}
 StandApart (l ∷ ls) = ((k : Line) → In k ls → k .standing ≡ l .standing → ⊥) × StandApart ls

@@ -1,4 +1,4 @@
--- What a write leaves alone: every part that lies before or behind it. Assumes nothing.
+-- What a write leaves alone: every part that lies before or after it. Assumes nothing.
 use mathlib.Core.Path.{_≡_, ap}
 use mathlib.Core.Logic.{_⊎_, ⊎-elim}
 use mathlib.Core.List.{List}
@@ -7,7 +7,7 @@ use lib.ListN.{length}
 use Rattle.spec.specs.Bytes.{part, overlay, beOf, beAt}
 use Rattle.laws.proofs.Bytes.{part-before, part-after}
 
--- the n bytes from p lie before or behind the m bytes from at
+-- the n bytes from p lie before or after the m bytes from at
 abbrev pub Apart : ℕ → ℕ → ℕ → ℕ → Type 0
 Apart at m p n = (p + n ≤ at) ⊎ (at + m ≤ p)
 

@@ -216,7 +216,7 @@ gained = by-procedure Gained (record {
     ends : (s : List ℕ) (x : Arguments) (n : ℕ) (a : Arguments) (q : ℕ) → got x n ≡ got a q → Known s x → Known s a
     ends s x n a q f h = subst (Known s) (same-got x a n q f) h
 
--- behind the arguments the call ends
+-- after the arguments the call ends
 whole-known : (r : Reader Arguments) (s : List ℕ) (at : ℕ) → ((a : Arguments) (q : ℕ) → r s at ≡ got a q → Known s a) → (a : Arguments) (q : ℕ)
     → whole r s at ≡ got a q → Known s a
 whole-known r s at f a q e =

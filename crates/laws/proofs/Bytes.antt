@@ -44,7 +44,7 @@ front-part l zero (suc i) m h = absurd (omega arith)
 front-part [] (suc n) (suc i) m h = refl
 front-part (x ∷ l) (suc n) (suc i) m h = front-part l n i m (omega arith)
 
--- what stands behind p
+-- what stands after p
 behind : (p q : List ℕ) (n i : ℕ) → length p ≡ n → drop (n + i) (p ++ q) ≡ drop i q
 behind p q n i e = rw (← e) (drop-append-add p q i)
 
@@ -128,7 +128,7 @@ module _ (b : List ℕ) (at : ℕ) (xs : List ℕ) (h : at + length xs ≤ lengt
       (behind (take at b ++ xs) rest (at + length xs) (length ys) head-length ∙ drop-drop (length ys) (at + length xs) b)
       ∙ simp (append-assoc, length-append, add-assoc)
 
--- a store that has xs at a place, and then gets ys behind them: one step of a run of writes
+-- a store that has xs at a place, and then gets ys after them: one step of a run of writes
 pub overlay-more : (b : List ℕ) (at : ℕ) (xs ys : List ℕ) (s s′ : List ℕ) (n : ℕ) → at + n ≤ length b → length xs ≡ n
     → s ≡ overlay b at xs → s′ ≡ overlay s (at + n) ys → s′ ≡ overlay b at (xs ++ ys)
 overlay-more b at xs ys s s′ n h l p q =
@@ -144,7 +144,7 @@ pub overlay-set : (b : List ℕ) (p x : ℕ) → p < length b → set b p x ≡ 
 unfolding overlay
 overlay-set b p x h = rw add-one (set-split b p x h ∙ sym (append-snoc (take p b) x (drop (suc p) b)))
 
--- a store that has xs at a place, and then gets the byte x behind them: a turn of a loop that writes
+-- a store that has xs at a place, and then gets the byte x after them: a turn of a loop that writes
 pub overlay-step : (b : List ℕ) (at : ℕ) (xs s : List ℕ) (n x : ℕ) → at + n < length b → length xs ≡ n → s ≡ overlay b at xs
     → set s (at + n) x ≡ overlay b at (xs ++ (x ∷ []))
 overlay-step b at xs s n x h l e =

@@ -195,7 +195,7 @@ act-kept s c call (Arguments.Commit h) n = commit-store s (cut call h) c
 act-kept s c call Arguments.Unserved n = refl
 
 -- ---- the status word of a reply
--- where the status is OK, the word behind the reply's header is 0, but for NULL's, which has none
+-- where the status is OK, the word after the reply's header is 0, but for NULL's, which has none
 pub status-word : (space : List ℕ) (xid p : ℕ) (r : Result) → statusOf r ≡ OK
     → (r ≡ null) ⊎ (beAt (overlay space 0 (accepted xid 0 (resultBytes p r))) 24 4 ≡ 0)
 unfolding statusOf overlay part beAt beOf digits bytesOf words accepted resultBytes

@@ -129,7 +129,7 @@ module _ (mark p q r : ℕ) (clock : Time) (h : FormatAsked mark p q r clock) wh
   unfolding objects beAt counted words bytesOf part
   formatted-objects = ap beOf (in-counted 8 4 (lit≤ tt)) ∙ be-bytes 4 p (omega (arith, h .few-objects))
 
-  -- a count behind a section
+  -- a count after a section
   count-behind : (xs : List ℕ) (m n : ℕ) → length xs ≡ m → n < 2 ^ 32 → beOf (part (xs ++ words (n ∷ [])) m 4) ≡ n
   count-behind xs m n l k =
       ap (λ (i : ℕ). beOf (part (xs ++ words (n ∷ [])) i 4)) (sym (add-zero m))

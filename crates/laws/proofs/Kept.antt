@@ -132,7 +132,7 @@ put-object s o v h l f =
       each-name = kept;
     }
 
--- the bytes behind a name that was written
+-- the bytes after a name that was written
 name-padded : (x : Name) → length (x .text) ≤ mostNameBytes
     → part (nameBytes x) (textOffset + length (x .text)) (mostNameBytes - length (x .text)) ≡ zeros (mostNameBytes - length (x .text))
 unfolding nameBytes

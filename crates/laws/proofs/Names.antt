@@ -103,7 +103,7 @@ module _ (s : Store) (n : ℕ) (v : Name) (h : nameStart s n + nameRecordLength 
       (name-part (putName s n v) (nameStart s n) nameRecordLength (rw length-same (omega (arith, f .text))) ∙ ap (λ (x : List ℕ). nameFrom x 0)
       bytes-same ∙ name-again v f)
 
--- ---- what is written behind the count of objects and apart from a record leaves it as it was
+-- ---- what is written after the count of objects and apart from a record leaves it as it was
 pub name-apart : (s : Store) (at : ℕ) (xs : List ℕ) → at + length xs ≤ length s → objectsHead ≤ at
     → (n : ℕ) → Apart at (length xs) (nameStart s n) (textOffset + nameLength s n) → SameName s (overlay s at xs) n
 unfolding nameAt nameLength

@@ -34,7 +34,7 @@ same-trans a b c p q =
       long = q .long ∙ p .long;
     }
 
--- a write behind the count of objects, and apart from the counts of names and of blocks
+-- a write after the count of objects, and apart from the counts of names and of blocks
 module _ (s : Store) (at : ℕ) (xs : List ℕ) (h : at + length xs ≤ length s) (l : objectsHead ≤ at) (n : Apart at (length xs) (objectStart (objects s)) 4) where
   names-apart : names (overlay s at xs) ≡ names s
   unfolding names

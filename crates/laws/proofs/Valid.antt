@@ -84,7 +84,7 @@ pub record GoodName (text : List ℕ) : Type 0 where
   pub no-dot : text ≢ 0x2E ∷ []
   pub no-dots : text ≢ 0x2E ∷ 0x2E ∷ []
 
--- the bytes of a name record behind its name are zero
+-- the bytes of a name record after its name are zero
 abbrev pub Padded : Store → ℕ → Type 0
 Padded s n = part s (nameStart s n + textOffset + nameLength s n) (mostNameBytes - nameLength s n) ≡ zeros (mostNameBytes - nameLength s n)
 

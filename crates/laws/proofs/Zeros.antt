@@ -97,7 +97,7 @@ zero-number b at w =
 pub zero-part : (b : List ℕ) (at w : ℕ) → at + w ≤ length b → beAt b at w ≡ 0 → part b at w ≡ zeros w
 zero-part b at w h e = zeros-isZero (part b at w) w (part-length b at w h) (zero-number b at w ∙ eq-eqb (beAt b at w) 0 e)
 
--- zeros behind zeros
+-- zeros after zeros
 pub zero-join : (b : List ℕ) (at m n : ℕ) → part b at m ≡ zeros m → part b (at + m) n ≡ zeros n → part b at (m + n) ≡ zeros (m + n)
 zero-join b at m n e f = part-add b at m n ∙ ap₂ (λ (x y : List ℕ). x ++ y) e f ∙ replicate-append-replicate {A = ℕ} m n 0
 

@@ -156,7 +156,7 @@ pub fn put_created(
     put_wcc_data(reply, directory, store, d)
 }
 
-// READ, behind the attributes: the count, whether the end was reached, and n bytes of the file from `offset`.
+// READ, after the attributes: the count, whether the end was reached, and n bytes of the file from `offset`.
 pub fn put_read_bytes(
     reply: &mut [u8],
     at: usize,
@@ -175,7 +175,7 @@ pub fn put_read_bytes(
     put_file_bytes(reply, bytes, store, o, offset, n)
 }
 
-// READDIR, behind the attributes: a verifier of zero, the first n entries above the cookie, the word 0 that ends them, and whether nothing remains.
+// READDIR, after the attributes: a verifier of zero, the first n entries above the cookie, the word 0 that ends them, and whether nothing remains.
 pub fn put_listing(
     reply: &mut [u8],
     at: usize,
@@ -196,7 +196,7 @@ pub fn put_listing(
     put_words(reply, behind, &ws)
 }
 
-// COMMIT, behind the wcc_data, and the end of WRITE: writeverf3.
+// COMMIT, after the wcc_data, and the end of WRITE: writeverf3.
 pub fn put_verifier(reply: &mut [u8], at: usize, verifier: u64) -> usize
     requires { ⌜ at + 8 ≤ length (now reply) ⌝ }
     ensures { λ r. ⌜ Wrote 8 (now (reply .entry)) (now (reply .exit)) at r (words (hyper verifier)) ⌝ }
@@ -205,7 +205,7 @@ pub fn put_verifier(reply: &mut [u8], at: usize, verifier: u64) -> usize
     put_words(reply, at, &ws)
 }
 
-// WRITE, behind the wcc_data: the count, FILE_SYNC and the verifier.
+// WRITE, after the wcc_data: the count, FILE_SYNC and the verifier.
 pub fn put_written(reply: &mut [u8], at: usize, count: u32, verifier: u64) -> usize
     requires { ⌜ at + 16 ≤ length (now reply) ⌝ }
     ensures { λ r. ⌜ Wrote 16 (now (reply .entry)) (now (reply .exit)) at r (words (count ∷ fileSync ∷ hyper verifier)) ⌝ }
@@ -215,7 +215,7 @@ pub fn put_written(reply: &mut [u8], at: usize, count: u32, verifier: u64) -> us
     put_verifier(reply, next, verifier)
 }
 
-// FSSTAT, behind the attributes: bytes and objects, each number as all of them, those free, and those free for the caller; then no time for
+// FSSTAT, after the attributes: bytes and objects, each number as all of them, those free, and those free for the caller; then no time for
 // which they hold.
 pub fn put_room(
     reply: &mut [u8],
@@ -246,7 +246,7 @@ pub fn put_room(
     put_words(reply, at, &ws)
 }
 
-// FSINFO, behind the attributes.
+// FSINFO, after the attributes.
 pub fn put_limits(reply: &mut [u8], at: usize) -> usize
     requires { ⌜ at + 48 ≤ length (now reply) ⌝ }
     ensures { λ r. ⌜ Wrote 48 (now (reply .entry)) (now (reply .exit)) at r (words ((mostTransferBytes ∷ mostTransferBytes ∷ 1 ∷ mostTransferBytes ∷ mostTransferBytes ∷ 1 ∷ mostTransferBytes ∷ hyper mostFileBytes) ++ (0 ∷ 1 ∷ fileSystemProperties ∷ []))) ⌝ }
@@ -268,7 +268,7 @@ pub fn put_limits(reply: &mut [u8], at: usize) -> usize
     put_words(reply, at, &ws)
 }
 
-// PATHCONF, behind the attributes.
+// PATHCONF, after the attributes.
 pub fn put_naming(reply: &mut [u8], at: usize) -> usize
     requires { ⌜ at + 24 ≤ length (now reply) ⌝ }
     ensures { λ r. ⌜ Wrote 24 (now (reply .entry)) (now (reply .exit)) at r (words (mostLinks ∷ mostNameBytes ∷ 1 ∷ 0 ∷ 0 ∷ 1 ∷ [])) ⌝ }

@@ -1,4 +1,4 @@
--- Entries that are written one behind the other are a run of entries. Assumes nothing.
+-- Entries that are written one after the other are a run of entries. Assumes nothing.
 use mathlib.Core.Path.{_≡_, refl, ap, _∙_, subst}
 use mathlib.Core.Bool.{true, false}
 use mathlib.Core.Option.{Option, some, none}
@@ -72,7 +72,7 @@ entries-append xs ys {r} {r₁} {r₂} {p} {q} {t} a b =
       left = omega (arith, a .left, b .left, length-append xs ys);
     }
 
--- ---- the room for a run: its front fits, and what follows its front fits behind it
+-- ---- the room for a run: its front fits, and what follows its front fits after it
 pub front-room : (p : Place) (xs ys : List Entry) (r : List ℕ) → p .at + cost p (xs ++ ys) ≤ length r → p .at + cost p xs ≤ length r
 front-room p xs ys r h =
     let e = ap length (taken-bytes (p .left) xs ys) in
@@ -106,7 +106,7 @@ module _ (s : Store) (cookie d : ℕ) where
   pub above-more : (n : ℕ) → above (namedEntries s d (n + 1)) ≡ above (namedEntries s d n) ++ above (entryIn s d n)
   above-more n = ap above (passing-more (entryOf s) (isIn s d) n) ∙ above-append cookie (namedEntries s d n) (entryIn s d n)
 
-  -- the room for the entry of record n, behind those of the records below it
+  -- the room for the entry of record n, after those of the records below it
   pub name-room : (n m : ℕ) {r r₁ : List ℕ} {p q : Place} → n < m → WroteEntries (above (namedEntries s d n)) r r₁ p q
       → p .at + cost p (above (namedEntries s d m)) ≤ length r → q .at + cost q (above (entryIn s d n)) ≤ length r₁
   name-room n m {r} {r₁} {p} {q} l a h =

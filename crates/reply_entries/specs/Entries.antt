@@ -26,14 +26,14 @@ dots d p = entry (d + 1) (0x2E ∷ []) 1 ∷ entry (p + 1) (0x2E ∷ 0x2E ∷ []
 abbrev pub entryIn : Store → ℕ → ℕ → List Entry
 entryIn s d n = map (entryOf s) (cond (isIn s d n) (n ∷ []) [])
 
--- b holds a name of n bytes from index from, and behind it the zeros that pad it
+-- b holds a name of n bytes from index from, and after it the zeros that pad it
 pub record PaddedName (b : List ℕ) (from n : ℕ) : Type 0 where
   pub bytes : Below 256 b
   pub short : n ≤ mostNameBytes
   pub inside : from + (n + padding n) ≤ length b
   pub padded : part b from (n + padding n) ≡ part b from n ++ zeros (padding n)
 
--- of the entries es as many as may be sent were written at a place; the place behind them has what is left
+-- of the entries es as many as may be sent were written at a place; the place after them has what is left
 pub record WroteEntries (es : List Entry) (before after : List ℕ) (p q : Place) : Type 0 where
   pub wrote : Wrote (length (entriesBytes (take (p .left) es))) before after (p .at) (q .at) (entriesBytes (take (p .left) es))
   pub left : q .left ≡ p .left - length es

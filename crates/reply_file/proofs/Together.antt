@@ -18,7 +18,7 @@ use Rattle.reply_file.proofs.Files.{run-in, byte-few}
 pub together-block : (s : Store) (o i n : ℕ) → GoodRecords s → o < objects s → i < sizeOf s o → i % blockLength + n ≤ blockLength → Together s o i n
 together-block s o i n g l h e = record { inside = run-in s o i g l n h e; bytes = read-in-block s o i n e (run-in s o i g l n h e) }
 
--- two runs, where the second starts in the store behind the first
+-- two runs, where the second starts in the store after the first
 pub together-more : (s : Store) (o i m n : ℕ) → Together s o i m → Together s o (i + m) n → byteAt s o (i + m) ≡ byteAt s o i + m → Together s o i (m + n)
 together-more s o i m n p q e =
     record {

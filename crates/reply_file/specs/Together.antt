@@ -1,4 +1,4 @@
--- Bytes of a file that lie one behind the other in the store.
+-- Bytes of a file that lie one after the other in the store.
 use Prim.Native.Nat.{ℕ, _+_, _≤_}
 use mathlib.Core.Path.{_≡_}
 use lib.ListN.{length}

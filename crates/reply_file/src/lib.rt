@@ -14,8 +14,8 @@ use xdr::read::padding;
 use xdr::write::put_bytes;
 use xdr::write::put_word;
 
-// How many of `left` bytes of a file, from byte i on, lie one behind the other in the store: those in the block of byte i, and those in the
-// blocks behind it as long as each is the next of the store.
+// How many of `left` bytes of a file, from byte i on, lie one after the other in the store: those in the block of byte i, and those in the
+// blocks after it as long as each is the next of the store.
 fn run_length(store: &[u8], o: ObjectNumber, i: usize, left: usize) -> usize
     requires { ⌜ Readable (now store) (o .0) i left ⌝ }
     requires { ⌜ 1 ≤ left ⌝ }

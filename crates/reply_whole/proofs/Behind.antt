@@ -1,4 +1,4 @@
--- Words, and behind them what else a reply holds: one write. Assumes nothing.
+-- Words, and after them what else a reply holds: one write. Assumes nothing.
 use Prim.Native.Nat.{ℕ, _+_}
 use mathlib.Core.List.{List, _++_, append-assoc}
 use mathlib.Core.Path.{_≡_}

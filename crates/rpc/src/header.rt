@@ -82,7 +82,7 @@ pub fn credential(s: &[u8], c: Cursor) -> CredentialRead
     CredentialRead::Got(Credential { flavor, body }, c2)
 }
 
-// The rest of a header, behind the RPC version 2.
+// The rest of a header, after the RPC version 2.
 fn call_header(s: &[u8], c: Cursor, xid: u32) -> HeaderRead
     ensures { λ r. ⌜ headerOf r ≡ callHeader xid (now (s .entry)) (c .at) ⌝ }
 {

@@ -13,7 +13,7 @@ use kinds::numbers::BlockNumber;
 use kinds::numbers::Limit;
 use store_records::counts::block_count;
 
-fn is_free_block(store: &[u8], map: &[u8; 1024], r: BlockNumber) -> bool
+fn is_free_block(store: &[u8], map: &[u8; Limit::MOST_BLOCKS], r: BlockNumber) -> bool
     requires { ⌜ Shaped (now store) ⌝ }
     requires { ⌜ UsedMap (now store) (now map) ⌝ }
     requires { ⌜ r .0 < blocks (now store) ⌝ }
@@ -24,7 +24,7 @@ fn is_free_block(store: &[u8], map: &[u8; 1024], r: BlockNumber) -> bool
 }
 
 // The free blocks: all but those that the map marks, which are few enough for 16 bits.
-pub fn free_block_count(store: &[u8], map: &[u8; 1024]) -> usize
+pub fn free_block_count(store: &[u8], map: &[u8; Limit::MOST_BLOCKS]) -> usize
     requires { ⌜ Shaped (now store) ⌝ }
     requires { ⌜ UsedMap (now store) (now map) ⌝ }
     ensures { λ r. ⌜ r ≡ freeBlockCount (now (store .entry)) ⌝ }
@@ -43,7 +43,7 @@ pub fn free_block_count(store: &[u8], map: &[u8; 1024]) -> usize
 const GROUP: usize = 64;
 
 // Whether the blocks of the group that starts with a block are all used: as many are free below its end as below its start.
-fn all_used(store: &[u8], map: &[u8; 1024], first: BlockNumber) -> bool
+fn all_used(store: &[u8], map: &[u8; Limit::MOST_BLOCKS], first: BlockNumber) -> bool
     requires { ⌜ Shaped (now store) ⌝ }
     requires { ⌜ UsedMap (now store) (now map) ⌝ }
     requires { ⌜ first .0 + group ≤ blocks (now store) ⌝ }
@@ -60,7 +60,7 @@ fn all_used(store: &[u8], map: &[u8; 1024], first: BlockNumber) -> bool
 }
 
 // The lowest-numbered free blocks, as many as are wanted and free, then the number of an unused block.
-pub fn free_blocks(store: &[u8], map: &[u8; 1024], wanted: usize) -> [BlockNumber; 16]
+pub fn free_blocks(store: &[u8], map: &[u8; Limit::MOST_BLOCKS], wanted: usize) -> [BlockNumber; 16]
     requires { ⌜ Shaped (now store) ⌝ }
     requires { ⌜ UsedMap (now store) (now map) ⌝ }
     requires { ⌜ wanted ≤ fileBlocks ⌝ }

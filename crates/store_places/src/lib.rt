@@ -22,7 +22,7 @@ pub fn object_place(o: ObjectNumber) -> usize
     Image::OBJECTS_HEAD + ObjectRecord::BYTES * i
 }
 
-// Where a name record starts, behind p object records.
+// Where a name record starts, after p object records.
 pub fn name_place(p: usize, n: NameNumber) -> usize
     requires { ⌜ namesHead + objectLength * p + nameRecordLength * n .0 < 18446744073709551616 ⌝ }
     ensures { λ r. ⌜ r ≡ namesHead + objectLength * p + nameRecordLength * n .0 ⌝ }
@@ -31,7 +31,7 @@ pub fn name_place(p: usize, n: NameNumber) -> usize
     Image::NAMES_HEAD + ObjectRecord::BYTES * p + NameRecord::BYTES * i
 }
 
-// Where a block starts, behind p object records and q name records.
+// Where a block starts, after p object records and q name records.
 pub fn block_place(p: usize, q: usize, r: BlockNumber) -> usize
     requires { ⌜ blocksHead + objectLength * p + nameRecordLength * q + blockLength * r .0 < 18446744073709551616 ⌝ }
     ensures { λ at. ⌜ at ≡ blocksHead + objectLength * p + nameRecordLength * q + blockLength * r .0 ⌝ }

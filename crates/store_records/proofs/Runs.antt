@@ -1,4 +1,4 @@
--- The writes of a record, one behind the other, are one write of all its bytes. Assumes nothing.
+-- The writes of a record, one after the other, are one write of all its bytes. Assumes nothing.
 use mathlib.Core.Path.{_≡_, refl}
 use mathlib.Core.List.{List, _++_}
 use Prim.Native.Nat.{ℕ, _+_, _-_, _*_, _≤_}

@@ -31,7 +31,7 @@ pub bytes-fit : (n : ℕ) (s : List ℕ) (at : ℕ) (p : Part) (q : ℕ) → byt
 unfolding bytes
 bytes-fit n s at p q e = only-if-got (leb (at + n) (length s)) _ _ _ _ e (λ fits made. leb-true _ _ fits)
 
--- and what follows is behind them
+-- and what follows is after them
 pub bytes-next : (n : ℕ) (s : List ℕ) (at : ℕ) (p : Part) (q : ℕ) → bytes n s at ≡ got p q → q ≡ at + n
 unfolding bytes
 bytes-next n s at p q e = only-if-got (leb (at + n) (length s)) _ _ _ _ e (λ fits made. sym (ap placeOf made))

@@ -25,7 +25,7 @@ wrote-over b s f = record { size = s; fits = f; place = refl; bytes = b }
 pub wrote-length : {n : ℕ} {r r₁ : List ℕ} {at p : ℕ} {x : List ℕ} → Wrote n r r₁ at p x → length r₁ ≡ length r
 wrote-length {n} {r} {r₁} {at} {p} {x} a = ap length (a .bytes) ∙ overlay-length r at x (omega arith)
 
--- a write and then another right behind it are a write
+-- a write and then another right after it are a write
 pub andThen : {n m : ℕ} {r r₁ r₂ : List ℕ} {at p q : ℕ} {x y : List ℕ}
     → Wrote n r r₁ at p x → Wrote m r₁ r₂ p q y → Wrote (n + m) r r₂ at q (x ++ y)
 andThen {n} {m} {r} {r₁} {r₂} {at} {p} {q} {x} {y} a b =

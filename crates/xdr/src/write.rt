@@ -1,4 +1,4 @@
-// Writes XDR at a place of the reply space, and answers the place behind it.
+// Writes XDR at a place of the reply space, and answers the place after it.
 ghost use Prim.Native.Nat.{_+_, _*_, _≤_};
 ghost use mathlib.Core.List.{[], _∷_};
 ghost use lib.ListN.{length};
@@ -14,7 +14,7 @@ pub fn put_word(reply: &mut [u8], at: usize, v: u32) -> usize
     at + 4
 }
 
-// Words, one behind the other.
+// Words, one after the other.
 pub fn put_words(reply: &mut [u8], at: usize, ws: &[u32]) -> usize
     requires { ⌜ at + 4 * length (now ws) ≤ length (now reply) ⌝ }
     ensures { λ r. ⌜ Wrote (4 * length (now (ws .entry))) (now (reply .entry)) (now (reply .exit)) at r (words (now (ws .entry))) ⌝ }
