@@ -1,16 +1,13 @@
--- The bytes of a name in a call: each is good, or the name is "." or "..". Assumes nothing.
+-- The bytes of a name in a call: each is good. Assumes nothing.
 use Prim.Native.Nat.{ℕ, suc, _+_, _-_, _≤_, _<_}
-use mathlib.Core.Path.{_≡_, refl, sym, ap, _∙_}
-use mathlib.Core.Logic.{_≢_}
+use mathlib.Core.Path.{_≡_, refl}
 use mathlib.Core.List.{List, [], _∷_, _++_}
-use mathlib.Core.Bool.{Bool, true, false, _&&_, and-true, and-false}
-use native.Mathlib.Numerals.{add-one}
+use mathlib.Core.Bool.{Bool, true, false, _&&_, and-false}
 use native.Mathlib.Omega.{arith}
-use lib.Dec.{eqb}
 use lib.ListN.{length, getD}
-use Rattle.spec.specs.Bytes.{part, sameBytes, allBytes}
-use Rattle.spec.specs.Names.{goodByte, goodBytes, isDot, isDotDot}
-use Rattle.laws.proofs.Bytes.{part-cons, part-length, part-add, part-snoc, same-no}
+use Rattle.spec.specs.Bytes.{part, allBytes}
+use Rattle.spec.specs.Names.{goodByte, goodBytes}
+use Rattle.laws.proofs.Bytes.{part-cons, part-add, part-snoc}
 
 and-assoc : (a b c : Bool) → a && (b && c) ≡ a && b && c
 and-assoc true b c = refl
@@ -33,27 +30,3 @@ module _ (b : List ℕ) (at : ℕ) where
       let m = n - i - 1 in
       let e : n ≡ i + suc m = omega arith in
       rw (e, part-add b at i (suc m), part-cons b (at + i) m (omega arith), all-append, f) (and-false (allBytes goodByte (part b at i)))
-
-  pub one-byte : (n : ℕ) → n ≡ 1 → at + n ≤ length b → part b at n ≡ getD b at 0 ∷ []
-  unfolding part
-  one-byte n e h = rw e (part-cons b at 0 (omega arith))
-
-  pub two-bytes : (n : ℕ) → n ≡ 2 → at + n ≤ length b → part b at n ≡ getD b at 0 ∷ getD b (at + 1) 0 ∷ []
-  unfolding part
-  two-bytes n e h = rw (e, add-one) (part-cons b at 1 (omega arith) ∙ ap (λ (l : List ℕ). getD b at 0 ∷ l) (part-cons b (suc at) 0 (omega arith)))
-
-  pub dot-long : (n : ℕ) → n ≢ 1 → at + n ≤ length b → isDot (part b at n) ≡ false
-  unfolding isDot
-  dot-long n f h = same-no (part b at n) (0x2E ∷ []) (λ e. f (sym (part-length b at n h) ∙ ap length e))
-
-  pub dot-dot-long : (n : ℕ) → n ≢ 2 → at + n ≤ length b → isDotDot (part b at n) ≡ false
-  unfolding isDotDot
-  dot-dot-long n f h = same-no (part b at n) (0x2E ∷ 0x2E ∷ []) (λ e. f (sym (part-length b at n h) ∙ ap length e))
-
-  pub dot-one : (n : ℕ) → n ≡ 1 → at + n ≤ length b → isDot (part b at n) ≡ eqb (getD b at 0) 0x2E
-  unfolding isDot sameBytes
-  dot-one n e h = rw (one-byte n e h) (and-true (eqb (getD b at 0) 0x2E))
-
-  pub dot-dot-two : (n : ℕ) → n ≡ 2 → at + n ≤ length b → isDotDot (part b at n) ≡ eqb (getD b at 0) 0x2E && eqb (getD b (at + 1) 0) 0x2E
-  unfolding isDotDot sameBytes
-  dot-dot-two n e h = rw (two-bytes n e h, and-true (eqb (getD b (at + 1) 0) 0x2E))

@@ -65,12 +65,7 @@ pub fn is_dot(call: &[u8], name: Part) -> bool
     requires { ⌜ name .start + name .length ≤ length (now call) ⌝ }
     ensures { λ r. ⌜ r ≡ isDot (cut (now (call .entry)) name) ⌝ }
 {
-    let start = name.start;
-    let n = name.length;
-    if n != 1 {
-        return false;
-    }
-    call[start] == b'.'
+    wire::names::is_dot(call, name.start, name.length)
 }
 
 // Whether the name is "..".
@@ -78,15 +73,7 @@ pub fn is_dot_dot(call: &[u8], name: Part) -> bool
     requires { ⌜ name .start + name .length ≤ length (now call) ⌝ }
     ensures { λ r. ⌜ r ≡ isDotDot (cut (now (call .entry)) name) ⌝ }
 {
-    let start = name.start;
-    let n = name.length;
-    if n != 2 {
-        return false;
-    }
-    if call[start] != b'.' {
-        return false;
-    }
-    call[start + 1] == b'.'
+    wire::names::is_dot_dot(call, name.start, name.length)
 }
 
 // Whether the name is "." or "..".
@@ -94,8 +81,5 @@ pub fn is_dots(call: &[u8], name: Part) -> bool
     requires { ⌜ name .start + name .length ≤ length (now call) ⌝ }
     ensures { λ r. ⌜ r ≡ isDots (cut (now (call .entry)) name) ⌝ }
 {
-    if is_dot(call, name) {
-        return true;
-    }
-    is_dot_dot(call, name)
+    wire::names::is_dots(call, name.start, name.length)
 }

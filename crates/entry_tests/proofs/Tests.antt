@@ -47,11 +47,23 @@ module _ (call : List ℕ) (s : Store) (space : List ℕ) (c : Context) where
         module _ (e : passes s ≡ true) where
           pub bad-header : (p : ℕ) → header call 0 ≡ bad p → serve call s space c ≡ refuse 5 space s
           unfolding serve goodTime
-          bad-header p q = rw (le-ltb (length space) leastReplyBytes a, lt-ltb (c .clock .nanoseconds) nanosecondsEnd b, le-ltb mostCallBytes (length call) d, e, q)
+          bad-header p q = rw (
+            le-ltb (length space) leastReplyBytes a,
+            lt-ltb (c .clock .nanoseconds) nanosecondsEnd b,
+            le-ltb mostCallBytes (length call) d,
+            e,
+            q,
+          )
 
           heard : (h : Header) (at : ℕ) → header call 0 ≡ got h at → serve call s space c ≡ send space (respond s c call h at)
           unfolding serve goodTime
-          heard h at q = rw (le-ltb (length space) leastReplyBytes a, lt-ltb (c .clock .nanoseconds) nanosecondsEnd b, le-ltb mostCallBytes (length call) d, e, q)
+          heard h at q = rw (
+            le-ltb (length space) leastReplyBytes a,
+            lt-ltb (c .clock .nanoseconds) nanosecondsEnd b,
+            le-ltb mostCallBytes (length call) d,
+            e,
+            q,
+          )
 
           pub hears : (used : List ℕ) (h : Header) (at : ℕ) (x : ArgumentsRead) → header call 0 ≡ got h at → argumentsOf x ≡ argumentsAfter call (header call 0)
               → UsedMap s used → Below 256 s → GoodClock (c .clock) → Hears call s space c used h at x

@@ -1,14 +1,22 @@
--- The map of ones and then zeros, as far as it is made. Assumes nothing.
-use mathlib.Core.Path.{_≡_, _∙_}
+-- A map of zeros, and the map of ones and then zeros as far as it is made. Assumes nothing.
+use mathlib.Core.Path.{_≡_, refl, _∙_}
 use mathlib.Core.Logic.{_≢_, by-cases}
 use mathlib.Core.List.{List}
-use Prim.Native.Nat.{ℕ, _+_, _*_, _≤_, _<_}
+use Prim.Native.Nat.{ℕ, zero, suc, _+_, _*_, _≤_, _<_}
 use native.Mathlib.Decide.{ℕ-discrete}
 use native.Mathlib.Omega.{arith}
-use lib.ListN.{length, getD, set, length-set}
+use lib.ListN.{length, getD, set, replicate, length-set, length-replicate}
 use lib.Seq.{getD-set-same, getD-set-other}
 use Rattle.kinds.specs.Numbers.{mostNameBytes}
 use Rattle.fsck_objects.specs.Objects.{Blank, Inside}
+
+zero-at : (n i : ℕ) → _≡_ {A = ℕ} (getD (replicate n 0) i 0) 0
+zero-at zero i = refl
+zero-at (suc n) zero = refl
+zero-at (suc n) (suc i) = zero-at n i
+
+pub blank-of : (n : ℕ) → Blank n (replicate n 0)
+blank-of n = record { long = length-replicate n 0; zero = zero-at n }
 
 -- the first n are 1 and the others 0
 pub record Filled (map : List ℕ) (n : ℕ) : Type 0 where

@@ -104,11 +104,12 @@ module _ (s s₅ s₆ s₇ : List ℕ) (stamp p q r z : ℕ) (clock : Time) (m :
   run-counts at bt e u w e₆ e₇ =
       let xs = bytesOf 4 1 ++ bytesOf 4 stamp ++ bytesOf 4 p ++ objectBytes (rootObject clock) in
       let l₅ : length xs ≡ objectStart 1 = simp (length-append, bytes-length, object-length) in
-      let f₆ = step s₅ s₆ xs (bytesOf 4 q) (z + 4 + (nameRecordLength * q + 4 + blockLength * r)) z 4 (nameRecordLength * q + 4 + blockLength * r) at (run-front e)
-      e₆ refl (omega arith) (bytes-length 4 q) in
+      let f₆ = step s₅ s₆ xs (bytesOf 4 q) (z + 4 + (nameRecordLength * q + 4 + blockLength * r)) z 4 (nameRecordLength * q + 4 + blockLength * r) at
+      (run-front e) e₆ refl (omega arith) (bytes-length 4 q) in
       let ys = xs ++ zeros z ++ bytesOf 4 q in
       let l₆ : length ys ≡ objectStart 1 + 4 + z = simp (length-append, bytes-length, object-length, length-replicate) (omega arith) in
-      step s₆ s₇ ys (bytesOf 4 r) (nameRecordLength * q + 4 + blockLength * r) (nameRecordLength * q) 4 (blockLength * r) bt f₆ e₇ refl (omega arith) (bytes-length 4 r)
+      step s₆ s₇ ys (bytesOf 4 r) (nameRecordLength * q + 4 + blockLength * r) (nameRecordLength * q) 4 (blockLength * r) bt f₆ e₇
+      refl (omega arith) (bytes-length 4 r)
 
 pub format-run : (s s₅ s₆ s₇ : List ℕ) (stamp p q r at bt : ℕ) (clock : Time) → 1 ≤ p → length s ≡ imageLength p q r → s₅ ≡ frontOf s stamp p clock
     → at ≡ objectsHead + objectLength * p → bt ≡ namesHead + objectLength * p + nameRecordLength * q → s₆ ≡ overlay s₅ at (bytesOf 4 q)

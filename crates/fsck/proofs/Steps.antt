@@ -7,7 +7,7 @@ use native.Mathlib.Nat.{add-zero, add-suc}
 use native.Mathlib.Decide.{ℕ-discrete}
 use native.Mathlib.Numerals.{add-one}
 use native.Mathlib.Omega.{arith}
-use lib.ListN.{length, getD, set, replicate, length-set, length-replicate}
+use lib.ListN.{length, getD, set, length-set}
 use lib.Seq.{getD-set-same, getD-set-other}
 use Rattle.kinds.specs.Numbers.{mostObjects}
 use Rattle.spec.specs.Count.{iterate}
@@ -179,15 +179,6 @@ module _ (s : Store) (p : ℕ) (parents : List ℕ) (a : Parents s p parents) wh
 
   pub note-not-zero : (depths : List ℕ) (at d : ℕ) → Noted s p depths at d → getD depths at 0 ≡ 0 → d ≡ 0 → ⊥
   note-not-zero depths at d n e = depth-zero s at d (n .depth) (unknown depths (n .known) at e)
-
--- ---- a map that was just made
-zero-at : (n i : ℕ) → _≡_ {A = ℕ} (getD (replicate n 0) i 0) 0
-zero-at zero i = refl
-zero-at (suc n) zero = refl
-zero-at (suc n) (suc i) = zero-at n i
-
-pub blank-of : (n : ℕ) → Blank n (replicate n 0)
-blank-of n = record { long = length-replicate n 0; zero = zero-at n }
 
 -- ---- the map before the first object
 pub known-start : (s : Store) (p : ℕ) (depths : List ℕ) → Blank mostObjects depths → Known s p (set depths 0 1)

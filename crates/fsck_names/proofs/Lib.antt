@@ -1,4 +1,4 @@
-pub mod Dots
+pub mod NameLength
 pub mod Padded
 pub mod Joins
 pub mod Same

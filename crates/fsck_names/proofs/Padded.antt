@@ -23,7 +23,7 @@ use Rattle.fsck_objects.specs.Objects.{Inside}
 use Rattle.laws.proofs.Zeros.{all-none, all-next, zero-add, zero-number}
 use Rattle.fsck_objects.proofs.Marks.{outside}
 use Rattle.fsck_names.specs.Record.{isText}
-use Rattle.fsck_names.proofs.Dots.{name-is}
+use Rattle.fsck_names.proofs.NameLength.{name-is}
 
 -- ---- tests of the numbers below a bound
 every-ext : (p q : ℕ → Bool) (n : ℕ) → ((i : ℕ) → i < n → p i ≡ q i) → every n p ≡ every n q

@@ -6,7 +6,7 @@ ghost use lib.ListN.{length};
 ghost use Rattle.kinds.specs.Numbers.{mostNameBytes};
 ghost use Rattle.spec.specs.Bytes.{part, sameBytes};
 ghost use Rattle.spec.specs.Check.{isZero};
-ghost use Rattle.spec.specs.Names.{goodBytes, isDots, goodName};
+ghost use Rattle.spec.specs.Names.{goodBytes, goodName};
 ghost use Rattle.fsck_objects.specs.Objects.{Inside};
 use kinds::numbers::Limit;
 
@@ -29,20 +29,6 @@ fn text_passes(s: &[u8], inside: &[u8; 64], at: usize, n: usize) -> bool
     !other
 }
 
-// Whether the n bytes from `at` are "." or "..".
-fn is_dots(s: &[u8], at: usize, n: usize) -> bool
-    requires { ⌜ at + n ≤ length (now s) ⌝ }
-    ensures { λ r. ⌜ r ≡ isDots (part (now (s .entry)) at n) ⌝ }
-{
-    if n == 1 {
-        return s[at] == 0x2E;
-    }
-    if n == 2 {
-        return s[at] == 0x2E && s[at + 1] == 0x2E;
-    }
-    false
-}
-
 // Whether the n bytes from `at` are a name, where n is 1 to 32, and the others of 32 are 0.
 pub fn good_text(s: &[u8], inside: &[u8; 64], at: usize, n: usize) -> bool
     requires { ⌜ at + mostNameBytes ≤ length (now s) ⌝ }
@@ -54,7 +40,7 @@ pub fn good_text(s: &[u8], inside: &[u8; 64], at: usize, n: usize) -> bool
     if !text_passes(s, inside, at, n) {
         return false;
     }
-    !is_dots(s, at, n)
+    !wire::names::is_dots(s, at, n)
 }
 
 // Whether the eight bytes from a are those from b.

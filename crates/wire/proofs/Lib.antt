@@ -1,3 +1,4 @@
 -- The laws of the proofs of this crate.
 pub mod Copies
 pub mod LowFirst
+pub mod Dots

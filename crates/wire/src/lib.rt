@@ -7,6 +7,8 @@ ghost use Rattle.spec.specs.Bytes.{beAt, overlay, bytesOf, part, sameBytes};
 ghost use Rattle.spec.specs.Check.{isZero};
 ghost use Rattle.wire.specs.LowFirst.{lowFirst};
 
+pub mod names; // the names "." and ".."
+
 // The smaller of two numbers.
 pub fn smaller(a: usize, b: usize) -> usize
     ensures { λ r. ⌜ r ≡ min a b ⌝ }

@@ -1,7 +1,8 @@
 use mathlib.Core.Path.{sym, ap, _∙_}
 use native.Mathlib.Omega.{arith}
 use borrow.Author.Needs.{needs}
-use Rattle.fsck.proofs.Steps.{blank-of}
+use Rattle.kinds.specs.Numbers.{mostObjects}
+use Rattle.fsck.proofs.Filled.{blank-of}
 use Rattle.fsck.proofs.Verdict.{bad-fails, good-passes}
 use Rattle.rpc.specs.Meaning.{headerOf}
 use Rattle.entry_tests.proofs.Tests.{small-space, bad-clock, long-call, bad-store, bad-header, hears}
@@ -24,7 +25,7 @@ returns-3 c =
     long-call (a .call .now) (a .store .now) (a .reply .now) (a .context) (c .before .before .before .if1 .left) (c .before .if2 .left) (c .if3 .taken)
 
 check-store-requires : tie.Need-check-store-requires
-check-store-requires c κs = (c .before .before .before .before .before .before .before .before .before .before .pre, blank-of 64)
+check-store-requires c κs = (c .before .before .before .before .before .before .before .before .before .before .pre, blank-of mostObjects)
 
 enum-told : tie.Need-enum-told
 enum-told c = search needs

@@ -1,4 +1,4 @@
-use Rattle.fsck.proofs.Steps.{blank-of}
+use Rattle.fsck.proofs.Filled.{blank-of}
 use Rattle.nfs3.proofs.Answered.{serves-refused, serves-sent}
 use borrow.Author.Needs.{needs}
 use Rattle.nfs3.proofs.nfs3_call.Statement.{statement}

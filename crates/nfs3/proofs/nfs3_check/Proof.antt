@@ -1,5 +1,5 @@
 use mathlib.Core.Path.{sym, _∙_}
-use Rattle.fsck.proofs.Steps.{blank-of}
+use Rattle.fsck.proofs.Filled.{blank-of}
 use Rattle.fsck.proofs.Verdict.{bad-fails, good-passes}
 use Rattle.nfs3.proofs.Answered.{answer-bad, answer-good}
 use borrow.Author.Needs.{needs}

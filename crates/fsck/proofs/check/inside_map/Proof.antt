@@ -1,8 +1,7 @@
 use native.Mathlib.Omega.{arith}
-use Prim.Native.Nat.{_-_, _≤_, zero-le}
+use Prim.Native.Nat.{_*_, _-_, _≤_, zero-le}
 use Rattle.kinds.specs.Numbers.{mostNameBytes}
-use Rattle.fsck.proofs.Steps.{blank-of}
-use Rattle.fsck.proofs.Filled.{Filled, filled-none, filled-more, filled-all}
+use Rattle.fsck.proofs.Filled.{blank-of, Filled, filled-none, filled-more, filled-all}
 use borrow.Author.Needs.{needs}
 use Rattle.fsck.proofs.check.inside_map.Statement.{statement}
 use Rattle.fsck.proofs.check.inside_map.Tie as tie
@@ -14,7 +13,7 @@ abbrev μ-loop : tie.MeasureT-loop
 μ-loop inside₀ i₀ inside i = mostNameBytes - i
 
 loop-holds : tie.Need-loop-holds Inv-loop μ-loop
-loop-holds c = (zero-le, filled-none _ (blank-of 64))
+loop-holds c = (zero-le, filled-none _ (blank-of (2 * mostNameBytes)))
 
 array-write-inside : tie.Need-array-write-inside Inv-loop μ-loop
 array-write-inside c = omega (arith, c .before .loop .inv .1 .long)

@@ -4,7 +4,7 @@ use Prim.Native.Nat.{_+_}
 use Rattle.kinds.specs.Layout.{textOffset}
 use borrow.Author.Tests.{not-true, not-false}
 use Rattle.fsck_names.proofs.Joins.{used-is}
-use Rattle.fsck_names.proofs.Dots.{name-long, part-long}
+use Rattle.fsck_names.proofs.NameLength.{name-long, part-long}
 use borrow.Author.Needs.{needs}
 use Rattle.fsck_names.proofs.record.good_used.Statement.{statement}
 use Rattle.fsck_names.proofs.record.good_used.Tie as tie

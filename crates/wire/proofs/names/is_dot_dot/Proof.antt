@@ -1,12 +1,12 @@
 use mathlib.Core.Path.{sym}
 use borrow.Author.Tests.{eq-eqb, ne-eqb}
 use borrow.Author.Needs.{needs}
-use Rattle.check_handles.proofs.NameBytes.{dot-dot-long, dot-dot-two}
-use Rattle.check_handles.proofs.text.is_dot_dot.Statement.{statement}
-use Rattle.check_handles.proofs.text.is_dot_dot.Tie as tie
+use Rattle.wire.proofs.Dots.{dot-dot-long, dot-dot-two}
+use Rattle.wire.proofs.names.is_dot_dot.Statement.{statement}
+use Rattle.wire.proofs.names.is_dot_dot.Tie as tie
 
 returns : tie.Need-returns
-returns c = let st = c .before in sym (dot-dot-long (st .args .call .now) (st .args .name .start) (st .args .name .length) (c .if1 .taken) (st .pre))
+returns c = let st = c .before in sym (dot-dot-long (st .args .s .now) (st .args .at) (st .args .n) (c .if1 .taken) (st .pre))
 
 shared-slice-read-if2 : tie.Need-shared-slice-read-if2
 shared-slice-read-if2 c = search needs
@@ -15,7 +15,7 @@ returns-2 : tie.Need-returns-2
 returns-2 c =
     let st = c .before .before .before in
     rw (
-      dot-dot-two (st .args .call .now) (st .args .name .start) (st .args .name .length) (c .before .before .if1 .left) (st .pre),
+      dot-dot-two (st .args .s .now) (st .args .at) (st .args .n) (c .before .before .if1 .left) (st .pre),
       ne-eqb _ _ (c .if2 .taken),
     )
 
@@ -29,7 +29,7 @@ returns-3 : tie.Need-returns-3
 returns-3 c =
     let st = c .before .before .before .before in
     rw (
-      dot-dot-two (st .args .call .now) (st .args .name .start) (st .args .name .length) (c .before .before .before .if1 .left) (st .pre),
+      dot-dot-two (st .args .s .now) (st .args .at) (st .args .n) (c .before .before .before .if1 .left) (st .pre),
       eq-eqb _ _ (c .before .if2 .left),
     )
 

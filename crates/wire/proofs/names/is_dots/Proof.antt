@@ -1,6 +1,6 @@
 use borrow.Author.Needs.{needs}
-use Rattle.check_handles.proofs.text.is_dots.Statement.{statement}
-use Rattle.check_handles.proofs.text.is_dots.Tie as tie
+use Rattle.wire.proofs.names.is_dots.Statement.{statement}
+use Rattle.wire.proofs.names.is_dots.Tie as tie
 
 is-dot-requires : tie.Need-is-dot-requires
 is-dot-requires c κs = search needs
