@@ -31,25 +31,29 @@ returns : tie.Need-returns
 returns c =
     let st = c .before .before .before .before .before .before in
     let a = st .args in
-    told-false (mark-out (a .store .now) (a .o .0) (a .count) (a .k) (st .pre .0) (st .pre .1 .0) (omega arith) (omega (arith, c .before .before .before .before .block-of .ensures)))
+    told-false (mark-out (a .store .now) (a .o .0) (a .count) (a .k) (st .pre .0) (st .pre .1 .0) (omega arith)
+    (omega (arith, c .before .before .before .before .block-of .ensures)))
 
 returns-2 : tie.Need-returns-2
 returns-2 c =
     let st = c .before .before .before .before .before .before .before in
     let a = st .args in
-    told-false (mark-out (a .store .now) (a .o .0) (a .count) (a .k + 1) (st .pre .0) (st .pre .1 .0) (omega arith) (omega (arith, c .before .before .before .before .block-of2 .ensures)))
+    told-false (mark-out (a .store .now) (a .o .0) (a .count) (a .k + 1) (st .pre .0) (st .pre .1 .0) (omega arith)
+    (omega (arith, c .before .before .before .before .block-of2 .ensures)))
 
 returns-3 : tie.Need-returns-3
 returns-3 c =
     let st = c .before .before .before .before .before .before .before .before in
     let a = st .args in
-    told-false (mark-out (a .store .now) (a .o .0) (a .count) (a .k + 2) (st .pre .0) (st .pre .1 .0) (omega arith) (omega (arith, c .before .before .before .before .block-of3 .ensures)))
+    told-false (mark-out (a .store .now) (a .o .0) (a .count) (a .k + 2) (st .pre .0) (st .pre .1 .0) (omega arith)
+    (omega (arith, c .before .before .before .before .block-of3 .ensures)))
 
 returns-4 : tie.Need-returns-4
 returns-4 c =
     let st = c .before .before .before .before .before .before .before .before .before in
     let a = st .args in
-    told-false (mark-out (a .store .now) (a .o .0) (a .count) (a .k + 3) (st .pre .0) (st .pre .1 .0) (omega arith) (omega (arith, c .before .before .before .before .block-of4 .ensures)))
+    told-false (mark-out (a .store .now) (a .o .0) (a .count) (a .k + 3) (st .pre .0) (st .pre .1 .0) (omega arith)
+    (omega (arith, c .before .before .before .before .block-of4 .ensures)))
 
 element-write-used : tie.Need-element-write-used
 element-write-used c = search needs
@@ -68,7 +72,8 @@ returns-5 c =
     let st = c .before .before .before .before .before .before .before .before .before in
     let a = st .args in
     told-true (mark-four (a .store .now) (a .o .0) (a .count) (a .k) (st .pre .0) (st .pre .1 .0) (st .pre .1 .1 .1 .0) (a .used .now) (st .pre .1 .1 .1 .1)
-    _ _ _ _ (c .before .before .before .before .before .before .before .block-of .ensures) (omega arith) (c .before .before .before .before .before .before .block-of2 .ensures) (omega arith)
+    _ _ _ _ (c .before .before .before .before .before .before .before .block-of .ensures) (omega arith)
+    (c .before .before .before .before .before .before .block-of2 .ensures) (omega arith)
     (c .before .before .before .before .before .block-of3 .ensures) (omega arith) (c .before .before .before .before .block-of4 .ensures) (omega arith))
 
 pub mark-four-spec : {M : Type 1} → statement M
