@@ -180,14 +180,17 @@ same-tests false false f g = refl
 module _ (s : Store) (o count : ℕ) (fits : objectStart o + objectLength ≤ length s) (bytes : (i : ℕ) → getD s i 0 < 256) (most : count ≤ fileBlocks)
     (needs : count ≡ need (objectAt s o .size)) where
   -- block number k is its two bytes
-  number : (k : ℕ) → k < fileBlocks → getD (objectAt s o .blocks) k 0 ≡ getD s (objectStart o + blocksOffset + 2 * k) 0 * 256 + getD s (objectStart o + blocksOffset + 2 * k + 1) 0
+  number : (k : ℕ) → k < fileBlocks
+      → getD (objectAt s o .blocks) k 0 ≡ getD s (objectStart o + blocksOffset + 2 * k) 0 * 256 + getD s (objectStart o + blocksOffset + 2 * k + 1) 0
   unfolding objectAt objectFrom
   number k h = half-read s (objectStart o + blocksOffset) fileBlocks k h ∙ sym (be-2 s (objectStart o + blocksOffset + 2 * k) (omega arith))
 
-  past : (i : ℕ) → every 32 (isUnused s (objectStart o + blocksOffset) (2 * count)) ≡ true → i < 32 → 2 * count ≤ i → getD s (objectStart o + blocksOffset + i) 0 ≡ 255
+  past : (i : ℕ) → every 32 (isUnused s (objectStart o + blocksOffset) (2 * count)) ≡ true → i < 32 → 2 * count ≤ i
+      → getD s (objectStart o + blocksOffset + i) 0 ≡ 255
   past i e h l =
       let q = every-at (isUnused s (objectStart o + blocksOffset) (2 * count)) 32 i e h in
-      eqb-true (getD s (objectStart o + blocksOffset + i) 0) 255 (sym (or-false (eqb (getD s (objectStart o + blocksOffset + i) 0) 255)) ∙ (rw (le-ltb i (2 * count) l) at q))
+      let x = getD s (objectStart o + blocksOffset + i) 0 in
+      eqb-true x 255 (sym (or-false (eqb x 255)) ∙ (rw (le-ltb i (2 * count) l) at q))
 
   pub rest-is : every count (goodBlock (blocks s) (objectAt s o)) ≡ true
       → every 32 (isUnused s (objectStart o + blocksOffset) (2 * count)) ≡ every fileBlocks (goodBlock (blocks s) (objectAt s o))
@@ -206,9 +209,9 @@ module _ (s : Store) (o count : ℕ) (fits : objectStart o + objectLength ≤ le
       (λ (l : 2 * count ≤ i). rw (eq-eqb (getD s (objectStart o + blocksOffset + i) 0) 255 (byte e i h l)))
       (lt-or-le i (2 * count))))
     where
-      byte : every fileBlocks (goodBlock (blocks s) (objectAt s o)) ≡ true → (i : ℕ) → i < 32 → 2 * count ≤ i → getD s (objectStart o + blocksOffset + i) 0 ≡ 255
+      byte : every fileBlocks (goodBlock (blocks s) (objectAt s o)) ≡ true → (i : ℕ) → i < 32 → 2 * count ≤ i
+          → getD s (objectStart o + blocksOffset + i) 0 ≡ 255
       byte e i h l =
-          let k = i / 2 in
           let q = unused-is s o (i / 2) (omega arith) (every-at (goodBlock (blocks s) (objectAt s o)) fileBlocks (i / 2) e (omega arith)) in
           let n = number (i / 2) (omega arith) in
           let x = bytes (objectStart o + blocksOffset + 2 * (i / 2)) in

@@ -1,20 +1,21 @@
 -- A whole object record: free or live, it passes, or the store fails. Assumes nothing.
 use mathlib.Core.Path.{_≡_, sym, ap, _∙_}
+use mathlib.Core.Logic.{⊎-elim}
 use mathlib.Core.Bool.{Bool, true, false, _&&_}
 use Prim.Native.Nat.{ℕ, _+_, _≤_, _<_}
 use native.Mathlib.Omega.{arith}
-use lib.Dec.{eqb, leb, ltb}
+use lib.Dec.{leb, ltb}
 use lib.ListN.{length}
 use mathlib.Core.List.{List}
-use borrow.Author.Tests.{leb-true, eqb-true}
 use Rattle.kinds.specs.Layout.{objectLength}
-use Rattle.kinds.specs.Numbers.{REGULAR, DIRECTORY, fileBlocks, mostFileBytes, spentGeneration, mostMode}
+use Rattle.kinds.specs.Numbers.{fileBlocks, mostFileBytes, spentGeneration, mostMode}
 use Rattle.kinds.specs.declared.object.Object.{Object}
 use Rattle.spec.specs.Count.{every}
 use Rattle.spec.specs.Image.{Store, objects, blocks, objectStart, objectAt}
 use Rattle.spec.specs.Room.{need, isLive}
 use Rattle.spec.specs.Check.{goodTime, goodSize, goodBlock, goodFree, goodLive, goodObject, passes}
-use Rattle.laws.proofs.Count.{by-bool, and-both}
+use Rattle.laws.proofs.Count.{and-both}
+use Rattle.laws.proofs.Valid.{size-good, need-few}
 use Rattle.fsck_objects.specs.Told.{Told}
 use Rattle.fsck_objects.specs.Objects.{goodFields, LiveAt, MarkedBy, MarkedTo, ObjectPasses, Counted}
 use Rattle.fsck_objects.specs.declared.object.Uses.the-variants.{Bad, Blocks}
@@ -22,21 +23,15 @@ use Rattle.fsck_objects.proofs.Passes.{fails-object, told-true, told-fa
 use Rattle.fsck_objects.proofs.Marks.{free-held, mark-free, mark-end, held-end}
 
 -- a good size is at most that of the longest file
-fields-size-of : (v : Object) → goodSize v ≡ true → v .size ≤ mostFileBytes
-unfolding goodSize
-fields-size-of v e =
-    by-bool (eqb (v .kind) REGULAR && leb (v .size) mostFileBytes)
-    (λ t. leb-true (v .size) mostFileBytes (and-both (eqb (v .kind) REGULAR) (leb (v .size) mostFileBytes) t .1))
-    (λ t. let l = eqb-true (v .size) 0 (and-both (eqb (v .kind) DIRECTORY) (eqb (v .size) 0) (rw t at e) .1) in omega arith)
-
 pub fields-size : (v : Object) → goodFields v ≡ true → v .size ≤ mostFileBytes
 unfolding goodFields
 fields-size v e =
-    fields-size-of v (and-both (ltb (v .generation) spentGeneration && leb (v .mode) mostMode && goodTime (v .atime) && goodTime (v .mtime) && goodTime
-    (v .ctime)) (goodSize v) e .1)
+    ⊎-elim (λ a. a .1) (λ a. omega (arith, a .1))
+    (size-good v (and-both (ltb (v .generation) spentGeneration && leb (v .mode) mostMode && goodTime (v .atime) && goodTime (v .mtime) && goodTime
+    (v .ctime)) (goodSize v) e .1))
 
 pub fields-need : (v : Object) → goodFields v ≡ true → need (v .size) ≤ fileBlocks
-fields-need v e = let l = fields-size v e in omega arith
+fields-need v e = need-few (v .size) (fields-size v e)
 
 live-is : (s : Store) (o : ℕ) → isLive s o ≡ true → goodObject s o ≡ goodFields (objectAt s o) && every fileBlocks (goodBlock (blocks s) (objectAt s o))
 unfolding goodObject goodLive goodFields

@@ -96,10 +96,10 @@ fn mark_four(
     requires { ⌜ MarkedTo (now store) (o .0) k (now used) ⌝ }
     ensures { λ r. ⌜ Told r (now (store .entry)) (MarkedTo (now (store .entry)) (o .0) (k + 4) (now (used .exit))) ⌝ }
 {
-    let a = block_of(store, o, k).0;
-    let b = block_of(store, o, k + 1).0;
-    let c = block_of(store, o, k + 2).0;
-    let d = block_of(store, o, k + 3).0;
+    let a = block_of(store, o, k).0 as usize;
+    let b = block_of(store, o, k + 1).0 as usize;
+    let c = block_of(store, o, k + 2).0 as usize;
+    let d = block_of(store, o, k + 3).0 as usize;
     if a >= limit {
         return false;
     }
@@ -159,7 +159,7 @@ fn mark_last(
 {
     let mut k = 4 * (count / 4);
     while k < count {
-        let b = block_of(store, o, k).0;
+        let b = block_of(store, o, k).0 as usize;
         if b >= limit {
             return false;
         }

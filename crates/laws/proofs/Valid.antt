@@ -234,7 +234,7 @@ live-size r v h = ⊎-elim (λ a. a .1) (λ a. omega (arith, a .1)) (h .size)
 pub need-few : (size : ℕ) → size ≤ mostFileBytes → need size ≤ fileBlocks
 need-few size h = omega arith
 
-size-good : (v : Object) → goodSize v ≡ true → GoodSize v
+pub size-good : (v : Object) → goodSize v ≡ true → GoodSize v
 unfolding goodSize
 size-good v e =
     ⊎-elim

@@ -1,4 +1,4 @@
-// Big-endian numbers in byte slices; the smaller and the larger of two numbers.
+// Big-endian numbers in byte slices; bytes copied, cleared, compared and tested for zero; the smaller and the larger of two numbers.
 ghost use mathlib.Core.Path.{_≡_};
 ghost use Prim.Native.Nat.{_+_, _≤_, _<_, min, max};
 ghost use mathlib.Core.List.{reverse};

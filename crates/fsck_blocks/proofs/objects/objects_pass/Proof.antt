@@ -16,8 +16,8 @@ use Rattle.fsck_blocks.proofs.objects.objects_pass.Statement.{statement
 use Rattle.fsck_blocks.proofs.objects.objects_pass.Tie as tie
 
 abbrev Inv-loop : tie.InvT-loop
-Inv-loop store inside count limit used₀ total₀ o₀ used total o = (o ≤ count) × (total ≡ sum o (λ i. length (held store i))) × (total ≤ fileBlocks * o) × MarkedBy store o
-    used × (every o (goodObject store) ≡ true)
+Inv-loop store inside count limit used₀ total₀ o₀ used total o =
+    (o ≤ count) × (total ≡ sum o (λ i. length (held store i))) × (total ≤ fileBlocks * o) × MarkedBy store o used × (every o (goodObject store) ≡ true)
 
 abbrev μ-loop : tie.MeasureT-loop
 μ-loop store inside count limit used₀ total₀ o₀ used total o = count - o

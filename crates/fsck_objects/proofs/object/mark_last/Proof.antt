@@ -23,13 +23,16 @@ loop-holds c = (omega arith, c .before .pre .1 .1 .1)
 block-of-requires : tie.Need-block-of-requires Inv-loop μ-loop
 block-of-requires c κs = search needs
 
+cast-b : tie.Need-cast-b Inv-loop μ-loop
+cast-b c = search needs
+
 returns : tie.Need-returns Inv-loop μ-loop
 returns c =
-    let l = c .before .before .before in
-    let st = c .before .before .before .before .before in
+    let l = c .before .before .before .before in
+    let st = c .before .before .before .before .before .before in
     let a = st .args in
     told-false (mark-out (a .store .now) (a .o .0) (a .count) (l .loop .k) (st .pre .0) (st .pre .1 .0) (omega arith)
-    (omega (arith, c .before .block-of .ensures)))
+    (omega (arith, c .before .before .block-of .ensures)))
 
 element-write-used : tie.Need-element-write-used Inv-loop μ-loop
 element-write-used c = search needs
@@ -42,12 +45,12 @@ loop-less c = search needs
 
 loop-again : tie.Need-loop-again Inv-loop μ-loop
 loop-again c =
-    let l = c .before .before .before in
-    let st = c .before .before .before .before .before in
+    let l = c .before .before .before .before in
+    let st = c .before .before .before .before .before .before in
     let a = st .args in (
       omega arith,
       mark-more (a .store .now) (a .o .0) (a .count) (l .loop .k) (st .pre .0) (st .pre .1 .0) (omega arith) (l .loop .used)
-          (l .loop .inv .1) (c .before .block-of .result .0) (c .before .block-of .ensures) (omega arith),
+          (l .loop .inv .1) (c .before .before .block-of .result .0) (c .before .before .block-of .ensures) (omega arith),
     )
 
 returns-2 : tie.Need-returns-2 Inv-loop μ-loop
@@ -64,6 +67,7 @@ mark-last-spec =
     mul-k
     loop-holds
     block-of-requires
+    cast-b
     returns
     element-write-used
     add-k

@@ -18,7 +18,8 @@ unfolding sizeOf
 small c = rw (c .size-of .ensures) (fields-size _ (sym (c .before .before .good-fields .ensures) ∙ not-false _ (c .before .if3 .left)))
 
 -- what is known of it
-live-at : (c : tie.After-need) → LiveAt (c .before .before .before .before .before .before .before .args .store .now) (c .before .before .before .before .before .before .before .args .o .0) (c .need .result)
+live-at : (c : tie.After-need) → LiveAt (c .before .before .before .before .before .before .before .args .store .now)
+    (c .before .before .before .before .before .before .before .args .o .0) (c .need .result)
 unfolding sizeOf
 live-at c =
     let st = c .before .before .before .before .before .before .before in

@@ -20,8 +20,8 @@ returns : tie.Need-returns
 returns c =
     let st = c .before .before .before in
     let a = st .args in
-    rw (c .before .object-start .ensures) at (c .past-unused .ensures) ∙ rest-is (a .store .now) (a .o .0) (a .count) (st .pre .0) (λ i. c .before .before .shared-slice-known .given i .fits)
-    (st .pre .1 .1 .0) (st .pre .1 .1 .1 .0) (st .pre .1 .1 .1 .1)
+    rw (c .before .object-start .ensures) at (c .past-unused .ensures) ∙ rest-is (a .store .now) (a .o .0) (a .count) (st .pre .0)
+    (λ i. c .before .before .shared-slice-known .given i .fits) (st .pre .1 .1 .0) (st .pre .1 .1 .1 .0) (st .pre .1 .1 .1 .1)
 
 pub rest-unused-spec : {M : Type 1} → statement M
 rest-unused-spec =
