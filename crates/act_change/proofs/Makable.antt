@@ -15,7 +15,7 @@ use Rattle.kinds.specs.declared.call.How.{How}
 use Rattle.kinds.specs.declared.call.How.the-variants as How
 use Rattle.spec.specs.Image.{Store}
 use Rattle.spec.specs.Procedures.Attributes.{isGiven, sizeSet}
-use Rattle.spec.specs.Procedures.Names.{new, existing, settableOf}
+use Rattle.spec.specs.Procedures.Names.{new, existing, settableIn}
 use Rattle.laws.proofs.ArgumentRange.{FitsHow}
 use Rattle.laws.proofs.Count.{true-false}
 use Rattle.laws.proofs.GoodRecords.{GoodRecords, GoodClock, used-at}
@@ -30,7 +30,7 @@ not-given : (x : SetSize) → isGiven x ≡ false → sizeSet x 0 ≡ 0
 not-given SetSize.Keep e = refl
 not-given (SetSize.To n) e = true-false e
 
-how-settable : (manner : How) → FitsHow manner → FitsSettable (settableOf manner)
+how-settable : (manner : How) → FitsHow manner → FitsSettable (settableIn manner)
 how-settable (How.Unchecked a) f = f
 how-settable (How.Guarded a) f = f
 how-settable (How.Exclusive verifier) f = only-ctime-fits
@@ -52,7 +52,7 @@ mkdir-makable s c h text a d o n k f p =
     }
 
 module _ (s : Store) (h text : List ℕ) (manner : How) (a : Settable) (d : ℕ) (t : Target) (p : CreatePassed s h text manner d (madeOf t))
-    (e : a ≡ settableOf manner) where
+    (e : a ≡ settableIn manner) where
   pub create-makable : (c : Context) (o : ObjectNumber) (n : NameNumber) → t ≡ Target.New o n → GoodClock (c .clock) → FitsHow manner
       → Makable s c REGULAR (o .0) (n .0) d text a
   create-makable c o n is k f =

@@ -4,7 +4,7 @@ ghost use Prim.Native.Nat.{_+_, _≤_, _<_};
 ghost use lib.ListN.{length};
 ghost use Rattle.spec.specs.Image.{objects};
 ghost use Rattle.spec.specs.Procedures.{cut};
-ghost use Rattle.spec.specs.Procedures.Names.{newObject, newEdit, createdIn, existingEdit, settableOf, create, mkdir};
+ghost use Rattle.spec.specs.Procedures.Names.{newObject, newEdit, createdIn, existingEdit, settableIn, create, mkdir};
 ghost use Rattle.laws.proofs.ArgumentRange.{FitsHow};
 ghost use Rattle.laws.proofs.GoodRecords.{GoodRecords, GoodClock};
 ghost use Rattle.laws.proofs.SetAttributes.{FitsSettable};
@@ -197,7 +197,7 @@ fn obey_size(
 
 // The attributes that CREATE sets.
 fn settable_of(manner: How) -> Settable
-    ensures { λ r. ⌜ r ≡ settableOf manner ⌝ }
+    ensures { λ r. ⌜ r ≡ settableIn manner ⌝ }
 {
     match manner {
         How::Unchecked(a) => a,

@@ -15,7 +15,7 @@ use Rattle.laws.proofs.Count.{and-both, true-false, by-bool}
 use Rattle.history.specs.Book.{Standing, asRoot, under, Line, Book, handleBytes, stands, isAt, someAt, strikeLines, moveLine, moveLines}
 use Rattle.history.proofs.Sum.{or-right, ind, ind-same, ind-yes, ind-no, ind-true}
 use Rattle.history.proofs.Lists.{same-true, All, without, without-same, without-other, all-times, times-without, times-without-other}
-use Rattle.history.proofs.View.{View, Live, Used, At, entries, SameName, no-entry}
+use Rattle.history.proofs.View.{View, LiveIn, UsedIn, At, entriesAt, SameRecord, no-entry}
 use Rattle.history.proofs.Tree.{Tree, one-name, one-entry}
 use Rattle.history.proofs.Change.{Created, Removed, Moved}
 use Rattle.history.proofs.Handles.{same-object}
@@ -31,7 +31,7 @@ lineOf σ v q = record { handle = handleIn σ v (v .child q); kind = v .kind (v 
 abbrev pub rootLine : ℕ → View → Line
 rootLine σ v = record { handle = handleIn σ v 0; kind = v .kind 0; standing = asRoot }
 
-pub used? : (v : View) (q : ℕ) → Dec (Used v q)
+pub used? : (v : View) (q : ℕ) → Dec (UsedIn v q)
 used? v q = decLt 0 (length (v .text q))
 
 pub record Agrees (σ : ℕ) (v : View) (b : Book) : Type 0 where
@@ -65,10 +65,10 @@ all-map : {A : Type 0} {P R : A → Type 0} → ((x : A) → P x → R x) → (x
 all-map f [] h = tt
 all-map f (x ∷ xs) h = (f x (h .0), all-map f xs (h .1))
 
-pub all-used : (v : View) (ks : List ℕ) → ((q : ℕ) → times q ks ≡ ind (used? v q)) → All (Used v) ks
+pub all-used : (v : View) (ks : List ℕ) → ((q : ℕ) → times q ks ≡ ind (used? v q)) → All (UsedIn v) ks
 all-used v ks h = all-times ks (λ q l. ind-true (used? v q) (omega (arith, h q)))
 
-same-line : (σ : ℕ) (v w : View) (p : ℕ) → SameName v w p → (w .kind (v .child p) ≡ v .kind (v .child p)) × (w .gen (v .child p) ≡ v .gen (v .child p))
+same-line : (σ : ℕ) (v w : View) (p : ℕ) → SameRecord v w p → (w .kind (v .child p) ≡ v .kind (v .child p)) × (w .gen (v .child p) ≡ v .gen (v .child p))
     → w .gen (v .dir p) ≡ v .gen (v .dir p) → lineOf σ v p ≡ lineOf σ w p
 same-line σ v w p s c d = cc
 
@@ -76,7 +76,7 @@ same-root : (σ : ℕ) (v w : View) → (w .kind 0 ≡ v .kind 0) × (w .gen 0 �
 same-root σ v w c = cc
 
 -- the order of a view that says the same of every record
-pub agrees-same : (σ : ℕ) (v w : View) (b : Book) → ((i : ℕ) → (w .kind i ≡ v .kind i) × (w .gen i ≡ v .gen i)) → ((p : ℕ) → SameName v w p)
+pub agrees-same : (σ : ℕ) (v w : View) (b : Book) → ((i : ℕ) → (w .kind i ≡ v .kind i) × (w .gen i ≡ v .gen i)) → ((p : ℕ) → SameRecord v w p)
     → Agrees σ v b → Agrees σ w b
 agrees-same σ v w b o n A =
     record {
@@ -84,7 +84,7 @@ agrees-same σ v w b o n A =
       each = λ q. A .each q ∙ ind-same (used? v q) (used? w q) (λ u. omega (arith, ap length (n q .text))) (λ u. omega (arith, ap length (n q .text)));
       lines =
           let m = map-all (lineOf σ v) (lineOf σ w) (A .order)
-          (all-map (λ p (u : Used v p). same-line σ v w p (n p) (o (v .child p)) (o (v .dir p) .1)) (A .order) (all-used v (A .order) (A .each))) in
+          (all-map (λ p (u : UsedIn v p). same-line σ v w p (n p) (o (v .child p)) (o (v .dir p) .1)) (A .order) (all-used v (A .order) (A .each))) in
           let r = same-root σ v w (o 0) in
           let e = A .lines in
           cc;
@@ -92,10 +92,10 @@ agrees-same σ v w b o n A =
 
 -- an object is created: its line is added
 module _ (P Q σ : ℕ) (v w : View) (o q k d : ℕ) (t : List ℕ) (T : Tree P Q v) (B : Created P Q v w o q k d t) (b : Book) (A : Agrees σ v b) where
-  kept : (i : ℕ) → Live v i → (w .kind i ≡ v .kind i) × (w .gen i ≡ v .gen i)
+  kept : (i : ℕ) → LiveIn v i → (w .kind i ≡ v .kind i) × (w .gen i ≡ v .gen i)
   kept i l = B .obj .other i (λ e. omega (arith, B .was-free, ap (v .kind) e))
 
-  added-line : (p : ℕ) → Used v p → lineOf σ v p ≡ lineOf σ w p
+  added-line : (p : ℕ) → UsedIn v p → lineOf σ v p ≡ lineOf σ w p
   added-line p u = same-line σ v w p
       (B .nam .other p (λ e. omega (arith, B .was-blank, ap (λ (x : ℕ). length (v .text x)) e)))
       (kept (v .child p) (T .flat .ends p u)) (kept (v .dir p) (omega (arith, T .flat .dirs p u)) .1)
@@ -132,11 +132,11 @@ module _ (P Q σ : ℕ) (v w : View) (o q k d : ℕ) (t : List ℕ) (T : Tree P 
   }
 
 -- the only line with a used record's directory and name is its own
-module _ (P Q σ : ℕ) (v : View) (T : Tree P Q v) (q : ℕ) (u : Used v q) where
+module _ (P Q σ : ℕ) (v : View) (T : Tree P Q v) (q : ℕ) (u : UsedIn v q) where
   within : (i : ℕ) → v .kind i ≡ 2 → i < 4294967296
   within i k = omega (arith, T .flat .past i (omega arith), T .flat .few)
 
-  pub own : (p : ℕ) → Used v p → lineOf σ v p .standing ≡ under (handleIn σ v (v .dir q)) (v .text q) → p ≡ q
+  pub own : (p : ℕ) → UsedIn v p → lineOf σ v p .standing ≡ under (handleIn σ v (v .dir q)) (v .text q) → p ≡ q
   own p x h =
       let g : handleIn σ v (v .dir p) ≡ handleIn σ v (v .dir q) = cc in
       let e = same-object σ (v .dir p) (v .gen (v .dir p)) (v .dir q) (v .gen (v .dir q)) (within (v .dir p) (T .flat .dirs p x))
@@ -151,7 +151,7 @@ module _ (P Q σ : ℕ) (v w : View) (o q d c : ℕ) (T : Tree P Q v) (G : Remov
   D : List ℕ
   D = handleIn σ v (v .dir q)
 
-  removed-line : (p : ℕ) → Used v p → p ≢ q → lineOf σ v p ≡ lineOf σ w p
+  removed-line : (p : ℕ) → UsedIn v p → p ≢ q → lineOf σ v p ≡ lineOf σ w p
   removed-line p u n =
       same-line σ v w p (G .nam .other p n)
       (G .obj .other (v .child p) (λ e. n (one-name P Q v (T .flat) o p q (G .last) (u, e) (G .named))))
@@ -169,7 +169,7 @@ module _ (P Q σ : ℕ) (v w : View) (o q d c : ℕ) (T : Tree P Q v) (G : Remov
   unfolding strikeLines
   struck-nil = refl
 
-  removed-lines : (ks : List ℕ) → All (Used v) ks
+  removed-lines : (ks : List ℕ) → All (UsedIn v) ks
       → strikeLines D (v .text q) (map (lineOf σ v) ks ++ (rootLine σ v ∷ [])) ≡ map (lineOf σ w) (without q ks) ++ (rootLine σ w ∷ [])
   unfolding D without
   removed-lines [] h =
@@ -210,7 +210,7 @@ module _ (P Q σ : ℕ) (v w : View) (q e : ℕ) (t : List ℕ) (T : Tree P Q v)
   move-no l x =
       ap (λ (y : Bool). cond y (record { handle = l .handle; kind = l .kind; standing = under (handleIn σ v e) t }) l) (at-no E (v .text q) l x)
 
-  moved-line : (p : ℕ) → Used v p → moveLine E (v .text q) (handleIn σ v e) t (lineOf σ v p) ≡ lineOf σ w p
+  moved-line : (p : ℕ) → UsedIn v p → moveLine E (v .text q) (handleIn σ v e) t (lineOf σ v p) ≡ lineOf σ w p
   unfolding E
   moved-line p u = by-cases (ℕ-discrete p q)
       (λ x. move-yes (lineOf σ v p) (let y = x in cc)
@@ -222,7 +222,7 @@ module _ (P Q σ : ℕ) (v w : View) (q e : ℕ) (t : List ℕ) (T : Tree P Q v)
   unfolding E
   moved-root = move-no (rootLine σ v) (not-root P Q σ v T q (M .used)) ∙ same-root σ v w (M .kinds 0, M .gens 0)
 
-  moved-lines : (ks : List ℕ) → All (Used v) ks
+  moved-lines : (ks : List ℕ) → All (UsedIn v) ks
       → moveLines E (v .text q) (handleIn σ v e) t (map (lineOf σ v) ks ++ (rootLine σ v ∷ [])) ≡ map (lineOf σ w) ks ++ (rootLine σ w ∷ [])
   unfolding moveLines
   moved-lines [] h = λ i. moved-root i ∷ []
@@ -245,7 +245,7 @@ module _ (P Q σ : ℕ) (v : View) (T : Tree P Q v) (b : Book) (A : Agrees σ v 
   small : (i : ℕ) → v .kind i ≡ 2 → i < 4294967296
   small i k = omega (arith, T .flat .past i (omega arith), T .flat .few)
 
-  line-at : (p : ℕ) → Used v p → lineOf σ v p .standing ≡ under (handleIn σ v d) t → At v p d t
+  line-at : (p : ℕ) → UsedIn v p → lineOf σ v p .standing ≡ under (handleIn σ v d) t → At v p d t
   line-at p u h =
       let g : handleIn σ v (v .dir p) ≡ handleIn σ v d = cc in
       (u, same-object σ (v .dir p) (v .gen (v .dir p)) d (v .gen d) (small (v .dir p) (T .flat .dirs p u)) (small d directory) g, cc)
@@ -253,11 +253,11 @@ module _ (P Q σ : ℕ) (v : View) (T : Tree P Q v) (b : Book) (A : Agrees σ v 
   root-not : rootLine σ v .standing ≡ under (handleIn σ v d) t → ⊥
   root-not h = let z : _≡_ {A = ℕ} 0 1 = cc in omega arith
 
-  pub none-at : entries Q v d t ≡ 0 → someAt (handleIn σ v d) t b ≡ false
+  pub none-at : entriesAt Q v d t ≡ 0 → someAt (handleIn σ v d) t b ≡ false
   unfolding someAt
   none-at z = ap (someAt (handleIn σ v d) t) (A .lines) ∙ go (A .order) (all-used v (A .order) (A .each))
     where
-      go : (ks : List ℕ) → All (Used v) ks → someAt (handleIn σ v d) t (map (lineOf σ v) ks ++ (rootLine σ v ∷ [])) ≡ false
+      go : (ks : List ℕ) → All (UsedIn v) ks → someAt (handleIn σ v d) t (map (lineOf σ v) ks ++ (rootLine σ v ∷ [])) ≡ false
       go [] h = ap (λ (x : Bool). x || false) (at-no (handleIn σ v d) t (rootLine σ v) root-not)
       go (p ∷ ks) h = ap₂ (λ (x y : Bool). x || y)
           (at-no (handleIn σ v d) t (lineOf σ v p) (λ x. no-entry Q v d t p z (T .flat .rows p (h .0)) (line-at p (h .0) x))) (go ks (h .1))

@@ -14,7 +14,7 @@ use Rattle.kinds.specs.declared.call.Part.{Part}
 use Rattle.kinds.specs.declared.call.Arguments.the-variants as Call
 use Rattle.spec.specs.Bytes.{beAt, words}
 use Rattle.spec.specs.Checked.{Checked, refused, passed}
-use Rattle.spec.specs.Handles.{reach, attributes, shownSize}
+use Rattle.spec.specs.Handles.{reach, attributes, sizeAttribute}
 use Rattle.spec.specs.Image.{Store, stamp, objects, blocks, objectAt}
 use Rattle.spec.specs.Procedures.{cut, act}
 use Rattle.spec.specs.Procedures.Attributes.{getattr}
@@ -33,9 +33,9 @@ use Rattle.history.specs.Run.{Request, replyTo}
 use Rattle.history.specs.Statement as Shown
 use Rattle.history.specs.Statement.{HasLine, Names, Asks, objectIn, shownKind, shownTotal, shownFree, shownFreeAgain}
 use Rattle.history.specs.Statement.{shownObjects, shownAvailable, shownAvailableAgain}
-use Rattle.history.proofs.View.{Live}
+use Rattle.history.proofs.View.{LiveIn}
 use Rattle.history.proofs.Handles.{handle-length, handle-stamp, handle-object, handle-generation}
-use Rattle.history.proofs.Replies.{Begins, begins, word-of, long-of, ok-is, answered-is}
+use Rattle.history.proofs.Replies.{BeginsReply, begins, word-of, long-of, ok-is, answered-is}
 use Rattle.history.proofs.Seen.{view, kind-at, gen-at, live-in}
 use Rattle.history.proofs.Inv.{Inv, tree, good, live-seen}
 use Rattle.history.proofs.Making.{handle-seen}
@@ -83,7 +83,7 @@ module _ (σ p q r : ℕ) (s : Store) (L : Ledger) (I : Inv σ p q r s L) where
         (λ a. rw (long, within, marked, a))
 
   -- the handle of a live object names it
-  pub names-at : (g : List ℕ) (o generation kind : ℕ) → Live (view s) o → g ≡ handleBytes σ o generation
+  pub names-at : (g : List ℕ) (o generation kind : ℕ) → LiveIn (view s) o → g ≡ handleBytes σ o generation
       → view s .gen o ≡ generation → view s .kind o ≡ kind → Names s g o generation kind
   names-at g o generation kind v e x y =
       let k = live-in s o v in
@@ -99,7 +99,7 @@ module _ (σ p q r : ℕ) (s : Store) (L : Ledger) (I : Inv σ p q r s L) where
 
   -- a handle with a line is reached
   pub reach-lined : (g : List ℕ) (kind : ℕ) → HasLine (L .book) g kind
-      → (o : ℕ) × (reach s g ≡ passed o) × Live (view s) o × (view s .kind o ≡ kind) × (objectIn g ≡ o)
+      → (o : ℕ) × (reach s g ≡ passed o) × LiveIn (view s) o × (view s .kind o ≡ kind) × (objectIn g ≡ o)
   reach-lined g kind x =
       let (o, v, e, f) = lined-current σ p q r s L I g kind x in
       let n = small-live σ p q r s L I o v in
@@ -107,7 +107,7 @@ module _ (σ p q r : ℕ) (s : Store) (L : Ledger) (I : Inv σ p q r s L) where
 
   -- ---- GETATTR
   got-attributes : (x : Request) (h : Part) → Asks x (Call.Getattr h) → (o : ℕ) → reach s (cut (x .call) h) ≡ passed o
-      → (xid : ℕ) × Begins (replyTo s x) xid (0 ∷ fattr3 (attributes s o)) []
+      → (xid : ℕ) × BeginsReply (replyTo s x) xid (0 ∷ fattr3 (attributes s o)) []
   unfolding act getattr resultBytes
   got-attributes x h k o e =
       let A = answer-to σ p q r s L I x (Call.Getattr h) k in
@@ -133,14 +133,14 @@ module _ (σ p q r : ℕ) (s : Store) (L : Ledger) (I : Inv σ p q r s L) where
 
   pub getattr-size : (x : Request) (h : Part) → Asks x (Call.Getattr h) → HasLine (L .book) (cut (x .call) h) 1
       → Shown.shownSize (replyTo s x) ≡ sizeOf s (objectIn (cut (x .call) h))
-  unfolding fattr3 attributes shownSize isDirectory
+  unfolding fattr3 attributes sizeAttribute isDirectory
   getattr-size x h k l =
       let (o, e, v, f, i) = reach-lined (cut (x .call) h) 1 l in
       let (xid, b) = got-attributes x h k o e in
       let ws : List ℕ = 0 ∷ fattr3 (attributes s o) in
       let n = live-in s o v in
-      let z : shownSize s o ≡ sizeOf s o = ap (λ (t : Bool). cond t 512 (sizeOf s o)) (ne-eqb (objectAt s o .kind) 2 (λ d. omega (arith, kind-at s o n))) in
-      let small : shownSize s o < 4294967296 = omega (arith, good-size-small s o (I .valid .good-objects o n)) in
+      let z : sizeAttribute s o ≡ sizeOf s o = ap (λ (t : Bool). cond t 512 (sizeOf s o)) (ne-eqb (objectAt s o .kind) 2 (λ d. omega (arith, kind-at s o n))) in
+      let small : sizeAttribute s o < 4294967296 = omega (arith, good-size-small s o (I .valid .good-objects o n)) in
       long-of (replyTo s x) xid ws [] b 6 (omega arith) (lit< tt) small ∙ omega (arith, z, ap (sizeOf s) i)
 
   -- ---- a removed handle
@@ -162,7 +162,7 @@ module _ (σ p q r : ℕ) (s : Store) (L : Ledger) (I : Inv σ p q r s L) where
       ++ hyper (availableCount s) ++ hyper (availableCount s) ++ (0 ∷ [])
 
   got-room : (x : Request) (h : Part) → Asks x (Call.Fsstat h) → (o : ℕ) → reach s (cut (x .call) h) ≡ passed o
-      → (xid : ℕ) × Begins (replyTo s x) xid (roomWords o) []
+      → (xid : ℕ) × BeginsReply (replyTo s x) xid (roomWords o) []
   unfolding act fsstat resultBytes roomWords
   got-room x h k o e =
       let A = answer-to σ p q r s L I x (Call.Fsstat h) k in

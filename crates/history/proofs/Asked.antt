@@ -26,11 +26,11 @@ use Rattle.spec.specs.Replies.{resultBytes}
 use Rattle.spec.specs.Checked.{Checked, refused, passed}
 use Rattle.spec.specs.Header.{header}
 use Rattle.spec.specs.Rpc.{denied, accepted, nfs, judge, mismatch}
-use Rattle.spec.specs.Serve.{Outcome, refuse, Sent, send, perform, answer, complete, outcome as settled, serve}
+use Rattle.spec.specs.Serve.{Outcome, refuse, Sent, send, perform, answer, complete, outcomeOf as settled, serve}
 use Rattle.laws.proofs.Count.{by-bool}
 use Rattle.laws.proofs.Words.{words-length}
-use Rattle.history.specs.Book.{Ledger, readArguments, judgedArguments, headedArguments, asked, isStatus, isOk, noted, note}
-use Rattle.history.specs.Run.{Request, outcome, replyTo}
+use Rattle.history.specs.Book.{Ledger, argumentsGot, judgedArguments, headedArguments, asked, isStatus, isOk, noted, note}
+use Rattle.history.specs.Run.{Request, outcomeOf, replyTo}
 use Rattle.history.specs.Statement.{Asks}
 use Rattle.history.proofs.Replies.{short-silent, other-silent}
 
@@ -43,12 +43,12 @@ pub record Acted (s : Store) (x : Request) (a : Arguments) : Type 0 where
   pub xid : ℕ
   pub procedure : ℕ
   pub reply : replyTo s x ≡ actReply s (x .context) (x .call) a xid procedure
-  pub store : outcome s x .store ≡ act s (x .context) (x .call) a .store
+  pub store : outcomeOf s x .store ≡ act s (x .context) (x .call) a .store
 
 some-none : {A B : Type 0} {a : A} → none ≡ some a → B
 some-none e = let z : _≡_ {A = ℕ} 0 1 = cc in absurd (omega arith)
 
--- the reply in an outcome
+-- the reply in an outcomeOf
 abbrev replied : Outcome → List ℕ
 replied o = take (o .length) (o .space)
 
@@ -82,7 +82,7 @@ module _ (s : Store) (x : Request) where
   answered a (got (Header.OtherVersion xid) at) e = some-none e
   answered a (got (Header.Call h) at) e = judged (judge nfs h) e
     where
-      read : (r : Read Arguments) → readArguments r ≡ some a
+      read : (r : Read Arguments) → argumentsGot r ≡ some a
           → (xid : ℕ) × (p : ℕ) × (send (x .space) (perform s (x .context) (x .call) h r) ≡ send (x .space) (sent a xid p))
       read (bad p) e = some-none e
       read (got b next) e = let q : b ≡ a = cc in (h .xid, h .procedure, ap (λ (b : Arguments). send (x .space) (sent b (h .xid) (h .procedure))) q)
@@ -97,7 +97,7 @@ module _ (s : Store) (x : Request) where
   unanswered (got (Header.OtherVersion xid) at) e = refl
   unanswered (got (Header.Call h) at) e = judged (judge nfs h) e
     where
-      read : (r : Read Arguments) → readArguments r ≡ none → perform s (x .context) (x .call) h r .store ≡ s
+      read : (r : Read Arguments) → argumentsGot r ≡ none → perform s (x .context) (x .call) h r .store ≡ s
       read (bad p) e = refl
       read (got b next) e = some-none (sym e)
 
@@ -117,7 +117,7 @@ module _ (s : Store) (x : Request) where
       silent-sent k (denied xid) (short-silent (denied xid) (omega (arith, words-length (xid ∷ 1 ∷ 1 ∷ 0 ∷ 2 ∷ 2 ∷ []))) k)
   silence k (got (Header.Call h) at) e = judged (judge nfs h) refl e
     where
-      read : (r : Read Arguments) → readArguments r ≡ none → isStatus k (replied (send (x .space) (perform s (x .context) (x .call) h r))) ≡ false
+      read : (r : Read Arguments) → argumentsGot r ≡ none → isStatus k (replied (send (x .space) (perform s (x .context) (x .call) h r))) ≡ false
       read (bad p) e = silent-sent k (accepted (h .xid) 4 []) (other-silent (h .xid) 4 [] (lit< tt) (lit< tt) k)
       read (got b next) e = some-none (sym e)
 
@@ -131,7 +131,7 @@ module _ (s : Store) (x : Request) where
 
   -- the tests in the table's order
   heard : leastReplyBytes ≤ length (x .space) → x .context .clock .nanoseconds < nanosecondsEnd → length (x .call) ≤ mostCallBytes → passes s ≡ true
-      → outcome s x ≡ settled (x .space) s (complete s (x .context) (x .call) (header (x .call) 0))
+      → outcomeOf s x ≡ settled (x .space) s (complete s (x .context) (x .call) (header (x .call) 0))
   unfolding serve goodTime
   heard a b c d =
       rw (le-ltb (length (x .space)) leastReplyBytes a, lt-ltb (x .context .clock .nanoseconds) nanosecondsEnd b, le-ltb mostCallBytes (length (x .call)) c, d)
@@ -150,11 +150,11 @@ module _ (s : Store) (x : Request) where
 
   -- nothing is asked, or the request is refused: the store stays, and so does every book, and the reply shows no status
   pub record Idle : Type 0 where
-    pub store : outcome s x .store ≡ s
+    pub store : outcomeOf s x .store ≡ s
     pub ledger : (L : Ledger) → note (x .call) (replyTo s x) L ≡ L
     pub silent : (k : ℕ) → isStatus k (replyTo s x) ≡ false
 
-  refused-idle : (n : ℕ) → outcome s x ≡ refuse n (x .space) s → Idle
+  refused-idle : (n : ℕ) → outcomeOf s x ≡ refuse n (x .space) s → Idle
   unfolding replyTo note isOk isStatus
   refused-idle n e =
       record {
@@ -163,7 +163,7 @@ module _ (s : Store) (x : Request) where
         silent = λ k. ap (λ (o : Outcome). isStatus k (replied o)) e;
       }
 
-  unasked-idle : asked (x .call) ≡ none → outcome s x ≡ settled (x .space) s (complete s (x .context) (x .call) (header (x .call) 0)) → Idle
+  unasked-idle : asked (x .call) ≡ none → outcomeOf s x ≡ settled (x .space) s (complete s (x .context) (x .call) (header (x .call) 0)) → Idle
   unfolding replyTo note asked noted
   unasked-idle n e =
       record {

@@ -18,7 +18,7 @@ use Rattle.laws.proofs.Valid.{Shaped, GoodObject, GoodObjects, UsedName, GoodNa
 use Rattle.laws.proofs.FreeRoom.{good-size-small}
 use Rattle.history.proofs.Sum.{ind, ind-yes}
 use Rattle.history.proofs.Lists.{All, all-times, times-all, times-place}
-use Rattle.history.proofs.View.{Live, Used, At, at?, entries, entry-by}
+use Rattle.history.proofs.View.{LiveIn, UsedIn, At, at?, entriesAt, entry-by}
 use Rattle.history.proofs.Tree.{Flat, Tree, lone, live-bound, path-short}
 use Rattle.history.proofs.Room.{Room}
 use Rattle.history.proofs.Walk.{path-walk, walk-path}
@@ -26,7 +26,7 @@ use Rattle.history.proofs.Seen.{view, heldBy, kind-at, dir-at, child-at
 use Rattle.history.proofs.Seen.{namings-same, entries-same, above-same}
 
 module _ (s : Store) (K : Valid s) where
-  used-name : (n : ℕ) → Used (view s) n → UsedName s n
+  used-name : (n : ℕ) → UsedIn (view s) n → UsedName s n
   used-name n u = let l = used-in s n u in go (K .good-names n l) l
     where
       go : GoodNameRecord s n → n < names s → UsedName s n
@@ -34,12 +34,12 @@ module _ (s : Store) (K : Valid s) where
       go (_⊎_.inr x) l = x
 
   -- the kind of an object that a used record joins
-  directory-kind : (n : ℕ) → Used (view s) n → view s .kind (view s .dir n) ≡ 2
+  directory-kind : (n : ℕ) → UsedIn (view s) n → view s .kind (view s .dir n) ≡ 2
   directory-kind n u =
       let x = used-name n u in
       ap (view s .kind) (dir-at s n (used-in s n u)) ∙ kind-at s (nameAt s n .directory) (x .directory) ∙ x .in-directory
 
-  child-live : (n : ℕ) → Used (view s) n → Live (view s) (view s .child n)
+  child-live : (n : ℕ) → UsedIn (view s) n → LiveIn (view s) (view s .child n)
   child-live n u =
       let x = used-name n u in
       omega (arith, x .child-live, ap (view s .kind) (child-at s n (used-in s n u)), kind-at s (nameAt s n .child) (x .child))
@@ -59,15 +59,15 @@ module _ (s : Store) (K : Valid s) where
             let k = live-in s i l in
             let x : 0 < objectAt s i .kind = omega (arith, kind-at s i k) in
             (omega (arith, namings-same s (K .good-names) i, K .named .named i k n x), omega (arith, namings-same s (K .good-names) i, K .named .few i k n x));
-        apart = λ d t. by-cases (decLt 0 (entries (names s) (view s) d t))
+        apart = λ d t. by-cases (decLt 0 (entriesAt (names s) (view s) d t))
             (λ h. let (n, l, x) = entry-by (names s) (view s) d t h in
             let u = used-name n (x .0) in
             omega (
               arith,
               entries-same s (K .good-names) (nameAt s n .directory) (nameAt s n .text),
               K .distinct n l (omega (arith, ap length (text-at s n l), text-long s (K .good-names) n l, x .0)),
-              ap (λ (y : ℕ). entries (names s) (view s) y t) (sym (dir-at s n l) ∙ x .1),
-              ap (entries (names s) (view s) (nameAt s n .directory)) (sym (text-at s n l) ∙ x .2),
+              ap (λ (y : ℕ). entriesAt (names s) (view s) y t) (sym (dir-at s n l) ∙ x .1),
+              ap (entriesAt (names s) (view s) (nameAt s n .directory)) (sym (text-at s n l) ∙ x .2),
             ))
             (λ h. omega arith);
       }
@@ -148,7 +148,7 @@ valid-of s w g n T u =
           };
       used-once = u;
       leads = λ o l h.
-          let x : Live (view s) o = omega (arith, kind-at s o l) in
+          let x : LiveIn (view s) o = omega (arith, kind-at s o l) in
           let r = T .leads o x in
           sym (above-same s n (objects s) o)
           ∙ path-walk (objects s) (names s) (view s) (T .flat) (objects s) o (r .0) (lone (objects s) (names s) (view s) (T .flat) o x)

@@ -23,9 +23,9 @@ use Rattle.laws.proofs.Error.{lookup-store}
 use Rattle.laws.proofs.Passed.{lookup-passed, look-found}
 use Rattle.laws.proofs.Valid.{passes-valid}
 use Rattle.history.specs.Book.{Ledger, asked, foundHandle, madeHandle, isOk}
-use Rattle.history.specs.Run.{Request, Lent, outcome, replyTo}
+use Rattle.history.specs.Run.{Request, Lent, outcomeOf, replyTo}
 use Rattle.history.specs.Statement.{Asks, Carries, lookup, create, mkdir}
-use Rattle.history.proofs.View.{Live, names?}
+use Rattle.history.proofs.View.{LiveIn, names?}
 use Rattle.history.proofs.Tree.{Tree}
 use Rattle.history.proofs.Walk.{directoryAt, naming}
 use Rattle.history.proofs.Issue.{Current}
@@ -43,13 +43,13 @@ use Rattle.history.proofs.Next.{answer-to, clocked}
 
 module _ (σ p q r : ℕ) (s : Store) (L : Ledger) (I : Inv σ p q r s L) where
   -- a live directory's parent is live
-  parent-live : (d : ℕ) → Live (view s) d → Live (view s) (parent s d)
+  parent-live : (d : ℕ) → LiveIn (view s) d → LiveIn (view s) (parent s d)
   parent-live d l =
       let T = tree σ p q r s L I in
       let e = parent-same s (I .valid .good-names) d in
-      subst (Live (view s)) e (go T (naming (names s) (view s) d) refl)
+      subst (LiveIn (view s)) e (go T (naming (names s) (view s) d) refl)
     where
-      go : Tree p q (view s) → (x : Option ℕ) → naming (names s) (view s) d ≡ x → Live (view s) (directoryAt (view s) x)
+      go : Tree p q (view s) → (x : Option ℕ) → naming (names s) (view s) d ≡ x → LiveIn (view s) (directoryAt (view s) x)
       go T none z = omega (arith, T .flat .root)
       go T (some n) z = omega (
         arith,
@@ -57,14 +57,14 @@ module _ (σ p q r : ℕ) (s : Store) (L : Ledger) (I : Inv σ p q r s L) where
             (holds-true (names? (view s) n d) (lowest-passes (λ n. holds (names? (view s) n d)) (names s) n z .passes) .0),
       )
 
-  look-facts : (h text : List ℕ) (x : ℕ × ℕ) → checkLookup s h text ≡ passed x → Live (view s) (x .1)
+  look-facts : (h text : List ℕ) (x : ℕ × ℕ) → checkLookup s h text ≡ passed x → LiveIn (view s) (x .1)
   look-facts h text x e =
       let w = lookup-passed s h text x e in
       let d = x .0 in
-      let l : Live (view s) d = omega (arith, kind-at s d (w .reached .below), w .directory) in
-      look-found (Live (view s)) s d text (x .1) (w .found) l (parent-live d l) (λ n z.
+      let l : LiveIn (view s) d = omega (arith, kind-at s d (w .reached .below), w .directory) in
+      look-found (LiveIn (view s)) s d text (x .1) (w .found) l (parent-live d l) (λ n z.
       let (k, at) = found-name s (I .valid .good-names) d text n z in
-      subst (Live (view s)) (child-at s n k) (tree σ p q r s L I .flat .ends n (at .0)))
+      subst (LiveIn (view s)) (child-at s n k) (tree σ p q r s L I .flat .ends n (at .0)))
 
   lookup-shown : (call reply : List ℕ) (place : NameIn)
       → Answer call reply (Call.Lookup place) (Spec.lookup s (cut call (place .directory)) (cut call (place .name)) .result)
@@ -105,12 +105,12 @@ module _ (σ p q r : ℕ) (s : Store) (L : Ledger) (I : Inv σ p q r s L) where
   -- "every handle in an OK reply has a line": it is a live object's, in the store after the call
   module _ (x : Request) (l : Lent x) (t : isOk (replyTo s x) ≡ true) where
     carried-by : (a : Arguments) (h : List ℕ) → asked (x .call) ≡ some a → (Asks x a → Current σ (view (act s (x .context) (x .call) a .store)) h)
-        → Current σ (view (outcome s x .store)) h
+        → Current σ (view (outcomeOf s x .store)) h
     carried-by a h e f =
         let k = asks-of x a t e in
         subst (λ (u : Store). Current σ (view u) h) (sym (acted s x a k (passes-valid s (I .valid)) .store)) (f k)
 
-    pub carried : (h : List ℕ) → Carries x (replyTo s x) h → Current σ (view (outcome s x .store)) h
+    pub carried : (h : List ℕ) → Carries x (replyTo s x) h → Current σ (view (outcomeOf s x .store)) h
     unfolding act
     carried h (lookup place e) =
         carried-by (Call.Lookup place) (foundHandle (replyTo s x)) e (λ k.

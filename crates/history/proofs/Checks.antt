@@ -13,7 +13,7 @@ use Rattle.laws.proofs.Searches.{count-nothing}
 use Rattle.laws.proofs.Valid.{GoodNames}
 use Rattle.history.specs.Book.{handleBytes}
 use Rattle.history.proofs.Sum.{holds-true}
-use Rattle.history.proofs.View.{At, at?, entries}
+use Rattle.history.proofs.View.{At, at?, entriesAt}
 use Rattle.history.proofs.Handles.{handle-of}
 use Rattle.history.proofs.Seen.{view, named-same, entries-same}
 
@@ -30,6 +30,6 @@ module _ (s : Store) (N : GoodNames s) (d : ℕ) (text : List ℕ) where
       let x = lowest-passes (isNamed s d text) (names s) n e in
       (x .below, holds-true (at? (view s) n d text) (named-same s N d text n (x .below) ∙ x .passes))
 
-  pub no-name : findName s d text ≡ none → entries (names s) (view s) d text ≡ 0
+  pub no-name : findName s d text ≡ none → entriesAt (names s) (view s) d text ≡ 0
   unfolding findName
   no-name e = entries-same s N d text ∙ count-nothing (names s) (isNamed s d text) (λ i l. lowest-none (isNamed s d text) (names s) i e l)

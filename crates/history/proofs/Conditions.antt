@@ -28,11 +28,11 @@ use Rattle.laws.proofs.Valid.{true-live, regular-true, true-regular, true-direc
 use Rattle.history.specs.Book.{under, Line, Book, Ledger, isAt, someAt}
 use Rattle.history.specs.Run.{Request, Lent, State}
 use Rattle.history.specs.Statement.{In, HasLine, HasName, StandApart, objectIn, Room, growth}
-use Rattle.history.specs.Statement.{directoryIn, nameIn, MayMake, AsksRoom}
+use Rattle.history.specs.Statement.{directoryIn, nameAsked, MayMake, AsksRoom}
 use Rattle.history.proofs.Asking.{AsksStore}
 use Rattle.history.proofs.Sum.{or-right}
 use Rattle.history.proofs.Handles.{handle-object}
-use Rattle.history.proofs.View.{entries}
+use Rattle.history.proofs.View.{entriesAt}
 use Rattle.history.proofs.Agree.{handleIn, at-yes, none-at, some-at}
 use Rattle.history.proofs.Seen.{view, kind-at, dir-at, child-at, text-at, live-in, used-of}
 use Rattle.history.proofs.Inv.{Inv, tree}
@@ -131,7 +131,7 @@ module _ (σ P Q R : ℕ) (s : Store) (L : Ledger) (I : Inv σ P Q R s L) where
     none-there e =
         ap (λ (x : List ℕ). someAt x text (L .book)) own
         ∙ none-at P Q σ (view s) (tree σ P Q R s L I) (L .book) (I .agrees) d text seen-type
-        (ap (λ (x : ℕ). entries x (view s) d text) (sym (I .nams)) ∙ no-name s (I .valid .good-names) d text e)
+        (ap (λ (x : ℕ). entriesAt x (view s) d text) (sym (I .nams)) ∙ no-name s (I .valid .good-names) d text e)
 
     there-none : someAt h text (L .book) ≡ false → findName s d text ≡ none
     there-none e = go (findName s d text) refl
@@ -184,9 +184,9 @@ module _ (σ P Q R : ℕ) (s : Store) (L : Ledger) (I : Inv σ P Q R s L) where
       part-below h = below-part 256 (x .call) _ _ (lit< tt) (lent .bytes)
 
       may-make : (p : NameIn) (d : ℕ) (invalid : Bool) → Reached s (directoryIn x p) d × (objectAt s d .kind ≡ 2)
-          → checkNew (nameIn x p) invalid ≡ passed tt → MayMake (L .book) x p invalid
+          → checkNew (nameAsked x p) invalid ≡ passed tt → MayMake (L .book) x p invalid
       may-make p d invalid (w, k) e =
-          let (a, b, c) = new-each (nameIn x p) invalid e in
+          let (a, b, c) = new-each (nameAsked x p) invalid e in
           record {
             inDirectory = subst (HasLine (L .book) (directoryIn x p)) k (reached-line (directoryIn x p) (part-below (p .directory)) d w);
             goodName = a;
@@ -209,25 +209,25 @@ module _ (σ P Q R : ℕ) (s : Store) (L : Ledger) (I : Inv σ P Q R s L) where
       by-book (AsksStore.byCreate p manner a d k which e₁ e₂ e₃) =
           let (w, y) = directory-passed s (directoryIn x p) d e₁ in
           AsksRoom.byCreate p manner a k which (may-make p d (badAttributes a) (w, y) e₂)
-          (none-there (directoryIn x p) (nameIn x p) d (w .below) y (reached-own (directoryIn x p) (part-below (p .directory)) d w) e₃)
+          (none-there (directoryIn x p) (nameAsked x p) d (w .below) y (reached-own (directoryIn x p) (part-below (p .directory)) d w) e₃)
       by-book (AsksStore.byRecreate p a d n k e₁ e₂ e₃ e₄) =
           let (w, y) = directory-passed s (directoryIn x p) d e₁ in
           let own = reached-own (directoryIn x p) (part-below (p .directory)) d w in
           let o = nameAt s n .child in
-          let below = found-below (directoryIn x p) (nameIn x p) d (w .below) y own n e₃ in
+          let below = found-below (directoryIn x p) (nameAsked x p) d (w .below) y own n e₃ in
           let kind = regular-true s o e₄ in
           subst (λ (i : ℕ). AsksRoom state x (growth (sizeOf s i) (sizeSet (a .size) (sizeOf s i)))) (child-object o below)
           (AsksRoom.byRecreate p a (handleOf s o) k (may-make p d (badAttributes a) (w, y) e₂)
-          (found-line (directoryIn x p) (nameIn x p) d (w .below) y own n e₃)
+          (found-line (directoryIn x p) (nameAsked x p) d (w .below) y own n e₃)
           (object-lines σ P Q R s L I (handleOf s o) 1 .0 (o, below, true-live s o (omega (arith, kind)), refl, kind)))
       by-book (AsksStore.byMkdir p a d k e₁ e₂ e₃) =
           let (w, y) = directory-passed s (directoryIn x p) d e₁ in
           AsksRoom.byMkdir p a k (may-make p d (badAttributes a || isGiven (a .size)) (w, y) e₂)
-          (none-there (directoryIn x p) (nameIn x p) d (w .below) y (reached-own (directoryIn x p) (part-below (p .directory)) d w) e₃)
+          (none-there (directoryIn x p) (nameAsked x p) d (w .below) y (reached-own (directoryIn x p) (part-below (p .directory)) d w) e₃)
 
     -- by the book, so by the checks of the store
-    new-checks : (p : NameIn) (invalid : Bool) → MayMake (L .book) x p invalid → checkNew (nameIn x p) invalid ≡ passed tt
-    new-checks p invalid m = new-all (nameIn x p) invalid (m .goodName) (m .noDots) (m .valid)
+    new-checks : (p : NameIn) (invalid : Bool) → MayMake (L .book) x p invalid → checkNew (nameAsked x p) invalid ≡ passed tt
+    new-checks p invalid m = new-all (nameAsked x p) invalid (m .goodName) (m .noDots) (m .valid)
 
     pub by-store : {m : Room} → AsksRoom state x m → AsksStore s x m
     unfolding isDirectory
@@ -243,17 +243,17 @@ module _ (σ P Q R : ℕ) (s : Store) (L : Ledger) (I : Inv σ P Q R s L) where
     by-store (AsksRoom.byCreate p manner a k which m e) =
         let (d, z) = lined (directoryIn x p) 2 (m .inDirectory) in
         AsksStore.byCreate p manner a d k which (directory-reached (directoryIn x p) d z) (new-checks p (badAttributes a) m)
-        (there-none (directoryIn x p) (nameIn x p) d (z .below) (z .type) (z .own) e)
+        (there-none (directoryIn x p) (nameAsked x p) d (z .below) (z .type) (z .own) e)
     by-store (AsksRoom.byRecreate p a g k m y u) =
         let (d, z) = lined (directoryIn x p) 2 (m .inDirectory) in
-        let (n, e, f) = line-found (directoryIn x p) (nameIn x p) d (z .below) (z .type) (z .own) g y in
+        let (n, e, f) = line-found (directoryIn x p) (nameAsked x p) d (z .below) (z .type) (z .own) g y in
         let (o, v) = lined g 1 u in
         let c : nameAt s n .child ≡ objectIn g =
-        sym (child-object (nameAt s n .child) (found-below (directoryIn x p) (nameIn x p) d (z .below) (z .type) (z .own) n e)) ∙ ap objectIn (sym f) in
+        sym (child-object (nameAt s n .child) (found-below (directoryIn x p) (nameAsked x p) d (z .below) (z .type) (z .own) n e)) ∙ ap objectIn (sym f) in
         subst (λ (i : ℕ). AsksStore s x (growth (sizeOf s i) (sizeSet (a .size) (sizeOf s i)))) c
         (AsksStore.byRecreate p a d n k (directory-reached (directoryIn x p) d z) (new-checks p (badAttributes a) m) e
         (true-regular s (nameAt s n .child) (ap (λ (i : ℕ). objectAt s i .kind) (c ∙ v .is-object) ∙ v .type)))
     by-store (AsksRoom.byMkdir p a k m e) =
         let (d, z) = lined (directoryIn x p) 2 (m .inDirectory) in
         AsksStore.byMkdir p a d k (directory-reached (directoryIn x p) d z) (new-checks p (badAttributes a || isGiven (a .size)) m)
-        (there-none (directoryIn x p) (nameIn x p) d (z .below) (z .type) (z .own) e)
+        (there-none (directoryIn x p) (nameAsked x p) d (z .below) (z .type) (z .own) e)

@@ -27,7 +27,7 @@ use Rattle.history.specs.Statement.{In, HasLine, liveObjects, objectIn, 
 use Rattle.history.specs.Statement.{hasName, namedLines, isAmong, isLined, lastHandle, spentRecords}
 use Rattle.history.proofs.Sum.{or-left, or-right, ind, ind-yes, ind-no, holds-same, sum-const}
 use Rattle.history.proofs.Lists.{same-true, All, all-times}
-use Rattle.history.proofs.View.{Live, Used}
+use Rattle.history.proofs.View.{LiveIn, UsedIn}
 use Rattle.history.proofs.Tree.{Tree, live?, living}
 use Rattle.history.proofs.Handles.{same-object, same-generation, handle-object}
 use Rattle.history.proofs.Agree.{lineOf, rootLine, used?}
@@ -98,23 +98,23 @@ module _ (σ p q r : ℕ) (s : Store) (L : Ledger) (I : Inv σ p q r s L) where
       (λ e. omega (arith, kind-at s i l, live-true s i e)))
 
   -- ---- the records that have a line are the live ones, and the files among them those that have a file's
-  line-object : (l : Line) → List·Memᴰ l (L .book) → Live (view s) (objectIn (l .handle)) × (view s .kind (objectIn (l .handle)) ≡ l .kind)
+  line-object : (l : Line) → List·Memᴰ l (L .book) → LiveIn (view s) (objectIn (l .handle)) × (view s .kind (objectIn (l .handle)) ≡ l .kind)
   unfolding T
   line-object l m =
       let (o, v, e, f) = lined-current σ p q r s L I (l .handle) (l .kind) (l, m, refl, refl) in
       let i : objectIn (l .handle) ≡ o = ap objectIn e ∙ handle-object σ o (view s .gen o) (omega (arith, T .flat .past o v, T .flat .few)) in
-      (subst (Live (view s)) (sym i) v, ap (view s .kind) i ∙ f)
+      (subst (LiveIn (view s)) (sym i) v, ap (view s .kind) i ∙ f)
 
-  object-line : (o : ℕ) → Live (view s) o → (l : Line) × List·Memᴰ l (L .book) × (objectIn (l .handle) ≡ o) × (l .kind ≡ view s .kind o)
+  object-line : (o : ℕ) → LiveIn (view s) o → (l : Line) × List·Memᴰ l (L .book) × (objectIn (l .handle) ≡ o) × (l .kind ≡ view s .kind o)
   unfolding T
   object-line o v =
       let (l, m, e, f) = current-lined σ p q r s L I o v in
       (l, m, ap objectIn e ∙ handle-object σ o (view s .gen o) (omega (arith, T .flat .past o v, T .flat .few)), f)
 
-  lined-object : (o : ℕ) → (isLinedObject (L .book) o ≡ true) ↔ Live (view s) o
+  lined-object : (o : ℕ) → (isLinedObject (L .book) o ≡ true) ↔ LiveIn (view s) o
   lined-object o = (
     (λ t. let (l, m, e) = line-has (λ l. eqb (objectIn (l .handle)) o) (L .book) t in
-        subst (Live (view s)) (eqb-true (objectIn (l .handle)) o e) (line-object l m .0)),
+        subst (LiveIn (view s)) (eqb-true (objectIn (l .handle)) o e) (line-object l m .0)),
     (λ v. let (l, m, e, f) = object-line o v in has-line (λ l. eqb (objectIn (l .handle)) o) (L .book) l m (eq-eqb (objectIn (l .handle)) o e)),
   )
 
@@ -155,7 +155,7 @@ module _ (σ p q r : ℕ) (s : Store) (L : Ledger) (I : Inv σ p q r s L) where
         ap (λ (k : ℕ). count k (isUsedName s)) (I .nams),
       )
     where
-      used-order : (n : ℕ) → 0 < times n (I .agrees .order) → Used (view s) n
+      used-order : (n : ℕ) → 0 < times n (I .agrees .order) → UsedIn (view s) n
       used-order n h = by-cases (used? (view s) n) (λ u. u) (λ u. absurd (omega (arith, I .agrees .each n, ind-no (used? (view s) n) u)))
 
       used-bit : (n : ℕ) → n < names s → ind (used? (view s) n) ≡ bit (isUsedName s n)
@@ -226,7 +226,7 @@ module _ (σ p q r : ℕ) (s : Store) (L : Ledger) (I : Inv σ p q r s L) where
       I .issues .each h .1 (o, view s .gen o, e, omega (arith, ind-yes (live? (view s) o) v))
 
   -- a handle that was given out is that of a live object, or of an earlier generation than its object's, or of one that is free
-  pub given-or : (o g : ℕ) → g < issued (view s) o → (Live (view s) o × (g ≡ view s .gen o)) ⊎ (g < view s .gen o)
+  pub given-or : (o g : ℕ) → g < issued (view s) o → (LiveIn (view s) o × (g ≡ view s .gen o)) ⊎ (g < view s .gen o)
   given-or o g l = by-cases (live? (view s) o)
       (λ v. by-cases (ℕ-discrete g (view s .gen o)) (λ e. inl (v, e)) (λ n. inr (omega (arith, ind-yes (live? (view s) o) v))))
       (λ v. inr (omega (arith, ind-no (live? (view s) o) v)))

@@ -22,7 +22,7 @@ use Rattle.spec.specs.Handles.{handleOf, attributes, change}
 use Rattle.spec.specs.Image.{Store, stamp, objectAt, nameAt}
 use Rattle.spec.specs.Procedures.{cut}
 use Rattle.spec.specs.Procedures.Attributes.{isGiven, sizeSet}
-use Rattle.spec.specs.Procedures.Names.{newEdit, createdIn, Target, new, existing, checkCreate, settableOf, existingEdit, createEdit, create, checkMkdir, mkdir}
+use Rattle.spec.specs.Procedures.Names.{newEdit, createdIn, Target, new, existing, checkCreate, settableIn, existingEdit, createEdit, create, checkMkdir, mkdir}
 use Rattle.spec.specs.Results.{created, failChanging, settle}
 use Rattle.spec.specs.Room.{findName}
 use Rattle.laws.proofs.Error.{statusOf}
@@ -34,7 +34,7 @@ use Rattle.laws.proofs.GoodRecords.{GoodClock}
 use Rattle.laws.proofs.Passed.{Reached, NewRoom, ExistingPassed, CreatePassed, create-passed, MkdirPassed, mkdir-passed}
 use Rattle.laws.proofs.Valid.{GoodName}
 use Rattle.history.specs.Book.{Ledger, madeHandle, isOk, add, noted, note}
-use Rattle.history.proofs.View.{Live}
+use Rattle.history.proofs.View.{LiveIn}
 use Rattle.history.proofs.Issue.{Current}
 use Rattle.history.proofs.Seen.{view, kind-at, child-at, live-in}
 use Rattle.history.proofs.Inv.{Inv, Owes, keeps-refl, tree}
@@ -63,7 +63,7 @@ module _ (σ p q r : ℕ) (s : Store) (L : Ledger) (I : Inv σ p q r s L) (c : C
       ap madeHandle (A .is) ∙ made-is (A .xid) (A .procedure) (stamp t) o (objectAt t o .generation) (attributes t o) (change s t d)
 
   -- it is a live object's
-  shown-handle : (a : Arguments) (t : Store) (M : Ledger) → Inv σ p q r t M → (o d : ℕ) → Live (view t) o
+  shown-handle : (a : Arguments) (t : Store) (M : Ledger) → Inv σ p q r t M → (o d : ℕ) → LiveIn (view t) o
       → Answer call reply a (created (handleOf t o) (attributes t o) (change s t d)) → Current σ (view t) (madeHandle reply)
   shown-handle a t M J o d l A = (o, l, made-handle a t o d A ∙ handle-seen σ p q r t M J o (live-in t o l))
 
@@ -119,7 +119,7 @@ module _ (σ p q r : ℕ) (s : Store) (L : Ledger) (I : Inv σ p q r s L) (c : C
     made-there a d o m w dk ok z is x A =
         let (ml, at) = found-name s (I .valid .good-names) d text m z in
         let live = tree σ p q r s L I .flat .ends m (at .0) in
-        let l : Live (view s) o = subst (Live (view s)) (child-at s m ml ∙ is) live in
+        let l : LiveIn (view s) o = subst (LiveIn (view s)) (child-at s m ml ∙ is) live in
         let step = existing-keeps σ p q r s L I c clock o a (kind-at s o (live-in s o l) ∙ x .regular) (ok .size) (x .room) in
         let book : L ≡ note call reply L =
         sym (note-created (existingEdit s c o (a .size)) o d A ∙ line-there σ p q r s L I c clock h text d w dk (cut-below (place .directory)) _ 1 m at) in
@@ -133,24 +133,24 @@ module _ (σ p q r : ℕ) (s : Store) (L : Ledger) (I : Inv σ p q r s L) (c : C
     unfolding create h text
     create-made A = go (checkCreate s h text manner) refl A
       where
-        fits-of : (m : How) → m ≡ manner → FitsHow m → (d : ℕ) (t : Target) → CreatePassed s h text m d t → FitsSettable (settableOf m)
+        fits-of : (m : How) → m ≡ manner → FitsHow m → (d : ℕ) (t : Target) → CreatePassed s h text m d t → FitsSettable (settableIn m)
         fits-of (How.Unchecked a) e f d t k = f
         fits-of (How.Guarded a) e f d t k = f
         fits-of (How.Exclusive verifier) e f d t k = only-ctime-fits
 
         target : (d : ℕ) (t : Target) → CreatePassed s h text manner d t → Answer call reply (Call.Create place manner)
-            (createEdit s c d text (settableOf manner) t .result)
-            → Made σ p q r s (createEdit s c d text (settableOf manner) t .store) (note call reply L) reply
+            (createEdit s c d text (settableIn manner) t .result)
+            → Made σ p q r s (createEdit s c d text (settableIn manner) t .store) (note call reply L) reply
         target d (new o n) k A =
             let (z, room) = k .target in
-            made-new (settableOf manner) d o n (fits-of manner refl fits d (new o n) k) (k .reached) (k .directory) (k .good) (k .allowed) z room A
+            made-new (settableIn manner) d o n (fits-of manner refl fits d (new o n) k) (k .reached) (k .directory) (k .good) (k .allowed) z room A
         target d (existing o) k A =
             let (m, z, is, x) = k .target in
-            made-there (settableOf manner) d o m (k .reached) (k .directory) (k .allowed) z is x A
+            made-there (settableIn manner) d o m (k .reached) (k .directory) (k .allowed) z is x A
 
         go : (x : Checked (ℕ × Target)) → checkCreate s h text manner ≡ x
-            → Answer call reply (Call.Create place manner) (settle s (failChanging s h) x (λ p. createEdit s c (p .0) text (settableOf manner) (p .1)) .result)
-            → Made σ p q r s (settle s (failChanging s h) x (λ p. createEdit s c (p .0) text (settableOf manner) (p .1)) .store) (note call reply L) reply
+            → Answer call reply (Call.Create place manner) (settle s (failChanging s h) x (λ p. createEdit s c (p .0) text (settableIn manner) (p .1)) .result)
+            → Made σ p q r s (settle s (failChanging s h) x (λ p. createEdit s c (p .0) text (settableIn manner) (p .1)) .store) (note call reply L) reply
         go (refused n) e A =
             let b = sure-create s h text manner n e in
             failed-made (Call.Create place manner) h n (b .0) (b .1) A

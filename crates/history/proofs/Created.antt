@@ -8,7 +8,7 @@ use native.Mathlib.Omega.{arith}
 use lib.ListN.{length}
 use Rattle.laws.proofs.Count.{sum-zero}
 use Rattle.history.proofs.Sum.{ind, ind-yes, ind-no, ind-le}
-use Rattle.history.proofs.View.{View, Live, Used, names?, at?, namings, entries, Path, SameName, namings-set, entries-set}
+use Rattle.history.proofs.View.{View, LiveIn, UsedIn, names?, at?, namingsIn, entriesAt, Path, SameRecord, namings-set, entries-set}
 use Rattle.history.proofs.Tree.{Tree}
 use Rattle.history.proofs.Change.{Created, path-avoids, avoid-free}
 
@@ -16,19 +16,19 @@ module _ (P Q : ℕ) (v w : View) (o q k d : ℕ) (t : List ℕ) (T : Tree P Q v
   not-root : o ≢ 0
   not-root e = omega (arith, B .was-free, T .flat .root, ap (v .kind) e)
 
-  kept : (i : ℕ) → Live v i → w .kind i ≡ v .kind i
+  kept : (i : ℕ) → LiveIn v i → w .kind i ≡ v .kind i
   kept i l = B .obj .other i (λ e. omega (arith, B .was-free, ap (v .kind) e)) .0
 
-  same : (p : ℕ) → Used v p → SameName v w p
+  same : (p : ℕ) → UsedIn v p → SameRecord v w p
   same p u = B .nam .other p (λ e. omega (arith, B .was-blank, ap (λ (x : ℕ). length (v .text x)) e))
 
   blank : (i : ℕ) → ind (names? v q i) ≡ 0
   blank i = ind-no (names? v q i) (λ h. omega (arith, B .was-blank))
 
-  used-w : (p : ℕ) → p ≢ q → Used w p → Used v p
+  used-w : (p : ℕ) → p ≢ q → UsedIn w p → UsedIn v p
   used-w p n u = omega (arith, ap length (B .nam .other p n .text))
 
-  unnamed : namings Q v o ≡ 0
+  unnamed : namingsIn Q v o ≡ 0
   unnamed = sum-zero Q (λ p. ind (names? v p o)) (λ p l. ind-no (names? v p o) (λ h. omega (arith, T .flat .ends p (h .0), ap (v .kind) (h .1), B .was-free)))
 
   path-created : (qs : List ℕ) (i : ℕ) → Path v i qs → Path w i qs
@@ -60,7 +60,7 @@ module _ (P Q : ℕ) (v w : View) (o q k d : ℕ) (t : List ℕ) (T : Tree P Q v
             namings-set Q v w q d o t (B .nam) (B .in-names) i,
             blank i,
             unnamed,
-            ap (namings Q v) e,
+            ap (namingsIn Q v) e,
             ind-yes (names? w q i) (omega (arith, B .some, ap length (B .nam .text)), B .nam .child ∙ sym e),
           ))
           (λ x. omega (
@@ -76,8 +76,8 @@ module _ (P Q : ℕ) (v w : View) (o q k d : ℕ) (t : List ℕ) (T : Tree P Q v
             entries-set Q v w q d o t (B .nam) (B .in-names) e u,
             ind-le (at? w q e u),
             B .absent,
-            ap (λ (x : ℕ). entries Q v x u) (sym (B .nam .dir) ∙ h .1),
-            ap (entries Q v d) (sym (B .nam .text) ∙ h .2),
+            ap (λ (x : ℕ). entriesAt Q v x u) (sym (B .nam .dir) ∙ h .1),
+            ap (entriesAt Q v d) (sym (B .nam .text) ∙ h .2),
           ))
           (λ h. omega (arith, entries-set Q v w q d o t (B .nam) (B .in-names) e u, T .flat .apart e u, ind-no (at? w q e u) h));
     };

@@ -9,7 +9,7 @@ use Rattle.kinds.specs.declared.object.Object.{Object}
 use Rattle.spec.specs.Image.{Store, objects, names, objectAt, Name, nameAt}
 use Rattle.laws.proofs.Kept.{NameKept, NameIs}
 use Rattle.laws.proofs.Shape.{SameShape}
-use Rattle.history.proofs.View.{SameName, SetName, SetObj}
+use Rattle.history.proofs.View.{SameRecord, SetName, SetObj}
 use Rattle.history.proofs.Seen.{within, within-yes, within-no, view, kind-at, gen-at, dir-at, child-at, text-at}
 
 -- a record's reading stays, in range and out of range
@@ -26,7 +26,7 @@ module _ (s t : Store) (e : SameShape s t) where
   pub gen-same : (i : ℕ) → (i < objects s → objectAt t i .generation ≡ objectAt s i .generation) → view t .gen i ≡ view s .gen i
   gen-same i h = within-same (objects s) (objects t) 0 i (objectAt s i .generation) (objectAt t i .generation) (e .objects) h
 
-  pub name-same : (n : ℕ) → (n < names s → NameKept s t n) → SameName (view s) (view t) n
+  pub name-same : (n : ℕ) → (n < names s → NameKept s t n) → SameRecord (view s) (view t) n
   name-same n h =
       record {
         dir = within-same (names s) (names t) 0 n (nameAt s n .directory) (nameAt t n .directory) (e .names) (λ l. ap (λ (x : Name). x .directory) (h l .all));

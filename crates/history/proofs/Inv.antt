@@ -30,7 +30,7 @@ use Rattle.laws.proofs.Structure.{SameTree, kept-structure, tree-distinct, tree
 use Rattle.laws.proofs.Resize.{resize-tree}
 use Rattle.laws.proofs.Valid.{LiveObject, GoodName, Valid, live-kind}
 use Rattle.history.specs.Book.{Ledger, under, strikeLines, moveLines}
-use Rattle.history.proofs.View.{View, Live, Used, entries, namings, Path, Avoids, SameName, not-named}
+use Rattle.history.proofs.View.{View, LiveIn, UsedIn, entriesAt, namingsIn, Path, Avoids, SameRecord, not-named}
 use Rattle.history.proofs.Tree.{Tree, lone, one-name}
 use Rattle.history.proofs.Change.{Created, Removed, Moved}
 use Rattle.history.proofs.Created.{created-tree}
@@ -55,7 +55,7 @@ pub record Inv (σ p q r : ℕ) (s : Store) (L : Ledger) : Type 0 where
 -- what later stores keep of earlier ones: no generation falls, and a live object of the same generation has the same type
 pub record Grew (v w : View) : Type 0 where
   pub older : (i : ℕ) → v .gen i ≤ w .gen i
-  pub stays : (i : ℕ) → Live v i → w .gen i ≡ v .gen i → w .kind i ≡ v .kind i
+  pub stays : (i : ℕ) → LiveIn v i → w .gen i ≡ v .gen i → w .kind i ≡ v .kind i
 
 pub grew-same : (v w : View) → ((i : ℕ) → (w .kind i ≡ v .kind i) × (w .gen i ≡ v .gen i)) → Grew v w
 grew-same v w h = record { older = λ i. omega (arith, h i .1); stays = λ i l e. h i .0 }
@@ -78,7 +78,7 @@ module _ (σ p q r : ℕ) (s : Store) (L : Ledger) (I : Inv σ p q r s L) where
   pub good : GoodRecords s
   good = valid-records s (I .valid) (I .bytes)
 
-  pub live-seen : (o : ℕ) → Live (view s) o → 0 < objectAt s o .kind
+  pub live-seen : (o : ℕ) → LiveIn (view s) o → 0 < objectAt s o .kind
   live-seen o l = omega (arith, kind-at s o (live-in s o l))
 
 -- the check's demands, from those on single records and the tree
@@ -89,7 +89,7 @@ valid-by p q t g a b T =
 
 -- ---- nothing that the view shows has changed
 pub seen-inv : (σ p q r : ℕ) (s t : Store) (L : Ledger) → Inv σ p q r s L → SameShape s t → Valid t → Below 256 t
-    → ((i : ℕ) → (view t .kind i ≡ view s .kind i) × (view t .gen i ≡ view s .gen i)) → ((n : ℕ) → SameName (view s) (view t) n) → Inv σ p q r t L
+    → ((i : ℕ) → (view t .kind i ≡ view s .kind i) × (view t .gen i ≡ view s .gen i)) → ((n : ℕ) → SameRecord (view s) (view t) n) → Inv σ p q r t L
 seen-inv σ p q r s t L I e K b o n =
     record {
       valid = K;
@@ -106,7 +106,7 @@ module _ (s t : Store) (e : SameTree s t) where
   pub same-objects : (i : ℕ) → (view t .kind i ≡ view s .kind i) × (view t .gen i ≡ view s .gen i)
   same-objects i = (kind-same s t (e .shape) i (λ l. e .kind i l), gen-same s t (e .shape) i (λ l. e .generation i l))
 
-  pub same-names : (n : ℕ) → SameName (view s) (view t) n
+  pub same-names : (n : ℕ) → SameRecord (view s) (view t) n
   same-names n = name-same s t (e .shape) n (λ l. e .name n l)
 
   pub same-valid : GoodRecords t → Valid s → Valid t
@@ -130,7 +130,7 @@ pub record Owes (σ p q r : ℕ) (s t : Store) (L : Ledger) : Type 0 where
 -- where no object is removed: generations stay, and the types of live objects
 pub record Keeps (σ p q r : ℕ) (s t : Store) (L : Ledger) : Type 0 where
   pub owes : Owes σ p q r s t L
-  pub kinds : (i : ℕ) → Live (view s) i → view t .kind i ≡ view s .kind i
+  pub kinds : (i : ℕ) → LiveIn (view s) i → view t .kind i ≡ view s .kind i
   pub gens : (i : ℕ) → view t .gen i ≡ view s .gen i
 
 pub owes-trans : (σ p q r : ℕ) (s t u : Store) (K L : Ledger) → Owes σ p q r s t K → Owes σ p q r t u L → Owes σ p q r s u L
@@ -160,7 +160,7 @@ same-keeps s t e g σ p q r L I =
     }
 
 -- ---- the first edit: attributes and times
-pub touch-inv : (σ p q r : ℕ) (s : Store) (L : Ledger) → Inv σ p q r s L → (clock : Time) (o : ℕ) (a : Settable) → Live (view s) o
+pub touch-inv : (σ p q r : ℕ) (s : Store) (L : Ledger) → Inv σ p q r s L → (clock : Time) (o : ℕ) (a : Settable) → LiveIn (view s) o
     → GoodClock clock → FitsSettable a → Allowed a → Keeps σ p q r s (setAttributes s clock o a) L
 touch-inv σ p q r s L I clock o a l c f w =
     let g = good σ p q r s L I in
@@ -179,7 +179,7 @@ resize-inv σ p q r s L I o size k small room =
     (resize-still s g o size l file small room .good) σ p q r L I
 
 -- ---- file data: no record is written
-pub write-inv : (σ p q r : ℕ) (s : Store) (L : Ledger) → Inv σ p q r s L → (o offset : ℕ) (xs : List ℕ) → Live (view s) o → Below 256 xs
+pub write-inv : (σ p q r : ℕ) (s : Store) (L : Ledger) → Inv σ p q r s L → (o offset : ℕ) (xs : List ℕ) → LiveIn (view s) o → Below 256 xs
     → offset + length xs ≤ sizeOf s o → Keeps σ p q r s (writeFile s o offset xs) L
 write-inv σ p q r s L I o offset xs l b n =
     let g = good σ p q r s L I in
@@ -194,7 +194,7 @@ module _ (σ p q r : ℕ) (s : Store) (L : Ledger) (I : Inv σ p q r s L) (o n :
     (in-objs : o < objects s) (in-names : n < names s) (was-free : objectAt s o .kind ≡ 0) (low : objectAt s o .generation < spentGeneration)
     (was-blank : nameLength s n ≡ 0) (fits : FitsObject v) (live : LiveObject (blocks s) v) (empty : v .size ≡ 0) (name : GoodName text)
     (below : Below 256 text)
-    (parent : view s .kind d ≡ 2) (absent : entries (names s) (view s) d text ≡ 0) where
+    (parent : view s .kind d ≡ 2) (absent : entriesAt (names s) (view s) d text ≡ 0) where
   g : GoodRecords s
   g = good σ p q r s L I
 
@@ -225,7 +225,7 @@ module _ (σ p q r : ℕ) (s : Store) (L : Ledger) (I : Inv σ p q r s L) (o n :
         live = live-kind (blocks s) v live;
         some = name .some-byte;
         parent = parent;
-        absent = ap (λ (x : ℕ). entries x (view s) d text) (sym (I .nams)) ∙ absent;
+        absent = ap (λ (x : ℕ). entriesAt x (view s) d text) (sym (I .nams)) ∙ absent;
       }
 
   pub create-inv : Owes σ p q r s (createObject s o n v d text)
@@ -273,8 +273,8 @@ module _ (σ p q r : ℕ) (s : Store) (L : Ledger) (I : Inv σ p q r s L) (o n :
       }
 
 -- ---- the fourth edit: an object and its name are removed
-module _ (σ p q r : ℕ) (s : Store) (L : Ledger) (I : Inv σ p q r s L) (n : ℕ) (used : Used (view s) n)
-    (empty : (m : ℕ) → Used (view s) m → view s .dir m ≢ nameAt s n .child) where
+module _ (σ p q r : ℕ) (s : Store) (L : Ledger) (I : Inv σ p q r s L) (n : ℕ) (used : UsedIn (view s) n)
+    (empty : (m : ℕ) → UsedIn (view s) m → view s .dir m ≢ nameAt s n .child) where
   o : ℕ
   o = nameAt s n .child
 
@@ -285,7 +285,7 @@ module _ (σ p q r : ℕ) (s : Store) (L : Ledger) (I : Inv σ p q r s L) (n : �
   unfolding o
   child = child-at s n nl
 
-  alive : Live (view s) o
+  alive : LiveIn (view s) o
   alive = let l = tree σ p q r s L I .flat .ends n used in omega (arith, ap (view s .kind) child)
 
   ol : o < objects s
@@ -304,7 +304,7 @@ module _ (σ p q r : ℕ) (s : Store) (L : Ledger) (I : Inv σ p q r s L) (n : �
   unfolding u o
   removal = remove-object s n o refl (good σ p q r s L I .sound) nl ol (rec .generation) (held-range s o rec)
 
-  single : namings q (view s) o ≤ 1
+  single : namingsIn q (view s) o ≤ 1
   single = lone p q (view s) (tree σ p q r s L I .flat) o alive
 
   pub removed-of : Removed p q (view s) (view (removeObject s n)) (nameAt s n .child) n 0 0
@@ -331,7 +331,7 @@ module _ (σ p q r : ℕ) (s : Store) (L : Ledger) (I : Inv σ p q r s L) (n : �
             record {
               valid = valid-by p q u
                   (remove-object-still s (good σ p q r s L I) n nl used-record
-                  (λ m l d x. let y : Used (view s) m = omega (arith, ap length (text-at s m l), text-long s (I .valid .good-names) m l) in (
+                  (λ m l d x. let y : UsedIn (view s) m = omega (arith, ap length (text-at s m l), text-long s (I .valid .good-names) m l) in (
                     (λ z. d (one-name p q (view s) (T .flat) o m n single (y, child-at s m l ∙ z) (used, child))),
                     (λ z. empty m y (dir-at s m l ∙ z)),
                   )) .good)
@@ -352,8 +352,8 @@ module _ (σ p q r : ℕ) (s : Store) (L : Ledger) (I : Inv σ p q r s L) (n : �
       }
 
 -- ---- the fifth edit: a name is moved
-module _ (σ p q r : ℕ) (s : Store) (L : Ledger) (I : Inv σ p q r s L) (n d : ℕ) (text : List ℕ) (used : Used (view s) n)
-    (name : GoodName text) (below : Below 256 text) (parent : view s .kind d ≡ 2) (absent : entries (names s) (view s) d text ≡ 0)
+module _ (σ p q r : ℕ) (s : Store) (L : Ledger) (I : Inv σ p q r s L) (n d : ℕ) (text : List ℕ) (used : UsedIn (view s) n)
+    (name : GoodName text) (below : Below 256 text) (parent : view s .kind d ≡ 2) (absent : entriesAt (names s) (view s) d text ≡ 0)
     (clear : (qs : List ℕ) → Path (view s) d qs → Avoids (view s) (nameAt s n .child) d qs) where
   m : Store
   m = moveName s n d text
@@ -385,7 +385,7 @@ module _ (σ p q r : ℕ) (s : Store) (L : Ledger) (I : Inv σ p q r s L) (n d :
         used = used;
         some = name .some-byte;
         parent = parent;
-        absent = ap (λ (x : ℕ). entries x (view s) d text) (sym (I .nams)) ∙ absent;
+        absent = ap (λ (x : ℕ). entriesAt x (view s) d text) (sym (I .nams)) ∙ absent;
         clear = λ qs a. subst (λ (x : ℕ). Avoids (view s) x d qs) (sym (child-at s n ml)) (clear qs a);
       }
 

@@ -8,7 +8,7 @@ use native.Mathlib.Omega.{arith}
 use Rattle.kinds.specs.Numbers.{mostObjects, spentGeneration}
 use Rattle.history.specs.Book.{handleBytes}
 use Rattle.history.proofs.Sum.{ind, ind-same, ind-yes, ind-no}
-use Rattle.history.proofs.View.{View, Live}
+use Rattle.history.proofs.View.{View, LiveIn}
 use Rattle.history.proofs.Tree.{Tree, live?}
 use Rattle.history.proofs.Change.{Created, Removed, Moved}
 use Rattle.history.proofs.Handles.{same-object, same-generation}
@@ -24,7 +24,7 @@ Issued σ v h = (o : ℕ) × (g : ℕ) × (h ≡ handleBytes σ o g) × (g < iss
 
 -- h is the handle of a live object
 abbrev pub Current : ℕ → View → List ℕ → Type 0
-Current σ v h = (o : ℕ) × Live v o × (h ≡ handleIn σ v o)
+Current σ v h = (o : ℕ) × LiveIn v o × (h ≡ handleIn σ v o)
 
 pub record Issues (P σ : ℕ) (v : View) (given : List (List ℕ)) : Type 0 where
   pub small : P ≤ mostObjects

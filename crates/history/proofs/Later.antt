@@ -9,7 +9,7 @@ use Rattle.spec.specs.Image.{Store}
 use Rattle.history.specs.Book.{Line, Book, Ledger, handleBytes}
 use Rattle.history.specs.Statement.{In, HasLine, IsRemoved, StandApart}
 use Rattle.history.proofs.Sum.{ind-yes, ind-no}
-use Rattle.history.proofs.View.{Live}
+use Rattle.history.proofs.View.{LiveIn}
 use Rattle.history.proofs.Tree.{live?}
 use Rattle.history.proofs.Handles.{same-object, same-generation}
 use Rattle.history.proofs.Issue.{issued, issued-small}
@@ -19,7 +19,7 @@ use Rattle.history.proofs.Lines.{current-lined, lined-current, stand-ap
 use Rattle.history.proofs.Counts.{given-or}
 
 module _ (σ p q r : ℕ) (s : Store) (L : Ledger) (I : Inv σ p q r s L) where
-  pub small-live : (o : ℕ) → Live (view s) o → (o < 4294967296) × (view s .gen o < 4294967296) × (o < p)
+  pub small-live : (o : ℕ) → LiveIn (view s) o → (o < 4294967296) × (view s .gen o < 4294967296) × (o < p)
   small-live o l =
       let T = tree σ p q r s L I in
       (omega (arith, T .flat .past o l, T .flat .few), omega (arith, I .issues .few o), T .flat .past o l)
@@ -30,7 +30,7 @@ module _ (σ p q r : ℕ) (s : Store) (L : Ledger) (I : Inv σ p q r s L) where
       let (o, k, e, l) = I .issues .each g .0 m in
       let z = issued-small p σ (view s) (L .given) (I .issues) o k l in
       ⊎-elim
-      (λ (x : Live (view s) o × (k ≡ view s .gen o)). let (y, a, b, c) = current-lined σ p q r s L I o (x .0) in
+      (λ (x : LiveIn (view s) o × (k ≡ view s .gen o)). let (y, a, b, c) = current-lined σ p q r s L I o (x .0) in
       absurd (n (view s .kind o) (y, a, b ∙ ap (handleBytes σ o) (sym (x .1)) ∙ sym e, c)))
       (λ (x : k < view s .gen o). (o, k, e, x, z .0, z .2))
       (given-or σ p q r s L I o k l)
@@ -45,7 +45,7 @@ module _ (σ p q r : ℕ) (s t : Store) (L M : Ledger) (I : Inv σ p q r s L) (J
       let back : (j : Line) → In j (l ∷ L .book) → In j (M .book) = λ j. subst (λ (c : Book). In j c) (sym e) in
       let first = back l (List·Memᴰ·head refl) in
       ⊎-elim
-      (λ (y : Live (view s) o × (g ≡ view s .gen o)).
+      (λ (y : LiveIn (view s) o × (g ≡ view s .gen o)).
       let (w, a, b, c) = current-lined σ p q r s L I o (y .0) in
       let same : l ≡ w = one-line σ p q r t M J l w first (back w (List·Memᴰ·tail a)) (x ∙ ap (handleBytes σ o) (y .1) ∙ sym b) in
       subst StandApart e (stand-apart σ p q r t M J) .0 w a (ap (λ (j : Line). j .standing) (sym same)))
@@ -80,7 +80,7 @@ module _ (σ p q r : ℕ) (s t : Store) (L M : Ledger) (I : Inv σ p q r s L) (J
 
 -- a handle with a line, and with one after further requests: its record is live with its generation and type in between
 pub same-between : (σ p q r : ℕ) (s t u : Store) (L N : Ledger) → Inv σ p q r s L → Inv σ p q r u N
-    → Grew (view s) (view t) → Grew (view t) (view u) → (o : ℕ) → Live (view s) o → (j : ℕ) → HasLine (N .book) (handleBytes σ o (view s .gen o)) j
+    → Grew (view s) (view t) → Grew (view t) (view u) → (o : ℕ) → LiveIn (view s) o → (j : ℕ) → HasLine (N .book) (handleBytes σ o (view s .gen o)) j
     → (view t .gen o ≡ view s .gen o) × (view t .kind o ≡ view s .kind o)
 same-between σ p q r s t u L N I K G H o v j x =
     let (i, w, a, b) = lined-current σ p q r u N K (handleBytes σ o (view s .gen o)) j x in

@@ -18,7 +18,7 @@ use Rattle.history.specs.Book.{asRoot, under, Line, Book, Ledger}
 use Rattle.history.specs.Statement.{In, HasLine, HasName, StoredObject, StoredName, StandApart}
 use Rattle.history.proofs.Sum.{ind-yes, ind-true, ind-le}
 use Rattle.history.proofs.Lists.{All, times-all}
-use Rattle.history.proofs.View.{Live, Used, named-by, not-named}
+use Rattle.history.proofs.View.{LiveIn, UsedIn, named-by, not-named}
 use Rattle.history.proofs.Tree.{Tree, lone, one-name}
 use Rattle.history.proofs.Handles.{same-object}
 use Rattle.history.proofs.Agree.{Agrees, handleIn, lineOf, rootLine, used?, all-used, own, not-root}
@@ -95,11 +95,11 @@ module _ (σ p q r : ℕ) (s : Store) (L : Ledger) (I : Inv σ p q r s L) where
   A : Agrees σ (view s) (L .book)
   A = I .agrees
 
-  order-used : (n : ℕ) → 0 < times n (A .order) → Used (view s) n
+  order-used : (n : ℕ) → 0 < times n (A .order) → UsedIn (view s) n
   order-used n k = ind-true (used? (view s) n) (omega (arith, A .each n))
 
   -- ---- the lines, one by one
-  pub in-book : (l : Line) → In l (L .book) ↔ ((l ≡ rootLine σ (view s)) ⊎ ((n : ℕ) × Used (view s) n × (lineOf σ (view s) n ≡ l)))
+  pub in-book : (l : Line) → In l (L .book) ↔ ((l ≡ rootLine σ (view s)) ⊎ ((n : ℕ) × UsedIn (view s) n × (lineOf σ (view s) n ≡ l)))
   unfolding A
   in-book l = (
     (λ m. ⊎-elim
@@ -110,26 +110,26 @@ module _ (σ p q r : ℕ) (s : Store) (L : Ledger) (I : Inv σ p q r s L) where
     (λ x. subst (λ (b : Book). List·Memᴰ l b) (sym (A .lines)) (go x)),
   )
     where
-      go : (l ≡ rootLine σ (view s)) ⊎ ((n : ℕ) × Used (view s) n × (lineOf σ (view s) n ≡ l))
+      go : (l ≡ rootLine σ (view s)) ⊎ ((n : ℕ) × UsedIn (view s) n × (lineOf σ (view s) n ≡ l))
           → List·Memᴰ l (map (lineOf σ (view s)) (A .order) ++ (rootLine σ (view s) ∷ []))
       go (inl e) = Memᴰ·append-right (map (lineOf σ (view s)) (A .order)) (List·Memᴰ·head e)
       go (inr (n, u, e)) = Memᴰ·append-left (rootLine σ (view s) ∷ [])
           (Memᴰ·cast (sym e) (Memᴰ·map (lineOf σ (view s)) (times-member n (A .order) (omega (arith, A .each n, ind-yes (used? (view s) n) u)))))
 
   -- the handle of a live object has a line, of its type, and every line is one of a live object
-  pub current-lined : (o : ℕ) → Live (view s) o → HasLine (L .book) (handleIn σ (view s) o) (view s .kind o)
+  pub current-lined : (o : ℕ) → LiveIn (view s) o → HasLine (L .book) (handleIn σ (view s) o) (view s .kind o)
   unfolding T
   current-lined o l = by-cases (ℕ-discrete o 0)
       (λ z. (rootLine σ (view s), in-book (rootLine σ (view s)) .1 (inl refl), ap (handleIn σ (view s)) (sym z), ap (view s .kind) (sym z)))
       (λ z. let (n, k, x) = named-by q (view s) o (T .flat .once o z l .0) in
       (lineOf σ (view s) n, in-book (lineOf σ (view s) n) .1 (inr (n, x .0, refl)), ap (handleIn σ (view s)) (x .1), ap (view s .kind) (x .1)))
 
-  pub lined-current : (h : List ℕ) (kind : ℕ) → HasLine (L .book) h kind → (o : ℕ) × Live (view s) o × (h ≡ handleIn σ (view s) o) × (view s .kind o ≡ kind)
+  pub lined-current : (h : List ℕ) (kind : ℕ) → HasLine (L .book) h kind → (o : ℕ) × LiveIn (view s) o × (h ≡ handleIn σ (view s) o) × (view s .kind o ≡ kind)
   unfolding T
   lined-current h kind (l, m, e, f) = go (in-book l .0 m)
     where
-      go : (l ≡ rootLine σ (view s)) ⊎ ((n : ℕ) × Used (view s) n × (lineOf σ (view s) n ≡ l))
-          → (o : ℕ) × Live (view s) o × (h ≡ handleIn σ (view s) o) × (view s .kind o ≡ kind)
+      go : (l ≡ rootLine σ (view s)) ⊎ ((n : ℕ) × UsedIn (view s) n × (lineOf σ (view s) n ≡ l))
+          → (o : ℕ) × LiveIn (view s) o × (h ≡ handleIn σ (view s) o) × (view s .kind o ≡ kind)
       go (inl x) = (0, omega (arith, T .flat .root), sym e ∙ ap (λ (y : Line). y .handle) x, ap (λ (y : Line). y .kind) (sym x) ∙ f)
       go (inr (n, u, x)) = (view s .child n, T .flat .ends n u, sym e ∙ ap (λ (y : Line). y .handle) (sym x), ap (λ (y : Line). y .kind) x ∙ f)
 
@@ -146,7 +146,7 @@ module _ (σ p q r : ℕ) (s : Store) (L : Ledger) (I : Inv σ p q r s L) where
   )
 
   -- the handles of a name record's two objects
-  dir-handle : (n : ℕ) → Used (view s) n → handleOf s (nameAt s n .directory) ≡ handleIn σ (view s) (view s .dir n)
+  dir-handle : (n : ℕ) → UsedIn (view s) n → handleOf s (nameAt s n .directory) ≡ handleIn σ (view s) (view s .dir n)
   unfolding T
   dir-handle n u =
       let l = used-in s n u in
@@ -155,7 +155,7 @@ module _ (σ p q r : ℕ) (s : Store) (L : Ledger) (I : Inv σ p q r s L) where
       handle-seen σ p q r s L I (nameAt s n .directory) (live-in s (nameAt s n .directory) (omega (arith, ap (view s .kind) e))) ∙ ap
       (handleIn σ (view s)) (sym e)
 
-  child-handle : (n : ℕ) → Used (view s) n → handleOf s (nameAt s n .child) ≡ handleIn σ (view s) (view s .child n)
+  child-handle : (n : ℕ) → UsedIn (view s) n → handleOf s (nameAt s n .child) ≡ handleIn σ (view s) (view s .child n)
   unfolding T
   child-handle n u =
       let l = used-in s n u in
@@ -175,7 +175,7 @@ module _ (σ p q r : ℕ) (s : Store) (L : Ledger) (I : Inv σ p q r s L) where
   )
     where
       back : (l : Line) → l .handle ≡ h → l .standing ≡ under d text
-          → (l ≡ rootLine σ (view s)) ⊎ ((n : ℕ) × Used (view s) n × (lineOf σ (view s) n ≡ l)) → StoredName s d h text
+          → (l ≡ rootLine σ (view s)) ⊎ ((n : ℕ) × UsedIn (view s) n × (lineOf σ (view s) n ≡ l)) → StoredName s d h text
       back l e f (inl x) = let y : asRoot ≡ under d text = ap (λ (z : Line). z .standing) (sym x) ∙ f in let z : _≡_ {A = ℕ} 0 1 = cc in absurd (omega arith)
       back l e f (inr (n, u, x)) =
           let k = used-in s n u in
@@ -185,14 +185,14 @@ module _ (σ p q r : ℕ) (s : Store) (L : Ledger) (I : Inv σ p q r s L) where
           (n, k, used-of s (I .valid .good-names) n k u, dir-handle n u ∙ a, child-handle n u ∙ ap (λ (z : Line). z .handle) x ∙ e, sym (text-at s n k) ∙ b)
 
   -- no line stands twice
-  apart : (ks : List ℕ) → All (Used (view s)) ks → ((n : ℕ) → times n ks ≤ 1) → StandApart (map (lineOf σ (view s)) ks ++ (rootLine σ (view s) ∷ []))
+  apart : (ks : List ℕ) → All (UsedIn (view s)) ks → ((n : ℕ) → times n ks ≤ 1) → StandApart (map (lineOf σ (view s)) ks ++ (rootLine σ (view s) ∷ []))
   unfolding times T
   apart [] h o = ((λ k m e. List·Memᴰ·not-nil m), tt)
   apart (n ∷ ks) h o = (
     (λ k m e. ⊎-elim
         (λ (x : List·Memᴰ k (map (lineOf σ (view s)) ks)).
         let (i, j, y) = Memᴰ·of-map (lineOf σ (view s)) ks x in
-        let u : Used (view s) i = times-all (Used (view s)) ks i (h .1) (member-times i ks j) in
+        let u : UsedIn (view s) i = times-all (UsedIn (view s)) ks i (h .1) (member-times i ks j) in
         let z : i ≡ n = own p q σ (view s) T n (h .0) i u (ap (λ (l : Line). l .standing) y ∙ e) in
         omega (arith, o i, member-times i ks j, ap bit (eq-eqb n i (sym z))))
         (λ (x : List·Memᴰ k (rootLine σ (view s) ∷ [])).
@@ -212,18 +212,18 @@ module _ (σ p q r : ℕ) (s : Store) (L : Ledger) (I : Inv σ p q r s L) where
   one-line k l a b e = go (in-book k .0 a) (in-book l .0 b)
     where
       At : Line → Type 0
-      At l = (l ≡ rootLine σ (view s)) ⊎ ((n : ℕ) × Used (view s) n × (lineOf σ (view s) n ≡ l))
+      At l = (l ≡ rootLine σ (view s)) ⊎ ((n : ℕ) × UsedIn (view s) n × (lineOf σ (view s) n ≡ l))
 
-      small : (o : ℕ) → Live (view s) o → o < 4294967296
+      small : (o : ℕ) → LiveIn (view s) o → o < 4294967296
       small o v = omega (arith, T .flat .past o v, T .flat .few)
 
-      object : (i j : ℕ) → Live (view s) i → Live (view s) j → handleIn σ (view s) i ≡ handleIn σ (view s) j → i ≡ j
+      object : (i j : ℕ) → LiveIn (view s) i → LiveIn (view s) j → handleIn σ (view s) i ≡ handleIn σ (view s) j → i ≡ j
       object i j u v = same-object σ i (view s .gen i) j (view s .gen j) (small i u) (small j v)
 
-      root : Live (view s) 0
+      root : LiveIn (view s) 0
       root = omega (arith, T .flat .root)
 
-      unnamed : (n : ℕ) → Used (view s) n → handleIn σ (view s) (view s .child n) ≡ handleIn σ (view s) 0 → k ≡ l
+      unnamed : (n : ℕ) → UsedIn (view s) n → handleIn σ (view s) (view s .child n) ≡ handleIn σ (view s) 0 → k ≡ l
       unnamed n u h = absurd (not-named q (view s) 0 n (T .flat .never) (T .flat .rows n u) (u, object (view s .child n) 0 (T .flat .ends n u) root h))
 
       of : {x y : Line} → x ≡ y → x .handle ≡ y .handle

@@ -27,7 +27,7 @@ use Rattle.laws.proofs.SameReads.{freeBlockCount-reads}
 use Rattle.laws.proofs.SetAttributes.{FitsSettable, Allowed, new-fits, new-live, mtime-and-ctime-fits, mtime-and-ctime-allowed}
 use Rattle.laws.proofs.Valid.{GoodName, LiveObject}
 use Rattle.history.specs.Book.{under, Ledger, handleBytes, someAt, add}
-use Rattle.history.proofs.View.{Live, At, entries}
+use Rattle.history.proofs.View.{LiveIn, At, entriesAt}
 use Rattle.history.proofs.Agree.{handleIn, none-at, some-at}
 use Rattle.history.proofs.Seen.{view, kind-at, gen-at, live-in}
 use Rattle.history.proofs.Inv.{Inv, Keeps, keeps-refl, keeps-trans, tree, touch-inv, resize-inv, created-of, create-keeps}
@@ -54,7 +54,7 @@ module _ (σ p q r : ℕ) (s : Store) (L : Ledger) (I : Inv σ p q r s L) (c : C
   -- ---- a new object
   module _ (kind o n d : ℕ) (text : List ℕ) (a : Settable) (which : (kind ≡ 1) ⊎ (kind ≡ 2)) (room : NewRoom s (sizeSet (a .size) 0) o n)
       (f : FitsSettable a) (ok : Allowed a)
-      (good : GoodName text) (below : Below 256 text) (parent : view s .kind d ≡ 2) (absent : entries (names s) (view s) d text ≡ 0)
+      (good : GoodName text) (below : Below 256 text) (parent : view s .kind d ≡ 2) (absent : entriesAt (names s) (view s) d text ≡ 0)
       (file : isGiven (a .size) ≡ true → kind ≡ 1) where
     v : Object
     v = newObject (c .clock) kind a
@@ -152,10 +152,10 @@ module _ (σ p q r : ℕ) (s : Store) (L : Ledger) (I : Inv σ p q r s L) (c : C
         handle-seen σ p q r u (withLine σ s L o kind d text) J o (omega (arith, J .objs, I .objs, room .object-below))
         ∙ ap (handleBytes σ o) (new-keeps .gens o)
 
-    pub new-alive : Live (view (newEdit s c kind o n d text a)) o
+    pub new-alive : LiveIn (view (newEdit s c kind o n d text a)) o
     new-alive = go which
       where
-        go : (kind ≡ 1) ⊎ (kind ≡ 2) → Live (view (newEdit s c kind o n d text a)) o
+        go : (kind ≡ 1) ⊎ (kind ≡ 2) → LiveIn (view (newEdit s c kind o n d text a)) o
         go (_⊎_.inl e) = let x = second .kinds o (omega (arith, made-kind)) in omega (arith, made-kind, third .kinds o (omega (arith, made-kind)))
         go (_⊎_.inr e) = let x = second .kinds o (omega (arith, made-kind)) in omega (arith, made-kind, third .kinds o (omega (arith, made-kind)))
 
@@ -167,12 +167,12 @@ module _ (σ p q r : ℕ) (s : Store) (L : Ledger) (I : Inv σ p q r s L) (c : C
     pub directory-handle : h ≡ handleIn σ (view s) d
     directory-handle = handle-reached s h d w hb ∙ handle-seen σ p q r s L I d (w .below)
 
-    pub line-added : (o kind : ℕ) → entries (names s) (view s) d text ≡ 0 → add (handleIn σ (view s) o) kind h text L ≡ withLine σ s L o kind d text
+    pub line-added : (o kind : ℕ) → entriesAt (names s) (view s) d text ≡ 0 → add (handleIn σ (view s) o) kind h text L ≡ withLine σ s L o kind d text
     line-added o kind z =
         add-new (handleIn σ (view s) o) kind h text L
         (ap (λ (x : List ℕ). someAt x text (L .book)) directory-handle
         ∙ none-at p q σ (view s) (tree σ p q r s L I) (L .book) (I .agrees) d text directory-kind
-        (ap (λ (x : ℕ). entries x (view s) d text) (sym (I .nams)) ∙ z))
+        (ap (λ (x : ℕ). entriesAt x (view s) d text) (sym (I .nams)) ∙ z))
         ∙ ap (λ (x : List ℕ). record {
           book = record { handle = handleIn σ (view s) o; kind = kind; standing = under x text } ∷ L .book;
           given =

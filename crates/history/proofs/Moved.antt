@@ -7,7 +7,7 @@ use native.Mathlib.Decide.{ℕ-discrete}
 use native.Mathlib.Omega.{arith}
 use lib.ListN.{length}
 use Rattle.history.proofs.Sum.{ind-same, ind-no, ind-le}
-use Rattle.history.proofs.View.{View, Live, Used, names?, at?, namings, entries, Path, namings-set, entries-set}
+use Rattle.history.proofs.View.{View, LiveIn, UsedIn, names?, at?, namingsIn, entriesAt, Path, namings-set, entries-set}
 use Rattle.history.proofs.Tree.{Tree}
 use Rattle.history.proofs.Change.{Moved, path-avoids}
 
@@ -15,7 +15,7 @@ module _ (P Q : ℕ) (v w : View) (q e : ℕ) (t : List ℕ) (T : Tree P Q v) (M
   row : q < Q
   row = T .flat .rows q (M .used)
 
-  before : (p : ℕ) → Used w p → Used v p
+  before : (p : ℕ) → UsedIn w p → UsedIn v p
   before p u = by-cases (ℕ-discrete p q)
       (λ x. omega (arith, ap (λ (y : ℕ). length (v .text y)) x, M .used))
       (λ n. omega (arith, ap length (M .nam .other p n .text)))
@@ -23,13 +23,13 @@ module _ (P Q : ℕ) (v w : View) (q e : ℕ) (t : List ℕ) (T : Tree P Q v) (M
   childs : (p : ℕ) → w .child p ≡ v .child p
   childs p = by-cases (ℕ-discrete p q) (λ x. ap (w .child) x ∙ M .nam .child ∙ ap (v .child) (sym x)) (λ n. M .nam .other p n .child)
 
-  live : (i : ℕ) → Live w i → Live v i
+  live : (i : ℕ) → LiveIn w i → LiveIn v i
   live i l = omega (arith, M .kinds i)
 
-  now : Used w q
+  now : UsedIn w q
   now = omega (arith, M .some, ap length (M .nam .text))
 
-  same-naming : (i : ℕ) → namings Q w i ≡ namings Q v i
+  same-naming : (i : ℕ) → namingsIn Q w i ≡ namingsIn Q v i
   same-naming i = omega (
     arith,
     namings-set Q v w q e (v .child q) t (M .nam) row i,
@@ -69,8 +69,8 @@ module _ (P Q : ℕ) (v w : View) (q e : ℕ) (t : List ℕ) (T : Tree P Q v) (M
             entries-set Q v w q e (v .child q) t (M .nam) row d u,
             ind-le (at? w q d u),
             M .absent,
-            ap (λ (x : ℕ). entries Q v x u) (sym (M .nam .dir) ∙ h .1),
-            ap (entries Q v e) (sym (M .nam .text) ∙ h .2),
+            ap (λ (x : ℕ). entriesAt Q v x u) (sym (M .nam .dir) ∙ h .1),
+            ap (entriesAt Q v e) (sym (M .nam .text) ∙ h .2),
           ))
           (λ h. omega (arith, entries-set Q v w q e (v .child q) t (M .nam) row d u, T .flat .apart d u, ind-no (at? w q d u) h));
     };

@@ -25,10 +25,10 @@ use Rattle.laws.proofs.RecordRange.{below-part}
 use Rattle.laws.proofs.GoodRecords.{GoodClock}
 use Rattle.laws.proofs.Valid.{passes-valid}
 use Rattle.history.specs.Book.{Ledger, noted, note, firstLedger, handleBytes, asRoot}
-use Rattle.history.specs.Run.{Request, Lent, AllLent, outcome, replyTo, State, step, run}
+use Rattle.history.specs.Run.{Request, Lent, AllLent, outcomeOf, replyTo, State, step, run}
 use Rattle.history.specs.Statement.{Asks}
 use Rattle.history.proofs.Sum.{ind-yes, ind-no}
-use Rattle.history.proofs.View.{Used}
+use Rattle.history.proofs.View.{UsedIn}
 use Rattle.history.proofs.Tree.{live?}
 use Rattle.history.proofs.Agree.{used?}
 use Rattle.history.proofs.Issue.{issued}
@@ -91,9 +91,9 @@ module _ (σ p q r : ℕ) (s : Store) (L : Ledger) (I : Inv σ p q r s L) where
   clocked x a l k = record { seconds = l .seconds; nanoseconds = k .clock }
 
   -- every request
-  pub next : (x : Request) → Lent x → Owes σ p q r s (outcome s x .store) (note (x .call) (replyTo s x) L)
+  pub next : (x : Request) → Lent x → Owes σ p q r s (outcomeOf s x .store) (note (x .call) (replyTo s x) L)
   next x l = ⊎-elim
-      (λ (i : Idle s x). quiet (outcome s x .store) (note (x .call) (replyTo s x) L) (i .store) (i .ledger L))
+      (λ (i : Idle s x). quiet (outcomeOf s x .store) (note (x .call) (replyTo s x) L) (i .store) (i .ledger L))
       (λ (k : (a : Arguments) × Asks x a).
       let a = k .0 in
       let z = acted s x a (k .1) (passes-valid s (I .valid)) in
@@ -132,7 +132,7 @@ module _ (σ p q r : ℕ) (clock : Time) (h : FormatAsked σ p q r clock) where
       (kind-at s i l ∙ ap (λ (v : Object). v .kind) e, gen-at s i l ∙ ap (λ (v : Object). v .generation) e))
       (λ l. (within-no (objects s) 0 i (objectAt s i .kind) (omega arith), within-no (objects s) 0 i (objectAt s i .generation) (omega arith)))
 
-  none-used : (n : ℕ) → ¬ Used (view s) n
+  none-used : (n : ℕ) → ¬ UsedIn (view s) n
   unfolding s
   none-used n u =
       let l = used-in s n u in

@@ -27,7 +27,7 @@ use Rattle.spec.specs.Procedures.{cut, act}
 use Rattle.spec.specs.Procedures.Attributes.{isGiven, sizeSet, badAttributes, lacksRoom, differs, checkSetattr, setattrEdit, edited, setattr}
 use Rattle.spec.specs.Procedures.Data.{reachRegular, grown, checkWrite, writeDone, write}
 use Rattle.spec.specs.Procedures.Names.{Target, existing, isNew, roomForNew, checkNew, checkExisting, checkAttributed, checkCreate, createEdit}
-use Rattle.spec.specs.Procedures.Names.{settableOf, create, checkMkdir, mkdir, createdIn, newEdit}
+use Rattle.spec.specs.Procedures.Names.{settableIn, create, checkMkdir, mkdir, createdIn, newEdit}
 use Rattle.spec.specs.Results.{Result, failChanging, settle}
 use Rattle.spec.specs.Room.{isRegular, isDirectory, isAvailable, isUsedName, sizeOf, need, freeBlockCount, availableCount, availableObject}
 use Rattle.spec.specs.Room.{freeNameCount, availableName, findName}
@@ -218,7 +218,7 @@ module _ (σ p q r : ℕ) (s : Store) (L : Ledger) (I : Inv σ p q r s L) where
       let c = x .context in
       let size = sizeSet (a .size) 0 in
       let checks : checkCreate s h text manner ≡ bind (isNew (roomForNew s size)) (λ t. passed (d, t)) = either which in
-      let result : Checked (ℕ × Target) → Result = λ y. settle s (failChanging s h) y (λ p. createEdit s c (p .0) text (settableOf manner) (p .1)) .result in
+      let result : Checked (ℕ × Target) → Result = λ y. settle s (failChanging s h) y (λ p. createEdit s c (p .0) text (settableIn manner) (p .1)) .result in
       let A = answer-to σ p q r s L I x (Call.Create place manner) k in
       by-room (x .call) (replyTo s x) (Call.Create place manner) _ A (RoomMissing σ p q r s L size) (room? size)
       (λ m. subst (λ (y : Checked (ℕ × Target)). Says (result y) NOSPC)

@@ -73,12 +73,12 @@ says : (r : Result) (n : ℕ) → Shows r → statusOf r ≡ n → Says r n
 says r n t e = record { status = e; some = λ z. subst Shows z t }
 
 -- ---- a status that is not NOSPC, or is it and room was asked for
-abbrev Told : Store → Request → ℕ → Type 0
-Told s x n = (n < 4294967296) × (n ≡ NOSPC → (m : Room) × AsksStore s x m)
+abbrev ToldOnly : Store → Request → ℕ → Type 0
+ToldOnly s x n = (n < 4294967296) × (n ≡ NOSPC → (m : Room) × AsksStore s x m)
 
 module _ (s : Store) (x : Request) where
   Q : ℕ → Type 0
-  Q = Told s x
+  Q = ToldOnly s x
 
   plain : (n : ℕ) → Plain n → Q n
   unfolding Q

@@ -10,7 +10,7 @@ use Rattle.spec.specs.Image.{Store, objects, nameAt}
 use Rattle.spec.specs.Room.{isLive}
 use Rattle.history.specs.Book.{Standing, asRoot, under, Line, Ledger}
 use Rattle.history.specs.Statement.{HasLine, StoredPath, BookPath, liveObjects}
-use Rattle.history.proofs.View.{Live, Used, Path}
+use Rattle.history.proofs.View.{LiveIn, UsedIn, Path}
 use Rattle.history.proofs.Tree.{Tree, lone, path-same, path-short}
 use Rattle.history.proofs.Handles.{same-object}
 use Rattle.history.proofs.Agree.{handleIn, lineOf, rootLine}
@@ -41,7 +41,7 @@ module _ (σ p q r : ℕ) (s : Store) (L : Ledger) (I : Inv σ p q r s L) where
             (of-stored ns (nameAt s n .directory) b),
       )
 
-  one-path : (o : ℕ) → Live (view s) o → (ns : List ℕ) × Path (view s) o ns × ((ms : List ℕ) → Path (view s) o ms → ms ≡ ns) × (suc (length ns) ≤ liveObjects s)
+  one-path : (o : ℕ) → LiveIn (view s) o → (ns : List ℕ) × Path (view s) o ns × ((ms : List ℕ) → Path (view s) o ms → ms ≡ ns) × (suc (length ns) ≤ liveObjects s)
   unfolding T
   one-path o l =
       let w = T .leads o l in (
@@ -73,27 +73,27 @@ module _ (σ p q r : ℕ) (s : Store) (L : Ledger) (I : Inv σ p q r s L) where
   clash : (x : Standing) (d text : List ℕ) → x ≡ asRoot → x ≡ under d text → ⊥
   clash x d text a b = let z : _≡_ {A = ℕ} 0 1 = cc in omega arith
 
-  small : (o : ℕ) → Live (view s) o → o < 4294967296
+  small : (o : ℕ) → LiveIn (view s) o → o < 4294967296
   unfolding T
   small o l = omega (arith, T .flat .past o l, T .flat .few)
 
-  same : (i j : ℕ) → Live (view s) i → Live (view s) j → handleIn σ (view s) i ≡ handleIn σ (view s) j → i ≡ j
+  same : (i j : ℕ) → LiveIn (view s) i → LiveIn (view s) j → handleIn σ (view s) i ≡ handleIn σ (view s) j → i ≡ j
   same i j a b e = same-object σ i (view s .gen i) j (view s .gen j) (small i a) (small j b) e
 
-  of-lines : (ls : List Line) (o : ℕ) → Live (view s) o → BookPath (L .book) (handleIn σ (view s) o) ls
+  of-lines : (ls : List Line) (o : ℕ) → LiveIn (view s) o → BookPath (L .book) (handleIn σ (view s) o) ls
       → (ns : List ℕ) × (ls ≡ map line ns) × Path (view s) o ns
   unfolding line T
   of-lines [] o v (l, m, e, f) = go (in-book σ p q r s L I l .0 m)
     where
-      go : (l ≡ rootLine σ (view s)) ⊎ ((n : ℕ) × Used (view s) n × (lineOf σ (view s) n ≡ l))
+      go : (l ≡ rootLine σ (view s)) ⊎ ((n : ℕ) × UsedIn (view s) n × (lineOf σ (view s) n ≡ l))
           → (ns : List ℕ) × (_≡_ {A = List Line} [] (map line ns)) × Path (view s) o ns
       go (inl x) = ([], refl, same o 0 v (omega (arith, T .flat .root)) (sym e ∙ ap (λ (k : Line). k .handle) x))
       go (inr (n, u, x)) = absurd (clash (l .standing) (handleIn σ (view s) (view s .dir n)) (view s .text n) f (ap (λ (k : Line). k .standing) (sym x)))
   of-lines (l ∷ ls) o v (m, e, (d, text, f, w)) = go (in-book σ p q r s L I l .0 m)
       (λ j a x. of-lines ls j a (subst (λ (h : List ℕ). BookPath (L .book) h ls) x w))
     where
-      go : (l ≡ rootLine σ (view s)) ⊎ ((n : ℕ) × Used (view s) n × (lineOf σ (view s) n ≡ l))
-          → ((j : ℕ) → Live (view s) j → d ≡ handleIn σ (view s) j → (ns : List ℕ) × (ls ≡ map line ns) × Path (view s) j ns)
+      go : (l ≡ rootLine σ (view s)) ⊎ ((n : ℕ) × UsedIn (view s) n × (lineOf σ (view s) n ≡ l))
+          → ((j : ℕ) → LiveIn (view s) j → d ≡ handleIn σ (view s) j → (ns : List ℕ) × (ls ≡ map line ns) × Path (view s) j ns)
           → (ns : List ℕ) × (l ∷ ls ≡ map line ns) × Path (view s) o ns
       go (inl x) r = absurd (clash (l .standing) d text (ap (λ (k : Line). k .standing) x) f)
       go (inr (n, u, x)) r =

@@ -15,7 +15,7 @@ use Rattle.spec.specs.Header.{header}
 use Rattle.spec.specs.Rpc.{nfs, judge}
 use Rattle.laws.proofs.ArgumentRange.{FitsArguments, arguments-fit}
 use Rattle.laws.proofs.Range.{Below}
-use Rattle.history.specs.Book.{readArguments, judgedArguments, headedArguments, asked}
+use Rattle.history.specs.Book.{argumentsGot, judgedArguments, headedArguments, asked}
 
 pub asked-fits : (call : List ℕ) → Below 256 call → (a : Arguments) → asked call ≡ some a → FitsArguments a
 unfolding asked
@@ -24,7 +24,7 @@ asked-fits call b a e = headed (header call 0) e
     none-some : {B : Type 0} → none ≡ some a → B
     none-some e = let z : _≡_ {A = ℕ} 0 1 = cc in absurd (omega arith)
 
-    read : (p at : ℕ) (r : Read Arguments) → arguments p call at ≡ r → readArguments r ≡ some a → FitsArguments a
+    read : (p at : ℕ) (r : Read Arguments) → arguments p call at ≡ r → argumentsGot r ≡ some a → FitsArguments a
     read p at (bad q) f e = none-some e
     read p at (got x q) f e = let z : x ≡ a = cc in arguments-fit p call b at a q (f ∙ ap (λ (y : Arguments). got y q) z)
 

@@ -6,7 +6,7 @@ use Prim.Native.Nat.{ℕ, _<_}
 use native.Mathlib.Omega.{arith}
 use lib.ListN.{length}
 use Rattle.history.proofs.Sum.{ind, ind-no}
-use Rattle.history.proofs.View.{View, Live, Used, names?, at?, namings-set, entries-set}
+use Rattle.history.proofs.View.{View, LiveIn, UsedIn, names?, at?, namings-set, entries-set}
 use Rattle.history.proofs.Tree.{Tree, one-name}
 use Rattle.history.proofs.Change.{Removed, path-avoids, avoid-empty}
 
@@ -15,7 +15,7 @@ module _ (P Q : ℕ) (v w : View) (o q d c : ℕ) (T : Tree P Q v) (G : Removed 
   row = T .flat .rows q (G .named .0)
 
   -- a record that is used after is another than q, and was used before
-  still : (p : ℕ) → Used w p → (p ≢ q) × Used v p
+  still : (p : ℕ) → UsedIn w p → (p ≢ q) × UsedIn v p
   still p u =
       let n : p ≢ q = λ e. omega (arith, ap (λ (x : ℕ). length (w .text x)) e, ap length (G .nam .text)) in
       (n, omega (arith, ap length (G .nam .other p n .text)))
@@ -23,13 +23,13 @@ module _ (P Q : ℕ) (v w : View) (o q d c : ℕ) (T : Tree P Q v) (G : Removed 
   kept : (i : ℕ) → i ≢ o → w .kind i ≡ v .kind i
   kept i n = G .obj .other i n .0
 
-  alive : (i : ℕ) → Live w i → (i ≢ o) × Live v i
+  alive : (i : ℕ) → LiveIn w i → (i ≢ o) × LiveIn v i
   alive i l =
       let n : i ≢ o = λ e. omega (arith, ap (w .kind) e, G .obj .kind) in
       (n, omega (arith, kept i n))
 
   -- no other record names o
-  spared : (p : ℕ) → Used v p → p ≢ q → v .child p ≢ o
+  spared : (p : ℕ) → UsedIn v p → p ≢ q → v .child p ≢ o
   spared p u n e = n (one-name P Q v (T .flat) o p q (G .last) (u, e) (G .named))
 
   removed-name : (i : ℕ) → ind (names? w q i) ≡ 0

@@ -34,7 +34,7 @@ use Rattle.laws.proofs.GoodRecords.{GoodClock}
 use Rattle.laws.proofs.Passed.{Reached, EntryPassed, remove-passed, rmdir-passed, no-entries, RenamePassed, rename-passed}
 use Rattle.laws.proofs.Valid.{true-directory}
 use Rattle.history.specs.Book.{Ledger, strikeLines, strike, moveLines, move, noted, note}
-use Rattle.history.proofs.View.{Live, Used, At, Path, Avoids}
+use Rattle.history.proofs.View.{LiveIn, UsedIn, At, Path, Avoids}
 use Rattle.history.proofs.Tree.{single, path-short, live-bound}
 use Rattle.history.proofs.Walk.{parentIn, outside, outside-file}
 use Rattle.history.proofs.Agree.{handleIn}
@@ -48,7 +48,7 @@ use Rattle.history.proofs.Making.{directory-kind, directory-handle}
 module _ (σ p q r : ℕ) (s : Store) (L : Ledger) (I : Inv σ p q r s L) (c : Context) (clock : GoodClock (c .clock)) where
   -- the object of name record n goes, with its name
   module _ (h text : List ℕ) (d n : ℕ) (w : Reached s h d) (dk : objectAt s d .kind ≡ 2) (hb : Below 256 h) (at : At (view s) n d text)
-      (empty : (m : ℕ) → Used (view s) m → view s .dir m ≢ nameAt s n .child) where
+      (empty : (m : ℕ) → UsedIn (view s) m → view s .dir m ≢ nameAt s n .child) where
     pub removed-owes : Owes σ p q r s (touchDirectory (removeObject s n) c d) (strike h text L)
     unfolding strike
     removed-owes =
@@ -66,10 +66,10 @@ module _ (σ p q r : ℕ) (s : Store) (L : Ledger) (I : Inv σ p q r s L) (c : C
         subst (Owes σ p q r s (touchDirectory t c d)) book (owes-trans σ p q r s t (touchDirectory t c d) M M first (second .owes))
 
   -- no name is in a file, or in a directory without entries
-  file-empty : (o : ℕ) → o < objects s → objectAt s o .kind ≢ 2 → (m : ℕ) → Used (view s) m → view s .dir m ≢ o
+  file-empty : (o : ℕ) → o < objects s → objectAt s o .kind ≢ 2 → (m : ℕ) → UsedIn (view s) m → view s .dir m ≢ o
   file-empty o l f m u e = let k = tree σ p q r s L I .flat .dirs m u in f (sym (kind-at s o l) ∙ ap (view s .kind) (sym e) ∙ k)
 
-  directory-empty : (o : ℕ) → hasEntries s o ≡ false → (m : ℕ) → Used (view s) m → view s .dir m ≢ o
+  directory-empty : (o : ℕ) → hasEntries s o ≡ false → (m : ℕ) → UsedIn (view s) m → view s .dir m ≢ o
   directory-empty o f m u e =
       let l = used-in s m u in
       no-entries s o m f l (omega (arith, ap length (text-at s m l), text-long s (I .valid .good-names) m l)) (sym (dir-at s m l) ∙ e)
@@ -82,7 +82,7 @@ module _ (σ p q r : ℕ) (s : Store) (L : Ledger) (I : Inv σ p q r s L) (c : C
 
   -- ---- REMOVE and RMDIR
   entry-owes : (h text : List ℕ) → Below 256 h → (d n : ℕ) → EntryPassed s h text d n
-      → (((o : ℕ) → o < objects s → nameAt s n .child ≡ o → (m : ℕ) → Used (view s) m → view s .dir m ≢ o))
+      → (((o : ℕ) → o < objects s → nameAt s n .child ≡ o → (m : ℕ) → UsedIn (view s) m → view s .dir m ≢ o))
       → Owes σ p q r s (touchDirectory (removeObject s n) c d) (strike h text L)
   entry-owes h text hb d n w empty =
       let (l, at) = found-name s (I .valid .good-names) d text n (w .found) in
@@ -129,7 +129,7 @@ module _ (σ p q r : ℕ) (s : Store) (L : Ledger) (I : Inv σ p q r s L) (c : C
         given = L .given;
       } in
       let t₁ = moveName s n e title in
-      let live : Live (view s) o = subst (Live (view s)) (child-at s n l) (tree σ p q r s L I .flat .ends n (at .0)) in
+      let live : LiveIn (view s) o = subst (LiveIn (view s)) (child-at s n l) (tree σ p q r s L I .flat .ends n (at .0)) in
       let second = touch-inv σ p q r t₁ M (first .owes .inv) (c .clock) o onlyCtime (omega (arith, first .kinds o live)) clock only-ctime-fits
       only-ctime-allowed in
       let t₂ = setAttributes t₁ (c .clock) o onlyCtime in

@@ -24,16 +24,16 @@ use Rattle.history.specs.Book.{handleBytes, statusIn, isStatus, isOk, ha
 use Rattle.history.proofs.Handles.{word-in}
 
 -- an accepted reply whose results begin with the words ws
-abbrev pub Begins : List ℕ → ℕ → List ℕ → List ℕ → Type 0
-Begins reply xid ws rest = reply ≡ words (xid ∷ 1 ∷ 0 ∷ 0 ∷ 0 ∷ 0 ∷ ws) ++ rest
+abbrev pub BeginsReply : List ℕ → ℕ → List ℕ → List ℕ → Type 0
+BeginsReply reply xid ws rest = reply ≡ words (xid ∷ 1 ∷ 0 ∷ 0 ∷ 0 ∷ 0 ∷ ws) ++ rest
 
-pub begins : (xid : ℕ) (ws rest body : List ℕ) → body ≡ words ws ++ rest → Begins (accepted xid 0 body) xid ws rest
+pub begins : (xid : ℕ) (ws rest body : List ℕ) → body ≡ words ws ++ rest → BeginsReply (accepted xid 0 body) xid ws rest
 unfolding accepted
 begins xid ws rest body e =
     let six = xid ∷ 1 ∷ 0 ∷ 0 ∷ 0 ∷ 0 ∷ [] in
     ap (λ (x : List ℕ). words six ++ x) e ∙ sym (append-assoc (words six) (words ws) rest) ∙ ap (λ (x : List ℕ). x ++ rest) (sym (words-append six ws))
 
-module _ (reply : List ℕ) (xid : ℕ) (ws rest : List ℕ) (b : Begins reply xid ws rest) where
+module _ (reply : List ℕ) (xid : ℕ) (ws rest : List ℕ) (b : BeginsReply reply xid ws rest) where
   whole : List ℕ
   whole = xid ∷ 1 ∷ 0 ∷ 0 ∷ 0 ∷ 0 ∷ ws
 
@@ -98,7 +98,7 @@ words-between xs ys rest =
     ∙ part-whole (words ys) (4 * length ys) (words-length ys)
 
 -- the handle after the words ws and its length
-pub handle-at : (reply : List ℕ) (xid : ℕ) (ws rest : List ℕ) (stamp o g at : ℕ) → Begins reply xid (ws ++ (handleLength ∷ stamp ∷ o ∷ g ∷ [])) rest
+pub handle-at : (reply : List ℕ) (xid : ℕ) (ws rest : List ℕ) (stamp o g at : ℕ) → BeginsReply reply xid (ws ++ (handleLength ∷ stamp ∷ o ∷ g ∷ [])) rest
     → at ≡ 24 + 4 * length ws → handleAt reply at ≡ handleBytes stamp o g
 handle-at reply xid ws rest stamp o g at b e =
     let hs = stamp ∷ o ∷ g ∷ [] in
@@ -173,7 +173,7 @@ starts p (committed c verifier) n = only-words p (committed c verifier) (wccData
 
 -- a reply's status, and whether it is OK
 module _ (xid p : ℕ) (r : Result) (n : r ≢ null) (small : statusOf r < 4294967296) where
-  first-word : Begins (accepted xid 0 (resultBytes p r)) xid (statusOf r ∷ starts p r n .ws) (starts p r n .rest)
+  first-word : BeginsReply (accepted xid 0 (resultBytes p r)) xid (statusOf r ∷ starts p r n .ws) (starts p r n .rest)
   first-word = begins xid (statusOf r ∷ starts p r n .ws) (starts p r n .rest) (resultBytes p r) (starts p r n .is)
 
   pub answered-is : (k : ℕ) → isStatus k (accepted xid 0 (resultBytes p r)) ≡ eqb (statusOf r) k

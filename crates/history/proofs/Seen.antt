@@ -23,7 +23,7 @@ use Rattle.laws.proofs.Tests.{and-true}
 use Rattle.laws.proofs.Valid.{GoodNameRecord, GoodNames, used-true, true-used}
 use Rattle.history.proofs.Sum.{holds, ind, holds-same}
 use Rattle.history.proofs.Lists.{same-true}
-use Rattle.history.proofs.View.{View, Live, Used, names?, at?, namings, entries}
+use Rattle.history.proofs.View.{View, LiveIn, UsedIn, names?, at?, namingsIn, entriesAt}
 use Rattle.history.proofs.Walk.{directoryAt, parentIn}
 
 -- x below n, and y from n on
@@ -71,10 +71,10 @@ module _ (s : Store) where
   pub held-at : (i : ℕ) → i < objects s → heldBy s i ≡ held s i
   held-at i l = within-yes (objects s) [] i (held s i) l
 
-  pub live-in : (i : ℕ) → Live (view s) i → i < objects s
+  pub live-in : (i : ℕ) → LiveIn (view s) i → i < objects s
   live-in i l = by-cases (decLt i (objects s)) (λ k. k) (λ n. absurd (omega (arith, within-no (objects s) 0 i (objectAt s i .kind) (omega arith))))
 
-  pub used-in : (n : ℕ) → Used (view s) n → n < names s
+  pub used-in : (n : ℕ) → UsedIn (view s) n → n < names s
   used-in n u = by-cases (decLt n (names s)) (λ k. k) (λ x. absurd (omega (arith, ap length (within-no (names s) [] n (nameAt s n .text) (omega arith)))))
 
   pub held-in : (i : ℕ) → 0 < length (heldBy s i) → i < objects s
@@ -93,10 +93,10 @@ module _ (s : Store) (N : GoodNames s) where
       go (_⊎_.inl f) = ap (λ v. length (v .text)) (f .all) ∙ sym (f .empty)
       go (_⊎_.inr u) = u .exact
 
-  pub used-of : (n : ℕ) → n < names s → Used (view s) n → isUsedName s n ≡ true
+  pub used-of : (n : ℕ) → n < names s → UsedIn (view s) n → isUsedName s n ≡ true
   used-of n l u = true-used s n (omega (arith, ap length (text-at s n l), text-long n l))
 
-  pub of-used : (n : ℕ) → n < names s → isUsedName s n ≡ true → Used (view s) n
+  pub of-used : (n : ℕ) → n < names s → isUsedName s n ≡ true → UsedIn (view s) n
   of-used n l e = omega (arith, ap length (text-at s n l), text-long n l, used-true s n e)
 
   pub naming-same : (o n : ℕ) → n < names s → holds (names? (view s) n o) ≡ isNaming s o n
@@ -124,11 +124,11 @@ module _ (s : Store) (N : GoodNames s) where
       let b = and-both z w (p .1) in
       (of-used n l (a .0), dir-at s n l ∙ eqb-true (nameAt s n .directory) d (a .1), text-at s n l ∙ same-true (nameAt s n .text) t (b .1)))
 
-  pub namings-same : (o : ℕ) → namings (names s) (view s) o ≡ Spec.namings s o
+  pub namings-same : (o : ℕ) → namingsIn (names s) (view s) o ≡ Spec.namings s o
   unfolding Spec.namings
   namings-same o = sum-ext (names s) (λ n. ind (names? (view s) n o)) (λ n. bit (isNaming s o n)) (λ n l. ap bit (naming-same o n l))
 
-  pub entries-same : (d : ℕ) (t : List ℕ) → entries (names s) (view s) d t ≡ count (names s) (isNamed s d t)
+  pub entries-same : (d : ℕ) (t : List ℕ) → entriesAt (names s) (view s) d t ≡ count (names s) (isNamed s d t)
   entries-same d t = sum-ext (names s) (λ n. ind (at? (view s) n d t)) (λ n. bit (isNamed s d t n)) (λ n l. ap bit (named-same d t n l))
 
   pub parent-same : (o : ℕ) → parentIn (names s) (view s) o ≡ parent s o

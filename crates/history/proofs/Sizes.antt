@@ -29,12 +29,12 @@ use Rattle.laws.proofs.Resize.{resize-size}
 use Rattle.laws.proofs.SetAttributes.{FitsSettable, size-touches-fits, size-touches-allowed, mtime-and-ctime-fits, mtime-and-ctime-allowed}
 use Rattle.laws.proofs.Valid.{live-true}
 use Rattle.history.specs.Book.{Ledger}
-use Rattle.history.proofs.View.{Live}
+use Rattle.history.proofs.View.{LiveIn}
 use Rattle.history.proofs.Seen.{view, kind-at, live-in}
 use Rattle.laws.proofs.FreeRoom.{good-size-small}
 use Rattle.history.proofs.Inv.{Inv, Keeps, keeps-refl, keeps-trans, good, touch-inv, resize-inv, write-inv}
 
-pub seen-live : (s : Store) (o : ℕ) → o < objects s → isLive s o ≡ true → Live (view s) o
+pub seen-live : (s : Store) (o : ℕ) → o < objects s → isLive s o ≡ true → LiveIn (view s) o
 seen-live s o l e = omega (arith, kind-at s o l, live-true s o e)
 
 pub resize-to : (σ p q r : ℕ) (s : Store) (L : Ledger) → Inv σ p q r s L → (o : ℕ) (z : SetSize) → (isGiven z ≡ true → view s .kind o ≡ 1)
@@ -49,7 +49,7 @@ module _ (σ p q r : ℕ) (s : Store) (L : Ledger) (I : Inv σ p q r s L) (c : C
   unfolding setattrEdit
   setattr-edit h a g o f w =
       let k = kind-at s o (w .reached .below) in
-      let l : Live (view s) o = omega (arith, w .reached .live) in
+      let l : LiveIn (view s) o = omega (arith, w .reached .live) in
       let first = resize-to σ p q r s L I o (a .size)
       (λ t. k ∙ regular-of (blocks s) (objectAt s o) (live-at s (good σ p q r s L I) o (w .reached .below) (w .reached .live)) (w .not-directory t))
       (w .allowed .size) (w .room) in
@@ -75,7 +75,7 @@ module _ (σ p q r : ℕ) (s : Store) (L : Ledger) (I : Inv σ p q r s L) (c : C
       let small : size ≤ mostFileBytes = omega (arith, good-size-small s o (I .valid .good-objects o n)) in
       let first = resize-inv σ p q r s L I o size k small room in
       let t = resize s o size in
-      let l : Live (view t) o = omega (arith, first .kinds o (omega arith)) in
+      let l : LiveIn (view t) o = omega (arith, first .kinds o (omega arith)) in
       let g = good σ p q r s L I in
       let fill = resize-size s o size (g .sound) n (live-at s g o n (omega (arith, kind-at s o n))) small room in
       let second = write-inv σ p q r t L (first .owes .inv) o offset xs l b (omega arith) in

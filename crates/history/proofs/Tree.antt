@@ -10,24 +10,24 @@ use Rattle.kinds.specs.Numbers.{mostObjects}
 use Rattle.spec.specs.Check.{mostNames}
 use Rattle.spec.specs.Count.{sum}
 use Rattle.history.proofs.Sum.{ind, ind-yes, ind-le, pigeon}
-use Rattle.history.proofs.View.{View, Live, Used, Names, At, namings, entries, Path, not-named, named-once, entry-once}
+use Rattle.history.proofs.View.{View, LiveIn, UsedIn, NamesObject, At, namingsIn, entriesAt, Path, not-named, named-once, entry-once}
 
 pub record Flat (P Q : ℕ) (v : View) : Type 0 where
   pub few : P ≤ mostObjects
   pub root : v .kind 0 ≡ 2
-  pub past : (i : ℕ) → Live v i → i < P
-  pub rows : (q : ℕ) → Used v q → q < Q
-  pub dirs : (q : ℕ) → Used v q → v .kind (v .dir q) ≡ 2
-  pub ends : (q : ℕ) → Used v q → Live v (v .child q)
-  pub never : namings Q v 0 ≡ 0
-  pub once : (i : ℕ) → i ≢ 0 → Live v i → (0 < namings Q v i) × (namings Q v i ≤ mostNames (v .kind i))
-  pub apart : (d : ℕ) (t : List ℕ) → entries Q v d t ≤ 1
+  pub past : (i : ℕ) → LiveIn v i → i < P
+  pub rows : (q : ℕ) → UsedIn v q → q < Q
+  pub dirs : (q : ℕ) → UsedIn v q → v .kind (v .dir q) ≡ 2
+  pub ends : (q : ℕ) → UsedIn v q → LiveIn v (v .child q)
+  pub never : namingsIn Q v 0 ≡ 0
+  pub once : (i : ℕ) → i ≢ 0 → LiveIn v i → (0 < namingsIn Q v i) × (namingsIn Q v i ≤ mostNames (v .kind i))
+  pub apart : (d : ℕ) (t : List ℕ) → entriesAt Q v d t ≤ 1
 
 pub record Tree (P Q : ℕ) (v : View) : Type 0 where
   pub flat : Flat P Q v
-  pub leads : (i : ℕ) → Live v i → (qs : List ℕ) × Path v i qs
+  pub leads : (i : ℕ) → LiveIn v i → (qs : List ℕ) × Path v i qs
 
-unfoldable pub live? : (v : View) (i : ℕ) → Dec (Live v i)
+unfoldable pub live? : (v : View) (i : ℕ) → Dec (LiveIn v i)
 live? v i = decLt 0 (v .kind i)
 
 -- how many objects are live
@@ -47,18 +47,18 @@ above v i (q ∷ qs) (suc k) = above v (v .dir q) qs k
 
 module _ (P Q : ℕ) (v : View) (F : Flat P Q v) where
   -- a directory has at most one name
-  pub single : (i : ℕ) → v .kind i ≡ 2 → namings Q v i ≤ 1
+  pub single : (i : ℕ) → v .kind i ≡ 2 → namingsIn Q v i ≤ 1
   single i k = by-cases (ℕ-discrete i 0)
-      (λ e. omega (arith, F .never, ap (namings Q v) e))
+      (λ e. omega (arith, F .never, ap (namingsIn Q v) e))
       (λ n. omega (arith, F .once i n (omega arith)))
 
   -- and so has a file, for now
-  pub lone : (i : ℕ) → Live v i → namings Q v i ≤ 1
+  pub lone : (i : ℕ) → LiveIn v i → namingsIn Q v i ≤ 1
   lone i l = by-cases (ℕ-discrete i 0)
-      (λ e. omega (arith, F .never, ap (namings Q v) e))
+      (λ e. omega (arith, F .never, ap (namingsIn Q v) e))
       (λ n. omega (arith, F .once i n l))
 
-  pub one-name : (i p q : ℕ) → namings Q v i ≤ 1 → Names v p i → Names v q i → p ≡ q
+  pub one-name : (i p q : ℕ) → namingsIn Q v i ≤ 1 → NamesObject v p i → NamesObject v q i → p ≡ q
   one-name i p q n a b = named-once Q v i p q n (F .rows p (a .0)) (F .rows q (b .0)) a b
 
   pub one-entry : (d : ℕ) (t : List ℕ) (p q : ℕ) → At v p d t → At v q d t → p ≡ q
@@ -66,7 +66,7 @@ module _ (P Q : ℕ) (v : View) (F : Flat P Q v) where
 
 module _ (P Q : ℕ) (v : View) (T : Tree P Q v) where
   -- one path
-  pub path-same : (qs ps : List ℕ) (i : ℕ) → namings Q v i ≤ 1 → Path v i qs → Path v i ps → qs ≡ ps
+  pub path-same : (qs ps : List ℕ) (i : ℕ) → namingsIn Q v i ≤ 1 → Path v i qs → Path v i ps → qs ≡ ps
   path-same [] [] i k a b = refl
   path-same [] (p ∷ ps) i k a b = absurd (not-named Q v 0 p (T .flat .never) (T .flat .rows p (b .0 .0)) (b .0 .0, cc))
   path-same (q ∷ qs) [] i k a b = absurd (not-named Q v 0 q (T .flat .never) (T .flat .rows q (a .0 .0)) (a .0 .0, cc))
@@ -76,7 +76,7 @@ module _ (P Q : ℕ) (v : View) (T : Tree P Q v) where
       (subst (λ (x : ℕ). Path v (v .dir x) qs) e (a .1)) (b .1) in
       cc
 
-  pub path-live : (qs : List ℕ) (i : ℕ) → Path v i qs → Live v i
+  pub path-live : (qs : List ℕ) (i : ℕ) → Path v i qs → LiveIn v i
   path-live [] i a = omega (arith, ap (v .kind) a, T .flat .root)
   path-live (q ∷ qs) i a = omega (arith, ap (v .kind) (a .0 .1), T .flat .ends q (a .0 .0))
 

@@ -11,7 +11,7 @@ use lib.ListN.{length}
 use Rattle.spec.specs.Count.{lowest, iterate}
 use Rattle.laws.proofs.Count.{lowest-passes, lowest-none, true-false}
 use Rattle.history.proofs.Sum.{holds, holds-true, holds-yes}
-use Rattle.history.proofs.View.{View, Live, Names, names?, namings, Path, Avoids, named-by, not-named}
+use Rattle.history.proofs.View.{View, LiveIn, NamesObject, names?, namingsIn, Path, Avoids, named-by, not-named}
 use Rattle.history.proofs.Tree.{Flat, one-name, single}
 
 -- the directory of the record that is found, and 0 where none is
@@ -32,7 +32,7 @@ iterate-inner zero f x = refl
 iterate-inner (suc n) f x = ap f (iterate-inner n f x)
 
 module _ (P Q : ℕ) (v : View) (F : Flat P Q v) where
-  pub parent-of : (q i : ℕ) → namings Q v i ≤ 1 → Names v q i → parentIn Q v i ≡ v .dir q
+  pub parent-of : (q i : ℕ) → namingsIn Q v i ≤ 1 → NamesObject v q i → parentIn Q v i ≡ v .dir q
   parent-of q i m n = go (naming Q v i) refl
     where
       go : (x : Option ℕ) → naming Q v i ≡ x → directoryAt v x ≡ v .dir q
@@ -54,7 +54,7 @@ module _ (P Q : ℕ) (v : View) (F : Flat P Q v) where
   walk-root zero = refl
   walk-root (suc n) = ap (parentIn Q v) (walk-root n) ∙ parent-root
 
-  pub path-walk : (n i : ℕ) (qs : List ℕ) → namings Q v i ≤ 1 → length qs ≤ n → Path v i qs → iterate n (parentIn Q v) i ≡ 0
+  pub path-walk : (n i : ℕ) (qs : List ℕ) → namingsIn Q v i ≤ 1 → length qs ≤ n → Path v i qs → iterate n (parentIn Q v) i ≡ 0
   path-walk n i [] k l a = ap (iterate n (parentIn Q v)) a ∙ walk-root n
   path-walk zero i (q ∷ qs) k l a = absurd (omega arith)
   path-walk (suc n) i (q ∷ qs) k l a =
@@ -62,7 +62,7 @@ module _ (P Q : ℕ) (v : View) (F : Flat P Q v) where
       ∙ path-walk n (v .dir q) qs (single P Q v F (v .dir q) (F .dirs q (a .0 .0))) (omega arith) (a .1)
 
   -- a walk that ends at the root is a path
-  pub walk-path : (n i : ℕ) → Live v i → namings Q v i ≤ 1 → iterate n (parentIn Q v) i ≡ 0 → (qs : List ℕ) × Path v i qs
+  pub walk-path : (n i : ℕ) → LiveIn v i → namingsIn Q v i ≤ 1 → iterate n (parentIn Q v) i ≡ 0 → (qs : List ℕ) × Path v i qs
   unfolding iterate
   walk-path zero i l k e = ([], e)
   walk-path (suc n) i l k e = by-cases (ℕ-discrete i 0)
@@ -74,7 +74,7 @@ module _ (P Q : ℕ) (v : View) (F : Flat P Q v) where
       (q ∷ r .0, (x, r .1)))
 
   -- what is met within no number of steps is not on the path
-  pub outside : (n c i : ℕ) (qs : List ℕ) → namings Q v i ≤ 1 → length qs < n → Path v i qs
+  pub outside : (n c i : ℕ) (qs : List ℕ) → namingsIn Q v i ≤ 1 → length qs < n → Path v i qs
       → ((k : ℕ) → k < n → iterate k (parentIn Q v) i ≢ c) → Avoids v c i qs
   unfolding iterate
   outside n c i [] k l a x = x 0 l

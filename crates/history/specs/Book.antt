@@ -93,13 +93,13 @@ unfolding moveLines
 move d text e title L = record { book = moveLines d text e title (L .book); given = L .given }
 
 -- ---- what a call asks, and what a reply says, by their bytes alone
-abbrev pub readArguments : Read Arguments → Option Arguments
-readArguments (bad p) = none
-readArguments (got a next) = some a
+abbrev pub argumentsGot : Read Arguments → Option Arguments
+argumentsGot (bad p) = none
+argumentsGot (got a next) = some a
 
 abbrev pub judgedArguments : List ℕ → CallHeader → ℕ → Checked (Unit {0}) → Option Arguments
 judgedArguments call h at (refused stat) = none
-judgedArguments call h at (passed _) = readArguments (arguments (h .procedure) call at)
+judgedArguments call h at (passed _) = argumentsGot (arguments (h .procedure) call at)
 
 abbrev pub headedArguments : List ℕ → Read Header → Option Arguments
 headedArguments call (bad p) = none

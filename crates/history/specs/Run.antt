@@ -22,12 +22,12 @@ abbrev pub AllLent : List Request → Type 0
 AllLent [] = Unit {0}
 AllLent (x ∷ xs) = Lent x × AllLent xs
 
--- the outcome of a request on a store, and the first `length` bytes of its reply space: the reply
-abbrev pub outcome : Store → Request → Outcome
-outcome s x = serve (x .call) s (x .space) (x .context)
+-- the outcomeOf of a request on a store, and the first `length` bytes of its reply space: the reply
+abbrev pub outcomeOf : Store → Request → Outcome
+outcomeOf s x = serve (x .call) s (x .space) (x .context)
 
 unfoldable pub replyTo : Store → Request → List ℕ
-replyTo s x = take (outcome s x .length) (outcome s x .space)
+replyTo s x = take (outcomeOf s x .length) (outcomeOf s x .space)
 
 -- the store and the book between two requests
 pub record State : Type 0 where
@@ -37,7 +37,7 @@ pub record State : Type 0 where
 unfoldable pub step : State → Request → State
 step w x =
     record {
-      store = outcome (w .store) x .store;
+      store = outcomeOf (w .store) x .store;
       ledger = note (x .call) (replyTo (w .store) x) (w .ledger);
     }
 

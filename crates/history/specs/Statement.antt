@@ -208,14 +208,14 @@ sizeIn w h = sizeOf (w .store) (objectIn h)
 abbrev pub directoryIn : Request → NameIn → List ℕ
 directoryIn x p = cut (x .call) (p .directory)
 
-abbrev pub nameIn : Request → NameIn → List ℕ
-nameIn x p = cut (x .call) (p .name)
+abbrev pub nameAsked : Request → NameIn → List ℕ
+nameAsked x p = cut (x .call) (p .name)
 
 -- the earlier checks of a name to be made: the directory is live and a directory; the name may be had; the attributes are not `invalid`
 pub record MayMake (b : Book) (x : Request) (p : NameIn) (invalid : Bool) : Type 0 where
   pub inDirectory : HasLine b (directoryIn x p) DIRECTORY
-  pub goodName : checkName (nameIn x p) ≡ passed tt
-  pub noDots : isDots (nameIn x p) ≡ false
+  pub goodName : checkName (nameAsked x p) ≡ passed tt
+  pub noDots : isDots (nameAsked x p) ≡ false
   pub valid : invalid ≡ false
 
 -- "The earlier checks are those these papers name": the request passes those of its procedure, and asks for this room. Handles and names
@@ -235,15 +235,15 @@ pub data AsksRoom (w : State) (x : Request) : Room → Type 0 where
   -- CREATE, UNCHECKED or GUARDED, where no line has that directory handle and name
   byCreate : (p : NameIn) (manner : How) (a : Settable) → Asks x (Call.Create p manner)
       → (manner ≡ How.Unchecked a) ⊎ (manner ≡ How.Guarded a)
-      → MayMake (w .ledger .book) x p (badAttributes a) → someAt (directoryIn x p) (nameIn x p) (w .ledger .book) ≡ false
+      → MayMake (w .ledger .book) x p (badAttributes a) → someAt (directoryIn x p) (nameAsked x p) (w .ledger .book) ≡ false
       → AsksRoom w x (newObject (sizeSet (a .size) 0))
   -- CREATE, UNCHECKED, where a file's line has them: the size that it gives, or the old one
   byRecreate : (p : NameIn) (a : Settable) (h : List ℕ) → Asks x (Call.Create p (How.Unchecked a))
-      → MayMake (w .ledger .book) x p (badAttributes a) → HasName (w .ledger .book) (directoryIn x p) h (nameIn x p) → HasLine (w .ledger .book) h REGULAR
+      → MayMake (w .ledger .book) x p (badAttributes a) → HasName (w .ledger .book) (directoryIn x p) h (nameAsked x p) → HasLine (w .ledger .book) h REGULAR
       → AsksRoom w x (growth (sizeIn w h) (sizeSet (a .size) (sizeIn w h)))
   -- MKDIR without a size, where no line has them
   byMkdir : (p : NameIn) (a : Settable) → Asks x (Call.Mkdir p a)
-      → MayMake (w .ledger .book) x p (badAttributes a || isGiven (a .size)) → someAt (directoryIn x p) (nameIn x p) (w .ledger .book) ≡ false
+      → MayMake (w .ledger .book) x p (badAttributes a || isGiven (a .size)) → someAt (directoryIn x p) (nameAsked x p) (w .ledger .book) ≡ false
       → AsksRoom w x (newObject 0)
 
 -- NOSPC exactly where the room is missing; OK where it is not

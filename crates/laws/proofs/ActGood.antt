@@ -26,7 +26,7 @@ use Rattle.spec.specs.Image.{Store, objects, names, blocks, objectAt, nameAt}
 use Rattle.spec.specs.Procedures.{cut, act}
 use Rattle.spec.specs.Procedures.Attributes.{isGiven, sizeSet, sizeTouches, resizeTo, checkSetattr, setattrEdit, edited, setattr}
 use Rattle.spec.specs.Procedures.Data.{grown, checkWrite, writeEdit, writeStore, writeDone, write}
-use Rattle.spec.specs.Procedures.Names.{newObject, touchDirectory, newEdit, createdIn, Target, new, existing, settableOf, existingEdit, createEdit}
+use Rattle.spec.specs.Procedures.Names.{newObject, touchDirectory, newEdit, createdIn, Target, new, existing, settableIn, existingEdit, createEdit}
 use Rattle.spec.specs.Procedures.Names.{checkCreate, create, checkMkdir, mkdir}
 use Rattle.spec.specs.Procedures.Removal.{checkRemove, checkRmdir, removeFrom, remove, rmdir, checkRename, renameEdit, failRenaming, renamedTo, rename}
 use Rattle.spec.specs.Results.{Result, Done, failChanging, settle}
@@ -69,7 +69,7 @@ unfolding sizeOf
 size-small s o v = live-size (blocks s) (objectAt s o) v
 
 -- the attributes of every manner of CREATE fit
-pub how-settable : (manner : How) → FitsHow manner → FitsSettable (settableOf manner)
+pub how-settable : (manner : How) → FitsHow manner → FitsSettable (settableIn manner)
 how-settable (How.Unchecked a) f = f
 how-settable (How.Guarded a) f = f
 how-settable (How.Exclusive verifier) f = only-ctime-fits
@@ -216,20 +216,20 @@ module _ (s : Store) (c : Context) (v : Valid s) (b : Below 256 s) (k : GoodCloc
       mtime-and-ctime-allowed)
 
   create-target : (h text : List ℕ) (manner : How) (d : ℕ) (t : Target) → Below 256 text → FitsHow manner → CreatePassed s h text manner d t
-      → StillGood s (createEdit s c d text (settableOf manner) t .store)
+      → StillGood s (createEdit s c d text (settableIn manner) t .store)
   create-target h text manner d (new o n) w f p =
-      new-edit REGULAR o n d text (settableOf manner) (_⊎_.inl refl) (λ _. refl) (p .target .1) (p .reached .below) (p .directory) (p .good) w
+      new-edit REGULAR o n d text (settableIn manner) (_⊎_.inl refl) (λ _. refl) (p .target .1) (p .reached .below) (p .directory) (p .good) w
       (how-settable manner f) (p .allowed)
   create-target h text manner d (existing o) w f p =
       let (n, e, i, q) = p .target in
       let r = found-record s d text n e in
       let u = used-at s records n (r .0) (r .1) in
-      existing-edit (settableOf manner) o (settableOf manner .size) (rw i at (u .0)) (q .regular) (p .allowed .size) (q .room)
+      existing-edit (settableIn manner) o (settableIn manner .size) (rw i at (u .0)) (q .regular) (p .allowed .size) (q .room)
 
   create-good : (h text : List ℕ) (manner : How) → Below 256 text → FitsHow manner → StillGood s (create s c h text manner .store)
   unfolding create
   create-good h text manner w f =
-      settle-good (failChanging s h) (checkCreate s h text manner) (λ p. createEdit s c (p .0) text (settableOf manner) (p .1))
+      settle-good (failChanging s h) (checkCreate s h text manner) (λ p. createEdit s c (p .0) text (settableIn manner) (p .1))
       (λ p e. create-target h text manner (p .0) (p .1) w f (create-passed s h text manner p e))
 
   mkdir-good : (h text : List ℕ) (a : Settable) → Below 256 text → FitsSettable a → StillGood s (mkdir s c h text a .store)

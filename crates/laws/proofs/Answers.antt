@@ -11,7 +11,7 @@ use Rattle.spec.specs.Image.{Store}
 use Rattle.spec.specs.Procedures.Data.{readLength, checkWrite}
 use Rattle.spec.specs.Serve.{serve}
 use Rattle.spec.specs.Xdr.{number}
-use Rattle.spec.proofs.Setting.{context, space, fresh, callTo, served, after, statusIn, handleTo, getattrCall, lookupCall, createCall, mkdirCall}
+use Rattle.spec.proofs.Setting.{context, space, fresh, callTo, served, after, statusSent, handleTo, getattrCall, lookupCall, createCall, mkdirCall}
 use Rattle.spec.proofs.Setting.{removeCall, writeCall, readCall, readdirCall, rootWords, nameA, rootAlone, withA, setattrCall, createBy, rmdirCall}
 use Rattle.spec.proofs.Setting.{renameCall, nameB, answerTo, nameC, threeDirectories, later, computing}
 
@@ -41,38 +41,38 @@ pub record Answers : Type 0 where
   pub mode-three : isGarbage (createBy nameA (3 ∷ 0 ∷ 0 ∷ 0 ∷ 0 ∷ 0 ∷ 0 ∷ [])) rootAlone ≡ true
   pub stable-three : isGarbage (callTo 7 (handleTo 0 ++ words (0 ∷ 0 ∷ 0 ∷ 3 ∷ 0 ∷ []))) rootAlone ≡ true
   pub padding-one : isGarbage (callTo 3 (handleTo 0 ++ words (1 ∷ 0x61000001 ∷ []))) rootAlone ≡ true
-  pub handle-sixty-four : statusIn (served (callTo 1 (words (64 ∷ []) ++ zeros 64)) rootAlone) ≡ 10001
+  pub handle-sixty-four : statusSent (served (callTo 1 (words (64 ∷ []) ++ zeros 64)) rootAlone) ≡ 10001
   pub short-commit : isGarbage (callTo 21 (handleTo 0)) rootAlone ≡ true
   -- "Other stamp, free, or other generation: STALE."
-  pub free-record : statusIn (served (getattrCall 1) (fresh 2 0 0)) ≡ 70
-  pub other-generation : statusIn (served (callTo 1 (words (12 ∷ 9 ∷ 0 ∷ 1 ∷ []))) rootAlone) ≡ 70
+  pub free-record : statusSent (served (getattrCall 1) (fresh 2 0 0)) ≡ 70
+  pub other-generation : statusSent (served (callTo 1 (words (12 ∷ 9 ∷ 0 ∷ 1 ∷ []))) rootAlone) ≡ 70
   -- "NOTDIR, name (empty ACCES; over 32 NAMETOOLONG; byte 0 or 0x2F ACCES)"
-  pub not-a-directory : statusIn (served (callTo 3 (handleTo 1 ++ opaqueBytes nameA)) withA) ≡ 20
-  pub lookup-empty : statusIn (served (lookupCall []) rootAlone) ≡ 13
-  pub remove-empty : statusIn (served (removeCall []) rootAlone) ≡ 13
-  pub rmdir-empty : statusIn (served (rmdirCall []) rootAlone) ≡ 13
-  pub mkdir-empty : statusIn (served (mkdirCall []) rootAlone) ≡ 13
-  pub rename-empty : statusIn (served (renameCall 0 [] 0 (replicate 33 0x61)) rootAlone) ≡ 13
-  pub rename-long : statusIn (served (renameCall 0 nameA 0 (replicate 33 0x61)) rootAlone) ≡ 63
-  pub long-before-slash : statusIn (served (lookupCall (replicate 33 0x2F)) rootAlone) ≡ 63
-  pub slash : statusIn (served (lookupCall (0x2F ∷ [])) rootAlone) ≡ 13
-  pub zero-byte : statusIn (served (lookupCall (0 ∷ [])) rootAlone) ≡ 13
-  pub longest-name : statusIn (served (createCall (replicate 32 0x61)) (fresh 2 1 0)) ≡ 0
+  pub not-a-directory : statusSent (served (callTo 3 (handleTo 1 ++ opaqueBytes nameA)) withA) ≡ 20
+  pub lookup-empty : statusSent (served (lookupCall []) rootAlone) ≡ 13
+  pub remove-empty : statusSent (served (removeCall []) rootAlone) ≡ 13
+  pub rmdir-empty : statusSent (served (rmdirCall []) rootAlone) ≡ 13
+  pub mkdir-empty : statusSent (served (mkdirCall []) rootAlone) ≡ 13
+  pub rename-empty : statusSent (served (renameCall 0 [] 0 (replicate 33 0x61)) rootAlone) ≡ 13
+  pub rename-long : statusSent (served (renameCall 0 nameA 0 (replicate 33 0x61)) rootAlone) ≡ 63
+  pub long-before-slash : statusSent (served (lookupCall (replicate 33 0x2F)) rootAlone) ≡ 63
+  pub slash : statusSent (served (lookupCall (0x2F ∷ [])) rootAlone) ≡ 13
+  pub zero-byte : statusSent (served (lookupCall (0 ∷ [])) rootAlone) ≡ 13
+  pub longest-name : statusSent (served (createCall (replicate 32 0x61)) (fresh 2 1 0)) ≡ 0
   -- SETATTR: every field lands in its place; "INVAL for .. client nanoseconds of 1,000,000,000 or more, .. size over 8,192"
   pub all-set : replyFrom (getattrCall 0) (after (setattrCall 0 (1 ∷ 1 ∷ 1 ∷ 2 ∷ 1 ∷ 3 ∷ 0 ∷ 2 ∷ 11 ∷ 12 ∷ 2 ∷ 13 ∷ 14 ∷ 0 ∷ []) ∷ []) rootAlone) 24
       ≡ words (0 ∷ 2 ∷ 1 ∷ 2 ∷ 2 ∷ 3 ∷ 0 ∷ 512 ∷ 0 ∷ 0 ∷ 0 ∷ 0 ∷ 0 ∷ 9 ∷ 0 ∷ 1 ∷ 11 ∷ 12 ∷ 13 ∷ 14 ∷ 5 ∷ 6 ∷ [])
-  pub client-time : statusIn (served (setattrCall 0 (0 ∷ 0 ∷ 0 ∷ 0 ∷ 2 ∷ 0 ∷ 999999999 ∷ 0 ∷ 0 ∷ [])) rootAlone) ≡ 0
-  pub client-atime : statusIn (served (setattrCall 0 (0 ∷ 0 ∷ 0 ∷ 0 ∷ 2 ∷ 0 ∷ 1000000000 ∷ 0 ∷ 0 ∷ [])) rootAlone) ≡ 22
-  pub client-mtime : statusIn (served (setattrCall 0 (0 ∷ 0 ∷ 0 ∷ 0 ∷ 0 ∷ 2 ∷ 0 ∷ 1000000000 ∷ 0 ∷ [])) rootAlone) ≡ 22
-  pub largest-size : statusIn (served (setattrCall 1 (sizeOnly 8192 ++ (0 ∷ []))) withA) ≡ 0
-  pub size-over : statusIn (served (setattrCall 1 (sizeOnly 8193 ++ (0 ∷ []))) withA) ≡ 22
-  pub guard-same : statusIn (served (setattrCall 0 (0 ∷ 0 ∷ 0 ∷ 0 ∷ 0 ∷ 0 ∷ 1 ∷ 5 ∷ 6 ∷ [])) rootAlone) ≡ 0
+  pub client-time : statusSent (served (setattrCall 0 (0 ∷ 0 ∷ 0 ∷ 0 ∷ 2 ∷ 0 ∷ 999999999 ∷ 0 ∷ 0 ∷ [])) rootAlone) ≡ 0
+  pub client-atime : statusSent (served (setattrCall 0 (0 ∷ 0 ∷ 0 ∷ 0 ∷ 2 ∷ 0 ∷ 1000000000 ∷ 0 ∷ 0 ∷ [])) rootAlone) ≡ 22
+  pub client-mtime : statusSent (served (setattrCall 0 (0 ∷ 0 ∷ 0 ∷ 0 ∷ 0 ∷ 2 ∷ 0 ∷ 1000000000 ∷ 0 ∷ [])) rootAlone) ≡ 22
+  pub largest-size : statusSent (served (setattrCall 1 (sizeOnly 8192 ++ (0 ∷ []))) withA) ≡ 0
+  pub size-over : statusSent (served (setattrCall 1 (sizeOnly 8193 ++ (0 ∷ []))) withA) ≡ 22
+  pub guard-same : statusSent (served (setattrCall 0 (0 ∷ 0 ∷ 0 ∷ 0 ∷ 0 ∷ 0 ∷ 1 ∷ 5 ∷ 6 ∷ [])) rootAlone) ≡ 0
   -- zeroing: "AB", cut to one byte, grown to three
   pub tail-cleared : replyFrom (readCall 1) (after (writeCall 1 0 (0x41 ∷ 0x42 ∷ []) ∷ setattrCall 1 (sizeOnly 1 ++ (0 ∷ [])) ∷ setattrCall 1
       (sizeOnly 3 ++ (0 ∷ [])) ∷ []) withA) 124 ≡ words (3 ∷ []) ++ (0x41 ∷ 0 ∷ 0 ∷ 0 ∷ [])
   -- READ and COMMIT: "not regular, INVAL"; "n = min(count, 4096, bytes left); eof when offset + n is at least size"
-  pub read-directory : statusIn (served (readCall 0) rootAlone) ≡ 22
-  pub commit-directory : statusIn (served (callTo 21 (handleTo 0 ++ words (0 ∷ 0 ∷ 0 ∷ []))) rootAlone) ≡ 22
+  pub read-directory : statusSent (served (readCall 0) rootAlone) ≡ 22
+  pub commit-directory : statusSent (served (callTo 21 (handleTo 0 ++ words (0 ∷ 0 ∷ 0 ∷ []))) rootAlone) ≡ 22
   pub commit-length : served (callTo 21 (handleTo 1 ++ words (0 ∷ 0 ∷ 0 ∷ []))) withA .length ≡ 152
   pub read-most : readLength (after (setattrCall 1 (sizeOnly 8192 ++ (0 ∷ [])) ∷ []) withA) 1 0 5000 ≡ 4096
   pub read-rest : readLength (after (setattrCall 1 (sizeOnly 700 ++ (0 ∷ [])) ∷ []) withA) 1 600 5000 ≡ 100
@@ -80,21 +80,21 @@ pub record Answers : Type 0 where
   -- WRITE: the reply after the attributes; n = min(count, 4096); NOSPC
   pub wrote : part (served (writeCall 1 0 nameA) withA .space) 144 16 ≡ words (1 ∷ 2 ∷ 0 ∷ 8 ∷ [])
   pub write-most : checkWrite withA (words (9 ∷ 1 ∷ 0 ∷ [])) 4096 4097 (zeros 4097) ≡ passed 1
-  pub write-no-room : statusIn (served (writeCall 1 512 nameA) (after (createCall nameA ∷ []) (fresh 2 1 1))) ≡ 28
+  pub write-no-room : statusSent (served (writeCall 1 512 nameA) (after (createCall nameA ∷ []) (fresh 2 1 1))) ≡ 28
   pub wide-verifier : part (serve (writeCall 1 0 nameA) withA space (record { clock = context .clock; verifier = 4294967296 * 3 + 4 }) .space) 152 8
       ≡ words (3 ∷ 4 ∷ [])
   -- CREATE: the reply's head; "4,294,967,295 is never given out"; NOSPC for a size; UNCHECKED on an existing file
   pub created : part (served (createCall nameA) (fresh 2 1 16) .space) 24 24 ≡ words (0 ∷ 1 ∷ 12 ∷ 9 ∷ 1 ∷ 0 ∷ [])
-  pub spent-record : statusIn (served (createCall nameA) spent) ≡ 28
-  pub no-name-left : statusIn (served (createCall nameA) (fresh 2 0 0)) ≡ 28
-  pub no-block-left : statusIn (served (createBy nameA (1 ∷ sizeOnly 1)) (fresh 2 1 0)) ≡ 28
-  pub recreate-grows : statusIn (served (createBy nameA (0 ∷ sizeOnly 1)) (after (createCall nameA ∷ []) (fresh 2 1 0))) ≡ 28
-  pub recreate-directory : statusIn (served (createCall nameA) threeDirectories) ≡ 17
-  pub mkdir-exists : statusIn (served (mkdirCall nameA) threeDirectories) ≡ 17
+  pub spent-record : statusSent (served (createCall nameA) spent) ≡ 28
+  pub no-name-left : statusSent (served (createCall nameA) (fresh 2 0 0)) ≡ 28
+  pub no-block-left : statusSent (served (createBy nameA (1 ∷ sizeOnly 1)) (fresh 2 1 0)) ≡ 28
+  pub recreate-grows : statusSent (served (createBy nameA (0 ∷ sizeOnly 1)) (after (createCall nameA ∷ []) (fresh 2 1 0))) ≡ 28
+  pub recreate-directory : statusSent (served (createCall nameA) threeDirectories) ≡ 17
+  pub mkdir-exists : statusSent (served (mkdirCall nameA) threeDirectories) ≡ 17
   -- RENAME: dots; "failure bodies carry" each handle's own change
-  pub rename-dot : statusIn (served (renameCall 0 (0x2E ∷ []) 0 nameB) withA) ≡ 22
-  pub rename-to-dots : statusIn (served (renameCall 0 nameA 0 (0x2E ∷ 0x2E ∷ [])) withA) ≡ 22
-  pub rename-none : statusIn (served (renameCall 0 nameB 0 nameC) withA) ≡ 2
+  pub rename-dot : statusSent (served (renameCall 0 (0x2E ∷ []) 0 nameB) withA) ≡ 22
+  pub rename-to-dots : statusSent (served (renameCall 0 nameA 0 (0x2E ∷ 0x2E ∷ [])) withA) ≡ 22
+  pub rename-none : statusSent (served (renameCall 0 nameB 0 nameC) withA) ≡ 2
   pub one-dead : replyFrom (callTo 14 (handleTo 0 ++ opaqueBytes nameA ++ words (0 ∷ []) ++ opaqueBytes nameA)) rootAlone 24
       ≡ words (10001 ∷ 1 ∷ 0 ∷ 512 ∷ 5 ∷ 6 ∷ 5 ∷ 6 ∷ 1 ∷ rootWords ++ (0 ∷ 0 ∷ []))
   -- READDIR: "fileid object plus 1"; "name record s has s + 3": the listing of the root above cookie 2

@@ -148,8 +148,8 @@ FitsArguments (Call.Commit h) = Unit {0}
 FitsArguments Call.Unserved = Unit {0}
 
 -- ---- what is known of arguments: their parts lie within the call, and their numbers fit where the call is bytes
-abbrev Known : List ℕ → Arguments → Type 0
-Known s a = Within (length s) a × (Below 256 s → FitsArguments a)
+abbrev KnownRange : List ℕ → Arguments → Type 0
+KnownRange s a = Within (length s) a × (Below 256 s → FitsArguments a)
 
 handle-within : (s : List ℕ) (at : ℕ) (a : Part) (q : ℕ) → handle s at ≡ got a q → PartWithin (length s) a
 unfolding handle
@@ -171,9 +171,9 @@ name-within s at a q e =
 abbrev Gained : ℕ → Form → Type 0
 Gained p none = Unit {0}
 Gained p (handleThen rest) = (s : List ℕ) (object : Part) → PartWithin (length s) object → (at : ℕ) (a : Arguments) (q : ℕ)
-    → rest object s at ≡ got a q → Known s a
+    → rest object s at ≡ got a q → KnownRange s a
 Gained p (nameThen rest) = (s : List ℕ) (place : NameIn) → NameWithin (length s) place → (at : ℕ) (a : Arguments) (q : ℕ)
-    → rest place s at ≡ got a q → Known s a
+    → rest place s at ≡ got a q → KnownRange s a
 Gained p unread = Unit {0}
 
 gained : (p : ℕ) → Gained p (form p)
@@ -213,25 +213,25 @@ gained = by-procedure Gained (record {
 })
   where
     -- the value at the end is what was read
-    ends : (s : List ℕ) (x : Arguments) (n : ℕ) (a : Arguments) (q : ℕ) → got x n ≡ got a q → Known s x → Known s a
-    ends s x n a q f h = subst (Known s) (same-got x a n q f) h
+    ends : (s : List ℕ) (x : Arguments) (n : ℕ) (a : Arguments) (q : ℕ) → got x n ≡ got a q → KnownRange s x → KnownRange s a
+    ends s x n a q f h = subst (KnownRange s) (same-got x a n q f) h
 
 -- after the arguments the call ends
-whole-known : (r : Reader Arguments) (s : List ℕ) (at : ℕ) → ((a : Arguments) (q : ℕ) → r s at ≡ got a q → Known s a) → (a : Arguments) (q : ℕ)
-    → whole r s at ≡ got a q → Known s a
+whole-known : (r : Reader Arguments) (s : List ℕ) (at : ℕ) → ((a : Arguments) (q : ℕ) → r s at ≡ got a q → KnownRange s a) → (a : Arguments) (q : ℕ)
+    → whole r s at ≡ got a q → KnownRange s a
 whole-known r s at f a q e =
     bind-got (r s at) _ a q e (λ x n₁ e₁ f₁.
-    bind-got (end s n₁) _ a q f₁ (λ u n₂ e₂ f₂. subst (Known s) (same-got x a n₂ q f₂) (f x n₁ e₁)))
+    bind-got (end s n₁) _ a q f₁ (λ u n₂ e₂ f₂. subst (KnownRange s) (same-got x a n₂ q f₂) (f x n₁ e₁)))
 
-formed-known : (p : ℕ) (f : Form) → Gained p f → (s : List ℕ) (at : ℕ) (a : Arguments) (q : ℕ) → formed f s at ≡ got a q → Known s a
-formed-known p none g s at = whole-known (done Call.Null) s at (λ a q e. subst (Known s) (same-got Call.Null a at q e) (tt, λ _. tt))
+formed-known : (p : ℕ) (f : Form) → Gained p f → (s : List ℕ) (at : ℕ) (a : Arguments) (q : ℕ) → formed f s at ≡ got a q → KnownRange s a
+formed-known p none g s at = whole-known (done Call.Null) s at (λ a q e. subst (KnownRange s) (same-got Call.Null a at q e) (tt, λ _. tt))
 formed-known p (handleThen rest) g s at = whole-known (handle >>= rest) s at (λ a q e.
     bind-got (handle s at) _ a q e (λ object n e₁ f₁. g s object (handle-within s at object n e₁) n a q f₁))
 formed-known p (nameThen rest) g s at = whole-known (nameIn >>= rest) s at (λ a q e.
     bind-got (nameIn s at) _ a q e (λ place n e₁ f₁. g s place (name-within s at place n e₁) n a q f₁))
-formed-known p unread g s at = λ a q e. subst (Known s) (same-got Call.Unserved a at q e) (tt, λ _. tt)
+formed-known p unread g s at = λ a q e. subst (KnownRange s) (same-got Call.Unserved a at q e) (tt, λ _. tt)
 
-arguments-known : (p : ℕ) (s : List ℕ) (at : ℕ) (a : Arguments) (q : ℕ) → arguments p s at ≡ got a q → Known s a
+arguments-known : (p : ℕ) (s : List ℕ) (at : ℕ) (a : Arguments) (q : ℕ) → arguments p s at ≡ got a q → KnownRange s a
 unfolding arguments
 arguments-known p = formed-known p (form p) (gained p)
 

@@ -24,7 +24,7 @@ use Rattle.spec.specs.Procedures.{cut, act}
 use Rattle.spec.specs.Procedures.Attributes.{getattr, checkSetattr, setattrEdit, edited, setattr, grantedBits, access}
 use Rattle.spec.specs.Procedures.Data.{reachRegular, readResult, read, checkWrite, writeDone, write, commit}
 use Rattle.spec.specs.Procedures.Listing.{checkReaddir, readdir}
-use Rattle.spec.specs.Procedures.Names.{checkLookup, lookup, touchDirectory, newEdit, createdIn, Target, new, existing, settableOf, checkCreate}
+use Rattle.spec.specs.Procedures.Names.{checkLookup, lookup, touchDirectory, newEdit, createdIn, Target, new, existing, settableIn, checkCreate}
 use Rattle.spec.specs.Procedures.Names.{createEdit, create, checkMkdir, mkdir}
 use Rattle.spec.specs.Procedures.Removal.{checkRemove, checkRmdir, removeFrom, remove, rmdir, checkRename, renameEdit, failRenaming, renamedTo, rename}
 use Rattle.spec.specs.Procedures.Volume.{roomResult, fsstat, fsinfo, pathconf}
@@ -109,8 +109,8 @@ module _ (s : Store) (c : Context) where
   create-error : (h text : List ℕ) (manner : How) → KeptUnlessOK s (create s c h text manner)
   unfolding create
   create-error h text manner =
-      settle-ok s (failChanging s h) (checkCreate s h text manner) (λ p. createEdit s c (p .0) text (settableOf manner) (p .1))
-      (λ p. create-ok s c (p .0) text (settableOf manner) (p .1))
+      settle-ok s (failChanging s h) (checkCreate s h text manner) (λ p. createEdit s c (p .0) text (settableIn manner) (p .1))
+      (λ p. create-ok s c (p .0) text (settableIn manner) (p .1))
 
   mkdir-error : (h text : List ℕ) (a : Settable) → KeptUnlessOK s (mkdir s c h text a)
   unfolding mkdir

@@ -24,7 +24,7 @@ use Rattle.spec.specs.Names.{isDot, isDotDot, isDots, goodBytes}
 use Rattle.spec.specs.Procedures.Attributes.{isGiven, sizeSet, badAttributes, lacksRoom, differs, checkSetattr}
 use Rattle.spec.specs.Procedures.Data.{reachRegular, grown, checkWrite}
 use Rattle.spec.specs.Procedures.Names.{childOf, lookIn, checkIn, checkLookup, roomForNew, Target, new, existing, isNew, checkExisting, targetOf}
-use Rattle.spec.specs.Procedures.Names.{checkNew, checkAttributed, checkHow, checkCreate, settableOf, checkMkdir}
+use Rattle.spec.specs.Procedures.Names.{checkNew, checkAttributed, checkHow, checkCreate, settableIn, checkMkdir}
 use Rattle.spec.specs.Procedures.Removal.{checkEntry, checkRemove, hasEntries, checkRmdir, isWithin, checkMove, checkRename}
 use Rattle.spec.specs.Room.{isLive, isRegular, isDirectory, sizeOf, need, freeBlockCount, isAvailable, availableObject, isUsedName, availableName}
 use Rattle.spec.specs.Room.{isIn, isNamed, findName, parent}
@@ -339,8 +339,8 @@ pub record CreatePassed (s : Store) (h text : List ℕ) (manner : How) (d : ℕ)
   pub reached : Reached s h d
   pub directory : objectAt s d .kind ≡ DIRECTORY
   pub good : GoodName text
-  pub allowed : Allowed (settableOf manner)
-  pub target : TargetPassed s d text (settableOf manner) t
+  pub allowed : Allowed (settableIn manner)
+  pub target : TargetPassed s d text (settableIn manner) t
 
 new-target : (s : Store) (d : ℕ) (text : List ℕ) (a : Settable) (t : Target) (c : Checked (ℕ × ℕ)) → findName s d text ≡ none
     → roomForNew s (sizeSet (a .size) 0) ≡ c
@@ -364,7 +364,7 @@ attributed-passed s d text unchecked a t e =
     (n, allowed a b, target-passed s d text unchecked a t (findName s d text) refl f))
 
 how-passed : (s : Store) (d : ℕ) (text : List ℕ) (manner : How) (t : Target) → checkHow s d text manner ≡ passed t
-    → GoodName text × Allowed (settableOf manner) × TargetPassed s d text (settableOf manner) t
+    → GoodName text × Allowed (settableIn manner) × TargetPassed s d text (settableIn manner) t
 how-passed s d text (How.Unchecked a) t e = attributed-passed s d text true a t e
 how-passed s d text (How.Guarded a) t e = attributed-passed s d text false a t e
 how-passed s d text (How.Exclusive verifier) t e = absurd (refused-passed 10004 t e)

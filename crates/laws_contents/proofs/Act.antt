@@ -24,7 +24,7 @@ use Rattle.spec.specs.Procedures.{cut, act}
 use Rattle.spec.specs.Procedures.Attributes.{checkSetattr, setattrEdit, edited, setattr}
 use Rattle.spec.specs.Procedures.Data.{checkWrite, writeDone, write}
 use Rattle.spec.specs.Procedures.Names.{touchDirectory, newEdit, createdIn, Target, new, existing}
-use Rattle.spec.specs.Procedures.Names.{settableOf, createEdit, checkCreate, create, checkMkdir, mkdir}
+use Rattle.spec.specs.Procedures.Names.{settableIn, createEdit, checkCreate, create, checkMkdir, mkdir}
 use Rattle.spec.specs.Procedures.Removal.{checkRemove, checkRmdir, removeFrom, remove, rmdir, checkRename, renameEdit, failRenaming, renamedTo, rename}
 use Rattle.spec.specs.Results.{Result, Done, failChanging, settle}
 use Rattle.spec.specs.Serve.{serve}
@@ -94,16 +94,16 @@ module _ (s : Store) (g : GoodRecords s) (c : Context) (k : GoodClock (c .clock)
   not-new o e q = omega (arith, ap (λ (i : ℕ). objectAt s i .kind) q)
 
   create-target : (h text : List ℕ) (manner : How) (d : ℕ) (t : Target) → Below 256 text → FitsHow manner → ¬ Named s h text p
-      → CreatePassed s h text manner d t → contents (createEdit s c d text (settableOf manner) t .store) p ≡ contents s p
+      → CreatePassed s h text manner d t → contents (createEdit s c d text (settableIn manner) t .store) p ≡ contents s p
   create-target h text manner d (new o n) w f z q =
-      new-others s g c k REGULAR o n d text (settableOf manner) (_⊎_.inl refl) (λ _. refl) (q .target .1) (q .reached .below) (q .directory) (q .good) w
+      new-others s g c k REGULAR o n d text (settableIn manner) (_⊎_.inl refl) (λ _. refl) (q .target .1) (q .reached .below) (q .directory) (q .good) w
       (how-settable manner f) (q .allowed) p l (not-new o (q .target .1 .object-free))
   create-target h text manner d (existing o) w f z q =
       let (n, e, i, x) = q .target in
       let y = found-record s d text n e in
       let u = used-at s g n (y .0) (y .1) in
-      let m : MaySize s o (settableOf manner .size) = record { below = rw i at (u .0); regular = λ _. x .regular; small = q .allowed .size; room = x .room } in
-      existing-others s g c k o (settableOf manner .size) m p l (λ a. z (record {
+      let m : MaySize s o (settableIn manner .size) = record { below = rw i at (u .0); regular = λ _. x .regular; small = q .allowed .size; room = x .room } in
+      existing-others s g c k o (settableIn manner .size) m p l (λ a. z (record {
         directory = d;
         entry = n;
         reached = directory-passes s h d (q .reached) (q .directory);
@@ -115,7 +115,7 @@ module _ (s : Store) (g : GoodRecords s) (c : Context) (k : GoodClock (c .clock)
       → contents (create s c h text manner .store) p ≡ contents s p
   unfolding create
   create-frame h text manner w f z =
-      settled (failChanging s h) (checkCreate s h text manner) (λ x. createEdit s c (x .0) text (settableOf manner) (x .1)) (λ x e.
+      settled (failChanging s h) (checkCreate s h text manner) (λ x. createEdit s c (x .0) text (settableIn manner) (x .1)) (λ x e.
       create-target h text manner (x .0) (x .1) w f z (create-passed s h text manner x e))
 
   mkdir-frame : (h text : List ℕ) (a : Settable) → Below 256 text → FitsSettable a → contents (mkdir s c h text a .store) p ≡ contents s p

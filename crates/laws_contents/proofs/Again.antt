@@ -7,16 +7,16 @@ use native.Mathlib.Omega.{arith}
 use lib.ListN.{length, getD}
 use lib.Seq.{ext-getD}
 use Rattle.laws_contents.specs.Written.{Write, after, made}
-use Rattle.laws_contents.proofs.Laid.{Within, Outside, within?}
+use Rattle.laws_contents.proofs.Laid.{WithinStore, Outside, within?}
 use Rattle.laws_contents.proofs.Written.{reached, written-length, written-other, written-within}
 
 -- a write is in a list of writes
-abbrev pub In : Write → List Write → Type 0
-In w ws = List·Memᴰ w ws
+abbrev pub Member : Write → List Write → Type 0
+Member w ws = List·Memᴰ w ws
 
 -- the byte at k is one that a write writes, or not
 abbrev Hits : Write → ℕ → Type 0
-Hits w k = Within (w .offset) (length (w .bytes)) k
+Hits w k = WithinStore (w .offset) (length (w .bytes)) k
 
 abbrev Misses : Write → ℕ → Type 0
 Misses w k = Outside (w .offset) (length (w .bytes)) k
@@ -34,11 +34,11 @@ made-length old [] = omega arith
 made-length old (w ∷ ws) = made-length (after old w) ws ∙ omega (arith, written-length old (w .offset) (w .bytes))
 
 -- no write of the list ends after it
-in-reach : (w : Write) (ws : List Write) → In w ws → reached (w .offset) (w .bytes) ≤ reach ws
+in-reach : (w : Write) (ws : List Write) → Member w ws → reached (w .offset) (w .bytes) ≤ reach ws
 unfolding reach
 in-reach w [] m = absurd (List·Memᴰ·not-nil m)
 in-reach w (v ∷ ws) m =
-    ⊎-elim (λ (e : w ≡ v). rw e (omega arith)) (λ (n : In w ws). omega (arith, in-reach w ws n)) (List·Memᴰ·cases-cons m)
+    ⊎-elim (λ (e : w ≡ v). rw e (omega arith)) (λ (n : Member w ws). omega (arith, in-reach w ws n)) (List·Memᴰ·cases-cons m)
 
 -- ---- bytes
 -- a write makes any two lists agree where it hits
@@ -60,17 +60,17 @@ made-agree a b [] k e = e
 made-agree a b (w ∷ ws) k e = made-agree (after a w) (after b w) ws k (after-agree a b w k e)
 
 -- any two lists agree, after the same writes, at an index that one of them hits
-made-hit : (a b : List ℕ) (w : Write) (ws : List Write) (k : ℕ) → In w ws → Hits w k → getD (made a ws) k 0 ≡ getD (made b ws) k 0
+made-hit : (a b : List ℕ) (w : Write) (ws : List Write) (k : ℕ) → Member w ws → Hits w k → getD (made a ws) k 0 ≡ getD (made b ws) k 0
 unfolding made
 made-hit a b w [] k m h = absurd (List·Memᴰ·not-nil m)
 made-hit a b w (v ∷ ws) k m h =
     ⊎-elim
     (λ (e : w ≡ v). made-agree (after a v) (after b v) ws k (after-hit a b v k (rw e at h)))
-    (λ (n : In w ws). made-hit (after a v) (after b v) w ws k n h)
+    (λ (n : Member w ws). made-hit (after a v) (after b v) w ws k n h)
     (List·Memᴰ·cases-cons m)
 
 -- a write that is made again among others might as well not have been made before them
-pub made-once : (old : List ℕ) (w : Write) (ws : List Write) → In w ws → made (after old w) ws ≡ made old ws
+pub made-once : (old : List ℕ) (w : Write) (ws : List Write) → Member w ws → made (after old w) ws ≡ made old ws
 made-once old w ws m =
     let a = made-length (after old w) ws in
     let b = made-length old ws in
@@ -81,7 +81,7 @@ made-once old w ws m =
     (within? (w .offset) (length (w .bytes)) k))
 
 -- writes ys, each of them one of zs, and then all of zs in their order leave what zs alone leave
-pub made-again : (old : List ℕ) (ys zs : List Write) → ((w : Write) → In w ys → In w zs) → made (made old ys) zs ≡ made old zs
+pub made-again : (old : List ℕ) (ys zs : List Write) → ((w : Write) → Member w ys → Member w zs) → made (made old ys) zs ≡ made old zs
 unfolding made
 made-again old [] zs f = refl
 made-again old (w ∷ ys) zs f =

@@ -12,22 +12,22 @@ use Rattle.laws.proofs.Apart.{part-apart}
 use Rattle.laws.proofs.Bytes.{lt-or-le, getD-part, part-same}
 
 -- k is one of the n indexes from i
-abbrev pub Within : ℕ → ℕ → ℕ → Type 0
-Within i n k = (i ≤ k) × (k < i + n)
+abbrev pub WithinStore : ℕ → ℕ → ℕ → Type 0
+WithinStore i n k = (i ≤ k) × (k < i + n)
 
 -- k lies before or after them
 abbrev pub Outside : ℕ → ℕ → ℕ → Type 0
 Outside i n k = (k < i) ⊎ (i + n ≤ k)
 
 -- it is one or the other
-pub within? : (i n k : ℕ) → Within i n k ⊎ Outside i n k
+pub within? : (i n k : ℕ) → WithinStore i n k ⊎ Outside i n k
 within? i n k =
     ⊎-elim (λ (a : k < i). _⊎_.inr (_⊎_.inl a))
     (λ (a : i ≤ k). ⊎-elim (λ (b : k < i + n). _⊎_.inl (a, b)) (λ (b : i + n ≤ k). _⊎_.inr (_⊎_.inr b)) (lt-or-le k (i + n)))
     (lt-or-le k i)
 
 -- and not both
-pub not-both : (i n k : ℕ) → Within i n k → Outside i n k → ⊥
+pub not-both : (i n k : ℕ) → WithinStore i n k → Outside i n k → ⊥
 not-both i n k a (_⊎_.inl b) = omega arith
 not-both i n k a (_⊎_.inr b) = omega arith
 
@@ -46,7 +46,7 @@ module _ (b : List ℕ) (at : ℕ) (xs : List ℕ) (h : at + length xs ≤ lengt
   byte-apart k (_⊎_.inr l) = byte-same (overlay b at xs) b k (part-apart b at xs h k 1 (_⊎_.inr l))
 
   -- a byte of what was laid over
-  pub byte-within : (k : ℕ) → Within at (length xs) k → getD (overlay b at xs) k 0 ≡ getD xs (k - at) 0
+  pub byte-within : (k : ℕ) → WithinStore at (length xs) k → getD (overlay b at xs) k 0 ≡ getD xs (k - at) 0
   byte-within k l =
       let e : k ≡ at + (k - at) = omega arith in
       ap (λ (j : ℕ). getD (overlay b at xs) j 0) e ∙ sym (getD-part (overlay b at xs) at (length xs) (k - at) (omega arith))

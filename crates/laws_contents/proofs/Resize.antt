@@ -31,7 +31,7 @@ use Rattle.laws.proofs.Resize.{freed-range, added-range, added-free, resize-obj
 use Rattle.laws.proofs.Valid.{LiveObject}
 use Rattle.laws.proofs.Writes.{object-written}
 use Rattle.laws_contents.specs.Contents.{contents}
-use Rattle.laws_contents.specs.Written.{sized}
+use Rattle.laws_contents.specs.Written.{atSize}
 use Rattle.laws_contents.proofs.Laid.{Outside, byte-same}
 use Rattle.laws_contents.proofs.Sized.{sized-length, sized-byte}
 use Rattle.laws_contents.proofs.Contents.{contents-length, contents-byte}
@@ -215,7 +215,7 @@ module _ (s : Store) (g : GoodRecords s) (o size : ℕ) (l : o < objects s) (k :
       resize-zero r (i % blockLength) (mod-lt i (lit< tt)) (omega (arith, times-append r (freedBlocks s o size) (addedBlocks s o size)))
 
   -- SECOND EDIT: the contents are the old ones, cut to the new size or padded with zeros up to it
-  pub resize-contents : contents (resize s o size) o ≡ sized (contents s o) size
+  pub resize-contents : contents (resize s o size) o ≡ atSize (contents s o) size
   unfolding byteAt
   resize-contents =
       let t = resize s o size in
@@ -224,7 +224,7 @@ module _ (s : Store) (g : GoodRecords s) (o size : ℕ) (l : o < objects s) (k :
       let e = resize-object s o size (g .sound) l live small room .shape in
       let place : (i : ℕ) → i < size → i / blockLength < need (sizeOf s o) → byteAt t o i ≡ byteAt s o i =
       λ i h b. rw (e .objects, e .names, kept-block i h b) in
-      ext-getD 0 (contents t o) (sized old size) (contents-length t o ∙ size-is ∙ sym (sized-length old size)) (λ i h.
+      ext-getD 0 (contents t o) (atSize old size) (contents-length t o ∙ size-is ∙ sym (sized-length old size)) (λ i h.
       let j : i < size = omega (arith, contents-length t o, size-is) in
       contents-byte t o i (omega (arith, size-is))
       ∙ ⊎-elim

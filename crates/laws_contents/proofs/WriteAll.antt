@@ -16,19 +16,19 @@ use Rattle.laws.proofs.Count.{by-bool}
 use Rattle.laws.proofs.GoodRecords.{GoodRecords, GoodClock, clock-fits, still-refl, still-trans}
 use Rattle.laws.proofs.Range.{Below}
 use Rattle.laws_contents.specs.Contents.{contents}
-use Rattle.laws_contents.specs.Sent.{Sent, sendTo, writeAll, writesOf}
+use Rattle.laws_contents.specs.Sent.{SentWrite, sendTo, writeAll, writesOf}
 use Rattle.laws_contents.specs.Written.{written, Write, after, made}
-use Rattle.laws_contents.proofs.Again.{In, made-again, made-longer}
+use Rattle.laws_contents.proofs.Again.{Member, made-again, made-longer}
 use Rattle.laws_contents.proofs.Contents.{contents-length}
 use Rattle.laws_contents.proofs.Written.{laid-length, written-none, written-some, written-apart}
-use Rattle.laws_contents.proofs.WriteEdit.{Wrote, write-edit-wrote}
+use Rattle.laws_contents.proofs.WriteEdit.{WroteOne, write-edit-wrote}
 
 -- no write is made
-pub wrote-refl : (s : Store) (o : ℕ) → GoodRecords s → Wrote s o (contents s o) s
+pub wrote-refl : (s : Store) (o : ℕ) → GoodRecords s → WroteOne s o (contents s o) s
 wrote-refl s o g = record { still = still-refl s g; kind = λ p l. refl; own = refl; others = λ p l d. refl; room = refl }
 
 -- writes one after the other
-pub wrote-trans : (s t u : Store) (o : ℕ) (a b : List ℕ) → Wrote s o a t → Wrote t o b u → Wrote s o b u
+pub wrote-trans : (s t u : Store) (o : ℕ) (a b : List ℕ) → WroteOne s o a t → WroteOne t o b u → WroteOne s o b u
 wrote-trans s t u o a b x y =
     let e = x .still .shape in
     record {
@@ -41,13 +41,13 @@ wrote-trans s t u o a b x y =
 
 -- ---- WRITEs of one file
 -- a write that may be made: its clock and its bytes are such, and it ends within the largest size
-pub record Sendable (x : Sent) : Type 0 where
+pub record Sendable (x : SentWrite) : Type 0 where
   pub clock : GoodClock (x .context .clock)
   pub bytes : Below 256 (x .write .bytes)
   pub fits : 0 < length (x .write .bytes) → x .write .offset + length (x .write .bytes) ≤ mostFileBytes
 
 -- each of them may be made
-abbrev pub AllSendable : List Sent → Type 0
+abbrev pub AllSendable : List SentWrite → Type 0
 AllSendable [] = Unit {0}
 AllSendable (x ∷ xs) = Sendable x × AllSendable xs
 
@@ -56,8 +56,8 @@ abbrev pub missing : Store → ℕ → List ℕ → ℕ
 missing s o new = need (length new) - need (sizeOf s o)
 
 -- one write, of any bytes
-pub send : (s : Store) (g : GoodRecords s) (o : ℕ) → o < objects s → objectAt s o .kind ≡ REGULAR → (x : Sent) → Sendable x
-    → missing s o (after (contents s o) (x .write)) ≤ freeBlockCount s → Wrote s o (after (contents s o) (x .write)) (sendTo s o x)
+pub send : (s : Store) (g : GoodRecords s) (o : ℕ) → o < objects s → objectAt s o .kind ≡ REGULAR → (x : SentWrite) → Sendable x
+    → missing s o (after (contents s o) (x .write)) ≤ freeBlockCount s → WroteOne s o (after (contents s o) (x .write)) (sendTo s o x)
 unfolding writeStore
 send s g o l r x h room =
     let i = x .write .offset in
@@ -72,8 +72,8 @@ send s g o l r x h room =
     (h .clock) (omega arith)))
 
 -- several: the contents are what the writes make of the old contents, where there is room for the size at the end
-pub write-all : (s : Store) → GoodRecords s → (o : ℕ) → o < objects s → objectAt s o .kind ≡ REGULAR → (xs : List Sent) → AllSendable xs
-    → missing s o (made (contents s o) (writesOf xs)) ≤ freeBlockCount s → Wrote s o (made (contents s o) (writesOf xs)) (writeAll s o xs)
+pub write-all : (s : Store) → GoodRecords s → (o : ℕ) → o < objects s → objectAt s o .kind ≡ REGULAR → (xs : List SentWrite) → AllSendable xs
+    → missing s o (made (contents s o) (writesOf xs)) ≤ freeBlockCount s → WroteOne s o (made (contents s o) (writesOf xs)) (writeAll s o xs)
 unfolding writeAll writesOf made
 write-all s g o l r [] h room = wrote-refl s o g
 write-all s g o l r (x ∷ xs) h room =
@@ -86,8 +86,8 @@ write-all s g o l r (x ∷ xs) h room =
     wrote-trans s t (writeAll t o xs) o new (made new (writesOf xs)) a (rw (a .own) at b)
 
 -- WRITEs zs that are sent after some of them, ys, were made: the same contents of every file as if only zs had been sent
-pub sent-again : (s : Store) → GoodRecords s → (o : ℕ) → o < objects s → objectAt s o .kind ≡ REGULAR → (ys zs : List Sent) → AllSendable ys → AllSendable zs
-    → ((w : Write) → In w (writesOf ys) → In w (writesOf zs)) → missing s o (made (contents s o) (writesOf zs)) ≤ freeBlockCount s
+pub sent-again : (s : Store) → GoodRecords s → (o : ℕ) → o < objects s → objectAt s o .kind ≡ REGULAR → (ys zs : List SentWrite) → AllSendable ys → AllSendable zs
+    → ((w : Write) → Member w (writesOf ys) → Member w (writesOf zs)) → missing s o (made (contents s o) (writesOf zs)) ≤ freeBlockCount s
     → (p : ℕ) → p < objects s → contents (writeAll (writeAll s o ys) o zs) p ≡ contents (writeAll s o zs) p
 sent-again s g o l r ys zs hy hz f room p m =
     let old = contents s o in
@@ -109,7 +109,7 @@ sent-again s g o l r ys zs hy hz f room p m =
 module _ (s : Store) (g : GoodRecords s) where
   -- one after the other: each file has its own write
   pub send-both : (o q : ℕ) → o < objects s → q < objects s → o ≢ q → objectAt s o .kind ≡ REGULAR → objectAt s q .kind ≡ REGULAR
-      → (x y : Sent) → Sendable x → Sendable y
+      → (x y : SentWrite) → Sendable x → Sendable y
       → missing s o (after (contents s o) (x .write)) + missing s q (after (contents s q) (y .write)) ≤ freeBlockCount s
       → let u = sendTo (sendTo s o x) q y in
       (contents u o ≡ after (contents s o) (x .write)) × (contents u q ≡ after (contents s q) (y .write))
@@ -129,7 +129,7 @@ module _ (s : Store) (g : GoodRecords s) where
 
   -- in either order: the same contents of every file
   pub send-either : (o q : ℕ) → o < objects s → q < objects s → o ≢ q → objectAt s o .kind ≡ REGULAR → objectAt s q .kind ≡ REGULAR
-      → (x y : Sent) → Sendable x → Sendable y
+      → (x y : SentWrite) → Sendable x → Sendable y
       → missing s o (after (contents s o) (x .write)) + missing s q (after (contents s q) (y .write)) ≤ freeBlockCount s
       → (p : ℕ) → p < objects s → contents (sendTo (sendTo s o x) q y) p ≡ contents (sendTo (sendTo s q y) o x) p
   send-either o q l m d r k x y hx hy room p i =
@@ -140,7 +140,7 @@ module _ (s : Store) (g : GoodRecords s) where
       (λ e. by-cases (ℕ-discrete p q) (λ f. rw f (a .1 ∙ sym (b .0))) (λ f. a .2 p i e f ∙ sym (b .2 p i f e)))
 
   -- two WRITEs of one file that lie apart, in either order: the same contents of every file
-  pub send-apart : (o : ℕ) → o < objects s → objectAt s o .kind ≡ REGULAR → (x y : Sent) → Sendable x → Sendable y
+  pub send-apart : (o : ℕ) → o < objects s → objectAt s o .kind ≡ REGULAR → (x y : SentWrite) → Sendable x → Sendable y
       → (x .write .offset + length (x .write .bytes) ≤ y .write .offset) ⊎ (y .write .offset + length (y .write .bytes) ≤ x .write .offset)
       → missing s o (after (after (contents s o) (x .write)) (y .write)) ≤ freeBlockCount s
       → (p : ℕ) → p < objects s → contents (sendTo (sendTo s o x) o y) p ≡ contents (sendTo (sendTo s o y) o x) p

@@ -33,7 +33,7 @@ use Rattle.laws_contents.proofs.RecordEdits.{set-attributes-contents}
 use Rattle.laws_contents.proofs.Resize.{resize-contents, resize-others}
 
 -- s became t by writes of file o: it has the contents `new`, every other file its own, types stay, and what room t lacks o's size took
-pub record Wrote (s : Store) (o : ℕ) (new : List ℕ) (t : Store) : Type 0 where
+pub record WroteOne (s : Store) (o : ℕ) (new : List ℕ) (t : Store) : Type 0 where
   pub still : StillGood s t
   pub kind : (p : ℕ) → p < objects s → objectAt t p .kind ≡ objectAt s p .kind
   pub own : contents t o ≡ new
@@ -103,7 +103,7 @@ module _ (s : Store) (g : GoodRecords s) (c : Context) (clock : FitsTime (c .clo
   write-edit-written p = write-edit-laid ∙ sym (written-some (contents s o) offset xs (λ e. omega arith))
 
   -- and so all of it, with a clock as the entries accept it
-  pub write-edit-wrote : GoodClock (c .clock) → 0 < length xs → Wrote s o (written (contents s o) offset xs) (writeEdit s c o offset xs)
+  pub write-edit-wrote : GoodClock (c .clock) → 0 < length xs → WroteOne s o (written (contents s o) offset xs) (writeEdit s c o offset xs)
   unfolding writeEdit
   write-edit-wrote good some =
       let t = setAttributes filled (c .clock) o mtimeAndCtime in

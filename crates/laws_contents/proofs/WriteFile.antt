@@ -18,7 +18,7 @@ use Rattle.laws.proofs.Range.{Below}
 use Rattle.laws.proofs.Structure.{SameStructure, kept-structure, sizeOf-same, byteAt-same}
 use Rattle.laws.proofs.Valid.{Live}
 use Rattle.laws_contents.specs.Contents.{contents}
-use Rattle.laws_contents.proofs.Laid.{Within, Outside, within?, not-both, byte-apart, byte-within}
+use Rattle.laws_contents.proofs.Laid.{WithinStore, Outside, within?, not-both, byte-apart, byte-within}
 use Rattle.laws_contents.proofs.Contents.{contents-length, contents-byte, contents-same}
 use Rattle.laws_contents.proofs.Places.{place-before, place-one}
 
@@ -92,7 +92,7 @@ module _ (s : Store) (g : GoodRecords s) (o offset : ℕ) (xs : List ℕ) (l : o
       ))
 
   -- a byte of the file that is written is there
-  byte-there : (k : ℕ) → Within offset (length xs) k → getD (writeFile s o offset xs) (byteAt s o k) 0 ≡ getD xs (k - offset) 0
+  byte-there : (k : ℕ) → WithinStore offset (length xs) k → getD (writeFile s o offset xs) (byteAt s o k) 0 ≡ getD xs (k - offset) 0
   unfolding writeFile
   byte-there k a =
       let e : k ≡ offset + (k - offset) = omega arith in
@@ -113,6 +113,6 @@ module _ (s : Store) (g : GoodRecords s) (o offset : ℕ) (xs : List ℕ) (l : o
       contents-byte t o k (omega arith)
       ∙ ap (λ (q : ℕ). getD t q 0) (byteAt-same s t write-structure o l k)
       ∙ ⊎-elim
-      (λ (a : Within offset (length xs) k). byte-there k a ∙ sym (byte-within old offset xs long k a))
+      (λ (a : WithinStore offset (length xs) k). byte-there k a ∙ sym (byte-within old offset xs long k a))
       (λ (a : Outside offset (length xs) k). byte-other k i a ∙ sym (byte-apart old offset xs long k a ∙ contents-byte s o k i))
       (within? offset (length xs) k))

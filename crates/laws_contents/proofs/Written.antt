@@ -12,8 +12,8 @@ use borrow.Author.Tests.{ne-eqb}
 use Rattle.spec.specs.Bytes.{overlay}
 use Rattle.laws.proofs.Bytes.{overlay-length}
 use Rattle.laws.proofs.Count.{by-bool}
-use Rattle.laws_contents.specs.Written.{sized, laid, written}
-use Rattle.laws_contents.proofs.Laid.{Within, Outside, within?, byte-apart, byte-within}
+use Rattle.laws_contents.specs.Written.{atSize, laid, written}
+use Rattle.laws_contents.proofs.Laid.{WithinStore, Outside, within?, byte-apart, byte-within}
 use Rattle.laws_contents.proofs.Sized.{sized-length, sized-byte}
 
 -- the end of what is written, where something is
@@ -22,7 +22,7 @@ reached i xs = cond (eqb (length xs) 0) 0 (i + length xs)
 
 module _ (old : List ℕ) (i : ℕ) (xs : List ℕ) where
   -- up to the end of what is written
-  head-length : length (sized old i ++ xs) ≡ i + length xs
+  head-length : length (atSize old i ++ xs) ≡ i + length xs
   head-length = simp (length-append, sized-length)
 
   -- "Size becomes max(size, offset + n)"
@@ -36,37 +36,37 @@ module _ (old : List ℕ) (i : ℕ) (xs : List ℕ) where
   laid-other k (_⊎_.inl h) =
       let a = head-length in
       let b = sized-length old i in
-      List·getD-append (sized old i ++ xs) (drop (i + length xs) old) 0 k (omega arith) ∙ List·getD-append (sized old i) xs 0 k (omega arith)
+      List·getD-append (atSize old i ++ xs) (drop (i + length xs) old) 0 k (omega arith) ∙ List·getD-append (atSize old i) xs 0 k (omega arith)
       ∙ sized-byte old i k h
   laid-other k (_⊎_.inr h) =
       let a = head-length in
       let j = k - (i + length xs) in
-      let e : k ≡ length (sized old i ++ xs) + j = omega arith in
+      let e : k ≡ length (atSize old i ++ xs) + j = omega arith in
       let f : i + length xs + j ≡ k = omega arith in
-      ap (λ (n : ℕ). getD (laid old i xs) n 0) e ∙ getD-append-add (sized old i ++ xs) (drop (i + length xs) old) j 0
+      ap (λ (n : ℕ). getD (laid old i xs) n 0) e ∙ getD-append-add (atSize old i ++ xs) (drop (i + length xs) old) j 0
       ∙ getD-drop (i + length xs) old j 0 ∙ ap (λ (n : ℕ). getD old n 0) f
 
   -- every byte that is written is there
-  pub laid-within : (k : ℕ) → Within i (length xs) k → getD (laid old i xs) k 0 ≡ getD xs (k - i) 0
+  pub laid-within : (k : ℕ) → WithinStore i (length xs) k → getD (laid old i xs) k 0 ≡ getD xs (k - i) 0
   unfolding laid
   laid-within k h =
       let a = head-length in
       let b = sized-length old i in
-      let e : k ≡ length (sized old i) + (k - i) = omega arith in
-      List·getD-append (sized old i ++ xs) (drop (i + length xs) old) 0 k (omega arith)
-      ∙ ap (λ (n : ℕ). getD (sized old i ++ xs) n 0) e ∙ getD-append-add (sized old i) xs (k - i) 0
+      let e : k ≡ length (atSize old i) + (k - i) = omega arith in
+      List·getD-append (atSize old i ++ xs) (drop (i + length xs) old) 0 k (omega arith)
+      ∙ ap (λ (n : ℕ). getD (atSize old i ++ xs) n 0) e ∙ getD-append-add (atSize old i) xs (k - i) 0
 
   -- to grow first and then to replace a part is the same
-  pub laid-overlay : overlay (sized old (max (length old) (i + length xs))) i xs ≡ laid old i xs
+  pub laid-overlay : overlay (atSize old (max (length old) (i + length xs))) i xs ≡ laid old i xs
   laid-overlay =
       let n = max (length old) (i + length xs) in
-      let new = sized old n in
+      let new = atSize old n in
       let a = sized-length old n in
       let h : i + length xs ≤ length new = omega arith in
       ext-getD 0 (overlay new i xs) (laid old i xs) (overlay-length new i xs h ∙ a ∙ sym laid-length) (λ k l.
       let b : k < n = omega (arith, overlay-length new i xs h) in
       ⊎-elim
-      (λ (w : Within i (length xs) k). byte-within new i xs h k w ∙ sym (laid-within k w))
+      (λ (w : WithinStore i (length xs) k). byte-within new i xs h k w ∙ sym (laid-within k w))
       (λ (w : Outside i (length xs) k). byte-apart new i xs h k w ∙ sized-byte old n k b ∙ sym (laid-other k w))
       (within? i (length xs) k))
 
@@ -91,12 +91,12 @@ module _ (old : List ℕ) (i : ℕ) (xs : List ℕ) where
   written-other k h = by-bool (eqb (length xs) 0) (λ e. rw e refl) (λ e. rw e (laid-other k h))
 
   -- every byte that is written is there
-  pub written-within : (k : ℕ) → Within i (length xs) k → getD (written old i xs) k 0 ≡ getD xs (k - i) 0
+  pub written-within : (k : ℕ) → WithinStore i (length xs) k → getD (written old i xs) k 0 ≡ getD xs (k - i) 0
   written-within k h = ap (λ (z : List ℕ). getD z k 0) (written-some (λ e. omega arith)) ∙ laid-within k h
 
 -- two writes commute where they hold the same bytes wherever both write
 pub written-swap : (old : List ℕ) (i : ℕ) (xs : List ℕ) (j : ℕ) (ys : List ℕ)
-    → ((k : ℕ) → Within i (length xs) k → Within j (length ys) k → getD xs (k - i) 0 ≡ getD ys (k - j) 0)
+    → ((k : ℕ) → WithinStore i (length xs) k → WithinStore j (length ys) k → getD xs (k - i) 0 ≡ getD ys (k - j) 0)
     → written (written old i xs) j ys ≡ written (written old j ys) i xs
 written-swap old i xs j ys f =
     let a = written old i xs in
@@ -107,12 +107,12 @@ written-swap old i xs j ys f =
     let w = written-length b i xs in
     ext-getD 0 (written a j ys) (written b i xs) (omega arith) (λ k _.
     ⊎-elim
-    (λ (m : Within j (length ys) k). written-within a j ys k m ∙ ⊎-elim
-    (λ (n : Within i (length xs) k). sym (written-within b i xs k n ∙ f k n m))
+    (λ (m : WithinStore j (length ys) k). written-within a j ys k m ∙ ⊎-elim
+    (λ (n : WithinStore i (length xs) k). sym (written-within b i xs k n ∙ f k n m))
     (λ (n : Outside i (length xs) k). sym (written-other b i xs k n ∙ written-within old j ys k m))
     (within? i (length xs) k))
     (λ (m : Outside j (length ys) k). written-other a j ys k m ∙ ⊎-elim
-    (λ (n : Within i (length xs) k). written-within old i xs k n ∙ sym (written-within b i xs k n))
+    (λ (n : WithinStore i (length xs) k). written-within old i xs k n ∙ sym (written-within b i xs k n))
     (λ (n : Outside i (length xs) k). written-other old i xs k n ∙ sym (written-other b i xs k n ∙ written-other old j ys k m))
     (within? i (length xs) k))
     (within? j (length ys) k))

@@ -9,12 +9,12 @@ use Rattle.kinds.specs.declared.call.SetSize.the-variants as SetSize
 use Rattle.spec.specs.Bytes.{zeros}
 
 -- old cut to n bytes, or padded with zeros up to n
-unfoldable pub sized : List ℕ → ℕ → List ℕ
-sized old n = take n old ++ zeros (n - length old)
+unfoldable pub atSize : List ℕ → ℕ → List ℕ
+atSize old n = take n old ++ zeros (n - length old)
 
 -- old up to i, with zeros in the gap where it ends before i; xs; and what old has after them
 unfoldable pub laid : List ℕ → ℕ → List ℕ → List ℕ
-laid old i xs = sized old i ++ xs ++ drop (i + length xs) old
+laid old i xs = atSize old i ++ xs ++ drop (i + length xs) old
 
 -- a WRITE of xs at i: "n = 0 succeeds and changes nothing"; "a gap reads zero"
 unfoldable pub written : List ℕ → ℕ → List ℕ → List ℕ
@@ -37,4 +37,4 @@ made old (w ∷ ws) = made (after old w) ws
 -- the contents of a file whose size a call may set
 abbrev pub sizedTo : List ℕ → SetSize → List ℕ
 sizedTo old SetSize.Keep = old
-sizedTo old (SetSize.To n) = sized old n
+sizedTo old (SetSize.To n) = atSize old n

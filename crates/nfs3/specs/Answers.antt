@@ -12,8 +12,8 @@ abbrev pub answerOf : ℕ → Answer
 answerOf number = record { number = number; length = 0 }
 
 -- a clock of two numbers
-abbrev pub timeOf : ℕ → ℕ → Time
-timeOf seconds nanoseconds = record { seconds = seconds; nanoseconds = nanoseconds }
+abbrev pub clockOf : ℕ → ℕ → Time
+clockOf seconds nanoseconds = record { seconds = seconds; nanoseconds = nanoseconds }
 
 -- an answer and a buffer are what format gives
 pub record Formats (f : Formatted) (r : Answer) (store : List ℕ) : Type 0 where
@@ -22,7 +22,7 @@ pub record Formats (f : Formatted) (r : Answer) (store : List ℕ) : Type 0 wher
 
 -- a clock of two numbers, and a verifier
 abbrev pub contextOf : ℕ → ℕ → ℕ → Context
-contextOf seconds nanoseconds verifier = record { clock = timeOf seconds nanoseconds; verifier = verifier }
+contextOf seconds nanoseconds verifier = record { clock = clockOf seconds nanoseconds; verifier = verifier }
 
 -- an answer, a reply space and a store are what a call gives
 pub record Serves (o : Outcome) (r : Answer) (reply store : List ℕ) : Type 0 where

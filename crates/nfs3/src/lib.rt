@@ -1,7 +1,7 @@
 // The functions that a C program calls.
 ghost use mathlib.Core.Path.{_≡_};
 ghost use Rattle.spec.specs.Serve.{serve, check, format};
-ghost use Rattle.nfs3.specs.Answers.{answerOf, timeOf, contextOf, Formats, Serves};
+ghost use Rattle.nfs3.specs.Answers.{answerOf, clockOf, contextOf, Formats, Serves};
 use entry_reply::respond;
 use entry_tests::Opened;
 use entry_tests::open;
@@ -75,7 +75,7 @@ pub extern "C" fn nfs3_format(
     seconds: u32,
     nanoseconds: u32,
 ) -> Answer
-    ensures { λ r. ⌜ Formats (format (now (store .entry)) stamp objects names blocks (timeOf seconds nanoseconds)) r (now (store .exit)) ⌝ }
+    ensures { λ r. ⌜ Formats (format (now (store .entry)) stamp objects names blocks (clockOf seconds nanoseconds)) r (now (store .exit)) ⌝ }
 {
     let clock = Time {
         seconds,

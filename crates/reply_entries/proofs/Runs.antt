@@ -1,7 +1,6 @@
 -- Entries that are written one after the other are a run of entries. Assumes nothing.
 use mathlib.Core.Path.{_≡_, refl, ap, _∙_, subst}
 use mathlib.Core.Bool.{true, false}
-use mathlib.Core.Option.{Option, some, none}
 use mathlib.Core.List.{List, [], _∷_, _++_, map, append-nil}
 use Prim.Native.Nat.{ℕ, zero, suc, _+_, _-_, _≤_, _<_}
 use native.Mathlib.Omega.{arith}
@@ -11,14 +10,14 @@ use lib.Seq.{take-nil}
 use borrow.Author.Tests.{lt-ltb, le-ltb}
 use Rattle.kinds.specs.Layout.{childOffset, lengthOffset, textOffset}
 use Rattle.kinds.specs.Numbers.{mostObjects, entryFixedCost}
-use Rattle.spec.specs.Count.{passing, lowest}
+use Rattle.spec.specs.Count.{passing}
 use Rattle.spec.specs.Bytes.{part, beAt}
 use Rattle.spec.specs.Image.{Store, objects, names, nameStart, nameAt, nameFrom, nameLength}
-use Rattle.spec.specs.Room.{isUsedName, isNaming, isIn, directoryOf, parent}
+use Rattle.spec.specs.Room.{isUsedName, isIn, parent}
 use Rattle.spec.specs.Results.{Entry}
 use Rattle.spec.specs.Procedures.Listing.{entryOf, dotEntries, namedEntries, entries, entriesAbove, entryCost}
 use Rattle.spec.specs.Replies.{entryBytes, entriesBytes}
-use Rattle.laws.proofs.Count.{and-both, lowest-passes}
+use Rattle.laws.proofs.Count.{and-both}
 use Rattle.laws.proofs.Listing.{above-append, taken-bytes, passing-more, passing-split, entry-length}
 use Rattle.laws.proofs.GoodKept.{used-of}
 use Rattle.laws.proofs.GoodRecords.{GoodRecords}
@@ -125,19 +124,9 @@ module _ (s : Store) (cookie d : ℕ) where
       let k = wrote-length (a .wrote) in
       rw e (entries-append (above (namedEntries s d n)) (above later) a (entries-full (above later) r₁ q z (omega (arith, k, a .wrote .place, a .wrote .fits))))
 
--- ---- the objects of a used name record, and the parent of an object, are objects
+-- ---- the objects of a used name record are objects
 used-record : (s : Store) (n : ℕ) → GoodRecords s → n < names s → isUsedName s n ≡ true → UsedName s n
 used-record s n g l u = used-of s n (used-true s n u) (g .good-names n l)
-
-pub parent-below : (s : Store) (o : ℕ) → GoodRecords s → parent s o < objects s
-unfolding parent isNaming
-parent-below s o g = from (lowest (names s) (isNaming s o)) refl
-  where
-    from : (found : Option ℕ) → lowest (names s) (isNaming s o) ≡ found → directoryOf s found < objects s
-    from none e = g .sound .shaped .some-object
-    from (some n) e =
-        let k = lowest-passes (isNaming s o) (names s) n e in
-        used-record s n g (k .below) (and-both (isUsedName s n) (eqb (nameAt s n .child) o) (k .passes) .0) .directory
 
 -- ---- the entry of one name record
 module _ (s : Store) (d n : ℕ) where

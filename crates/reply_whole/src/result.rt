@@ -1,14 +1,13 @@
 // A whole reply to a call whose procedure ran.
-ghost use mathlib.Core.List.{[], _∷_};
 ghost use Prim.Native.Nat.{_≤_};
 ghost use lib.ListN.{length};
 ghost use Rattle.kinds.specs.Numbers.{leastReplyBytes};
-ghost use Rattle.spec.specs.Bytes.{words};
 ghost use Rattle.spec.specs.Replies.{resultBytes};
 ghost use Rattle.spec.specs.Rpc.{accepted};
 ghost use Rattle.results.specs.Meaning.{resultOf};
 ghost use Rattle.results.specs.Writable.{Writable};
 ghost use Rattle.xdr.specs.Wrote.{Wrote};
+use kinds::numbers::Message;
 use kinds::numbers::Status;
 use reply_bodies::put_created;
 use reply_bodies::put_found;
@@ -25,17 +24,8 @@ use reply_bodies::put_verifier;
 use reply_bodies::put_written;
 use reply_fields::failure::put_dead;
 use results::Reply;
+use rpc::outcome::put_head;
 use xdr::write::put_word;
-use xdr::write::put_words;
-
-// The head of an accepted reply: xid, REPLY, MSG_ACCEPTED, a verifier of flavor 0 and length 0, SUCCESS.
-fn put_accepted(reply: &mut [u8], xid: u32) -> usize
-    requires { ⌜ 24 ≤ length (now reply) ⌝ }
-    ensures { λ r. ⌜ Wrote 24 (now (reply .entry)) (now (reply .exit)) 0 r (words (xid ∷ 1 ∷ 0 ∷ 0 ∷ 0 ∷ 0 ∷ [])) ⌝ }
-{
-    let ws = [xid, 1, 0, 0, 0, 0];
-    put_words(reply, 0, &ws)
-}
 
 // The reply to a procedure that gave r.
 pub fn put_result(reply: &mut [u8], store: &[u8], procedure: u32, xid: u32, r: Reply) -> usize
@@ -44,7 +34,7 @@ pub fn put_result(reply: &mut [u8], store: &[u8], procedure: u32, xid: u32, r: R
     requires { ⌜ Writable (now store) r ⌝ }
     ensures { λ next. ⌜ Wrote (length (accepted xid 0 (resultBytes procedure (resultOf (now (store .entry)) r)))) (now (reply .entry)) (now (reply .exit)) 0 next (accepted xid 0 (resultBytes procedure (resultOf (now (store .entry)) r))) ⌝ }
 {
-    let at = put_accepted(reply, xid);
+    let at = put_head(reply, xid, Message::SUCCESS);
     match r {
         Reply::Null => at,
         Reply::Dead(status) => put_dead(reply, at, procedure as usize, status),

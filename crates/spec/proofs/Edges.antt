@@ -6,7 +6,7 @@ use mathlib.Core.Path.{_≡_, refl}
 use Rattle.spec.specs.Bytes.{zeros, beAt, words, opaqueBytes}
 use Rattle.spec.specs.Image.{Store}
 use Rattle.spec.specs.Serve.{check, format}
-use Rattle.spec.proofs.Setting.{space, fresh, callTo, served, after, replied, answered, statusIn, handleTo, getattrCall, createCall}
+use Rattle.spec.proofs.Setting.{space, fresh, callTo, served, after, replied, answered, statusSent, handleTo, getattrCall, createCall}
 use Rattle.spec.proofs.Setting.{removeCall, readdirCall, rootWords, nameA, rootAlone, withoutBlocks, setattrCall, createBy, mkdirBy, rmdirCall}
 use Rattle.spec.proofs.Setting.{renameCall, nameB, answerTo, twoDirectories, threeDirectories, computing}
 
@@ -39,43 +39,43 @@ pub record Edges : Type 0 where
   -- "The other five answer NOTSUPP with their arguments unread." with the table's zero words; "Other length .. BADHANDLE"
   pub not-served : served (callTo 15 (words (9 ∷ []))) rootAlone ≡ replied (answered (10004 ∷ 0 ∷ 0 ∷ 0 ∷ [])) rootAlone
   pub bad-handle : served (callTo 14 (words (0 ∷ 0 ∷ 0 ∷ 0 ∷ []))) rootAlone ≡ replied (answered (10001 ∷ 0 ∷ 0 ∷ 0 ∷ 0 ∷ [])) rootAlone
-  pub object-past-end : statusIn (served (getattrCall 1) rootAlone) ≡ 10001
+  pub object-past-end : statusSent (served (getattrCall 1) rootAlone) ≡ 10001
   -- SETATTR: "guard differs, NOT_SYNC; then INVAL for mode over 4,095"; "size on a directory"
-  pub guard-first : statusIn (served (setattrCall 0 (1 ∷ 4096 ∷ 0 ∷ 0 ∷ 0 ∷ 0 ∷ 0 ∷ 1 ∷ 0 ∷ 0 ∷ [])) rootAlone) ≡ 10002
-  pub mode-over : statusIn (served (setattrCall 0 (1 ∷ 4096 ∷ 0 ∷ 0 ∷ 0 ∷ 0 ∷ 0 ∷ 0 ∷ [])) rootAlone) ≡ 22
-  pub mode-fits : statusIn (served (setattrCall 0 (1 ∷ 4095 ∷ 0 ∷ 0 ∷ 0 ∷ 0 ∷ 0 ∷ 0 ∷ [])) rootAlone) ≡ 0
-  pub directory-size : statusIn (served (setattrCall 0 (0 ∷ 0 ∷ 0 ∷ 1 ∷ 0 ∷ 0 ∷ 0 ∷ 0 ∷ 0 ∷ [])) rootAlone) ≡ 22
-  pub no-room : statusIn (served (setattrCall 1 (0 ∷ 0 ∷ 0 ∷ 1 ∷ 0 ∷ 513 ∷ 0 ∷ 0 ∷ 0 ∷ [])) (after (createCall nameA ∷ []) (fresh 2 1 1))) ≡ 28
+  pub guard-first : statusSent (served (setattrCall 0 (1 ∷ 4096 ∷ 0 ∷ 0 ∷ 0 ∷ 0 ∷ 0 ∷ 1 ∷ 0 ∷ 0 ∷ [])) rootAlone) ≡ 10002
+  pub mode-over : statusSent (served (setattrCall 0 (1 ∷ 4096 ∷ 0 ∷ 0 ∷ 0 ∷ 0 ∷ 0 ∷ 0 ∷ [])) rootAlone) ≡ 22
+  pub mode-fits : statusSent (served (setattrCall 0 (1 ∷ 4095 ∷ 0 ∷ 0 ∷ 0 ∷ 0 ∷ 0 ∷ 0 ∷ [])) rootAlone) ≡ 0
+  pub directory-size : statusSent (served (setattrCall 0 (0 ∷ 0 ∷ 0 ∷ 1 ∷ 0 ∷ 0 ∷ 0 ∷ 0 ∷ 0 ∷ [])) rootAlone) ≡ 22
+  pub no-room : statusSent (served (setattrCall 1 (0 ∷ 0 ∷ 0 ∷ 1 ∷ 0 ∷ 513 ∷ 0 ∷ 0 ∷ 0 ∷ [])) (after (createCall nameA ∷ []) (fresh 2 1 1))) ≡ 28
   -- CREATE: "EXCLUSIVE gives NOTSUPP before name checks."; dots EXIST; INVAL before an existing name; GUARDED on one EXIST
-  pub exclusive : statusIn (served (createBy [] (2 ∷ 0 ∷ 0 ∷ [])) rootAlone) ≡ 10004
-  pub empty-name : statusIn (served (createCall []) rootAlone) ≡ 13
-  pub long-name : statusIn (served (createCall (replicate 33 0x61)) rootAlone) ≡ 63
-  pub create-dot : statusIn (served (createBy (0x2E ∷ []) (0 ∷ 1 ∷ 4096 ∷ 0 ∷ 0 ∷ 0 ∷ 0 ∷ 0 ∷ [])) rootAlone) ≡ 17
-  pub invalid-first : statusIn (served (createBy nameA (1 ∷ 1 ∷ 4096 ∷ 0 ∷ 0 ∷ 0 ∷ 0 ∷ 0 ∷ [])) withoutBlocks) ≡ 22
-  pub guarded : statusIn (served (createBy nameA (1 ∷ 0 ∷ 0 ∷ 0 ∷ 0 ∷ 0 ∷ 0 ∷ [])) withoutBlocks) ≡ 17
-  pub mkdir-size : statusIn (served (mkdirBy nameA (0 ∷ 0 ∷ 0 ∷ 1 ∷ 0 ∷ 0 ∷ 0 ∷ 0 ∷ [])) withoutBlocks) ≡ 22
+  pub exclusive : statusSent (served (createBy [] (2 ∷ 0 ∷ 0 ∷ [])) rootAlone) ≡ 10004
+  pub empty-name : statusSent (served (createCall []) rootAlone) ≡ 13
+  pub long-name : statusSent (served (createCall (replicate 33 0x61)) rootAlone) ≡ 63
+  pub create-dot : statusSent (served (createBy (0x2E ∷ []) (0 ∷ 1 ∷ 4096 ∷ 0 ∷ 0 ∷ 0 ∷ 0 ∷ 0 ∷ [])) rootAlone) ≡ 17
+  pub invalid-first : statusSent (served (createBy nameA (1 ∷ 1 ∷ 4096 ∷ 0 ∷ 0 ∷ 0 ∷ 0 ∷ 0 ∷ [])) withoutBlocks) ≡ 22
+  pub guarded : statusSent (served (createBy nameA (1 ∷ 0 ∷ 0 ∷ 0 ∷ 0 ∷ 0 ∷ 0 ∷ [])) withoutBlocks) ≡ 17
+  pub mkdir-size : statusSent (served (mkdirBy nameA (0 ∷ 0 ∷ 0 ∷ 1 ∷ 0 ∷ 0 ∷ 0 ∷ 0 ∷ [])) withoutBlocks) ≡ 22
   -- REMOVE and RMDIR: dots, NOENT, the wrong type
-  pub remove-dot : statusIn (served (removeCall (0x2E ∷ [])) withoutBlocks) ≡ 13
-  pub remove-none : statusIn (served (removeCall nameB) withoutBlocks) ≡ 2
-  pub remove-directory : statusIn (served (removeCall nameA) twoDirectories) ≡ 13
-  pub rmdir-dot : statusIn (served (rmdirCall (0x2E ∷ [])) withoutBlocks) ≡ 22
-  pub rmdir-file : statusIn (served (rmdirCall nameA) withoutBlocks) ≡ 20
-  pub rmdir-full : statusIn (served (rmdirCall nameA) twoDirectories) ≡ 66
+  pub remove-dot : statusSent (served (removeCall (0x2E ∷ [])) withoutBlocks) ≡ 13
+  pub remove-none : statusSent (served (removeCall nameB) withoutBlocks) ≡ 2
+  pub remove-directory : statusSent (served (removeCall nameA) twoDirectories) ≡ 13
+  pub rmdir-dot : statusSent (served (rmdirCall (0x2E ∷ [])) withoutBlocks) ≡ 22
+  pub rmdir-file : statusSent (served (rmdirCall nameA) withoutBlocks) ≡ 20
+  pub rmdir-full : statusSent (served (rmdirCall nameA) twoDirectories) ≡ 66
   -- "Freeing an object raises its generation by one"; the handle is STALE ever after
   pub generation-raised : wordAfter (removeCall nameA) withoutBlocks (12 + 80 + 4) ≡ 1
-  pub stale-after : statusIn (served (getattrCall 1) (after (removeCall nameA ∷ createCall nameB ∷ []) withoutBlocks)) ≡ 70
+  pub stale-after : statusSent (served (getattrCall 1) (after (removeCall nameA ∷ createCall nameB ∷ []) withoutBlocks)) ≡ 70
   -- RENAME: EXIST before "a directory into itself or below, INVAL"
-  pub rename-exists : statusIn (served (renameCall 0 nameA 1 nameB) twoDirectories) ≡ 17
-  pub rename-below : statusIn (served (renameCall 0 nameA 2 nameA) twoDirectories) ≡ 22
-  pub rename-itself : statusIn (served (renameCall 0 nameA 1 nameA) twoDirectories) ≡ 22
+  pub rename-exists : statusSent (served (renameCall 0 nameA 1 nameB) twoDirectories) ≡ 17
+  pub rename-below : statusSent (served (renameCall 0 nameA 2 nameA) twoDirectories) ≡ 22
+  pub rename-itself : statusSent (served (renameCall 0 nameA 1 nameA) twoDirectories) ≡ 22
   -- "Testing only the immediate parent": a into a/b/c
-  pub rename-deep : statusIn (served (renameCall 0 nameA 3 nameA) threeDirectories) ≡ 22
+  pub rename-deep : statusSent (served (renameCall 0 nameA 3 nameA) threeDirectories) ≡ 22
   pub rename-up : check (after (renameCall 1 nameB 0 nameB ∷ []) twoDirectories) ≡ 0
   -- WRITE: INVAL before FBIG; READDIR: BAD_COOKIE before TOOSMALL; TOOSMALL below 104 even if nothing remains
-  pub count-first : statusIn (served (callTo 7 (handleTo 1 ++ words (0 ∷ 9000 ∷ 2 ∷ 2 ∷ []) ++ opaqueBytes nameA)) withoutBlocks) ≡ 22
-  pub huge-offset : statusIn (served (callTo 7 (handleTo 1 ++ words (4294967295 ∷ 4294967295 ∷ 1 ∷ 2 ∷ []) ++ opaqueBytes nameA)) withoutBlocks) ≡ 27
-  pub bad-cookie : statusIn (served (callTo 16 (handleTo 0 ++ words (0 ∷ 0 ∷ 0 ∷ 1 ∷ 0 ∷ []))) rootAlone) ≡ 10003
-  pub nothing-fits : statusIn (served (readdirCall 2 103) rootAlone) ≡ 10005
+  pub count-first : statusSent (served (callTo 7 (handleTo 1 ++ words (0 ∷ 9000 ∷ 2 ∷ 2 ∷ []) ++ opaqueBytes nameA)) withoutBlocks) ≡ 22
+  pub huge-offset : statusSent (served (callTo 7 (handleTo 1 ++ words (4294967295 ∷ 4294967295 ∷ 1 ∷ 2 ∷ []) ++ opaqueBytes nameA)) withoutBlocks) ≡ 27
+  pub bad-cookie : statusSent (served (callTo 16 (handleTo 0 ++ words (0 ∷ 0 ∷ 0 ∷ 1 ∷ 0 ∷ []))) rootAlone) ≡ 10003
+  pub nothing-fits : statusSent (served (readdirCall 2 103) rootAlone) ≡ 10005
   -- ACCESS: bits within 0x1F for directories, 0x2D for files
   pub access-directory : served (callTo 4 (handleTo 0 ++ words (0xFFFFFFFF ∷ []))) rootAlone ≡ replied (answered (0 ∷ 1 ∷ rootWords ++ (0x1F ∷ []))) rootAlone
   -- FSSTAT, FSINFO and PATHCONF of the root

@@ -10,7 +10,7 @@ use Rattle.spec.specs.Check.{goodNameRecord, isDistinct, isNamedOnce, is
 use Rattle.spec.specs.Count.{sum, count, every, some-below, passing, lowest, times, iterate}
 use Rattle.spec.specs.Edits.{withAttributes, setAttributes, clearBlocks, clearTail, blockNumbers, withSize, resize, withGeneration}
 use Rattle.spec.specs.Edits.{createObject, removeObject, moveName, writeThrough, readThrough, writeFile, readFile}
-use Rattle.spec.specs.Handles.{handleOf, reach, reachDirectory, checkName, shownSize, usedBytes, linkCount, attributes, before, change, handleChange}
+use Rattle.spec.specs.Handles.{handleOf, reach, reachDirectory, checkName, sizeAttribute, usedBytes, linkCount, attributes, before, change, handleChange}
 use Rattle.spec.specs.Header.{credential, callHeader, header}
 use Rattle.spec.specs.Image.{Store, volumes, stamp, objects, names, blocks, halvesAt, halvesBytes, timeAt, timeBytes, objectFrom, headBytes}
 use Rattle.spec.specs.Image.{timesBytes, objectBytes, objectAt, putObject, nameFrom, nameBytes, nameAt, nameLength, putName}
@@ -65,8 +65,8 @@ abbrev pub answered : List ℕ → List ℕ
 answered rest = words (7 ∷ 1 ∷ 0 ∷ 0 ∷ 0 ∷ 0 ∷ rest)
 
 -- the status word of a reply
-abbrev pub statusIn : Outcome → ℕ
-statusIn o = beAt (o .space) 24 4
+abbrev pub statusSent : Outcome → ℕ
+statusSent o = beAt (o .space) 24 4
 
 -- the handle of object o at generation 0, as XDR
 abbrev pub handleTo : ℕ → List ℕ
@@ -183,7 +183,7 @@ unfolding handle unbounded nameIn time setNumber setSize setTime settable guard 
     opaqueBytes sameBytes allBytes isZero goodCounts goodShape goodTime goodBlock goodSize goodLive goodFree goodObject goodRoot goodUsed
     goodNameRecord isDistinct isNamedOnce isUsedOnce leadsToRoot passes sum every some-below passing lowest times iterate withAttributes
     setAttributes clearBlocks clearTail blockNumbers withSize resize withGeneration createObject removeObject moveName writeThrough readThrough
-    writeFile readFile handleOf reach reachDirectory checkName shownSize usedBytes linkCount attributes before change handleChange credential
+    writeFile readFile handleOf reach reachDirectory checkName sizeAttribute usedBytes linkCount attributes before change handleChange credential
     callHeader header volumes stamp objects names blocks halvesAt halvesBytes timeAt timeBytes objectFrom headBytes timesBytes objectBytes objectAt
     putObject nameFrom nameBytes nameAt nameLength putName isDot isDotDot goodByte goodBytes goodName act badAttributes lacksRoom sizeTouches
     getattr checkSetattr setattrEdit setattr grantedBits access reachRegular readLength readResult read checkWrite writeEdit writeStore writeDone

@@ -7,7 +7,7 @@ use mathlib.Core.Path.{_≡_, refl}
 use Rattle.spec.specs.Bytes.{part, words}
 use Rattle.spec.specs.Count.{passing}
 use Rattle.spec.specs.Serve.{check}
-use Rattle.spec.proofs.Setting.{space, fresh, callTo, served, replied, answered, statusIn, handleTo, getattrCall, lookupCall, createCall}
+use Rattle.spec.proofs.Setting.{space, fresh, callTo, served, replied, answered, statusSent, handleTo, getattrCall, lookupCall, createCall}
 use Rattle.spec.proofs.Setting.{mkdirCall, writeCall, readCall, readdirCall, rootWords, tag0123456789, tag123456789, nameA, rootAlone, withA}
 use Rattle.spec.proofs.Setting.{withoutBlocks, withTags, fileRead, computing}
 
@@ -26,7 +26,7 @@ pub record Starred : Type 0 where
   -- "P=1, Q=0, R=0: 100 bytes; MKDIR gives NOSPC."
   pub smallest : length rootAlone ≡ 100
   pub smallest-passes : check rootAlone ≡ 0
-  pub smallest-full : statusIn (served (mkdirCall nameA) rootAlone) ≡ 28
+  pub smallest-full : statusSent (served (mkdirCall nameA) rootAlone) ≡ 28
   pub smallest-kept : served (mkdirCall nameA) rootAlone .store ≡ rootAlone
   -- "Root just formatted, READDIR cookie 0, count 160: both dots, eof, 188 bytes."
   pub listing : served (readdirCall 0 160) rootAlone ≡ replied
@@ -38,10 +38,10 @@ pub record Starred : Type 0 where
   pub too-small : served (readdirCall 0 131) rootAlone ≡ replied (answered (10005 ∷ 1 ∷ rootWords)) rootAlone
   pub empty : served (readdirCall 2 104) rootAlone ≡ replied (answered (0 ∷ 1 ∷ rootWords ++ (0 ∷ 0 ∷ 0 ∷ 1 ∷ []))) rootAlone
   -- "WRITE of 1 byte at 8,191 fits; at 8,192 FBIG; 0 bytes there succeeds."
-  pub last-byte : statusIn (served (writeCall 1 8191 nameA) withA) ≡ 0
+  pub last-byte : statusSent (served (writeCall 1 8191 nameA) withA) ≡ 0
   pub last-byte-stored : getD (served (writeCall 1 8191 nameA) withA .store) (20 + 160 + 44 + 8191) 0 ≡ 0x61
-  pub past-end : statusIn (served (writeCall 1 8192 nameA) withA) ≡ 27
-  pub nothing-there : statusIn (served (writeCall 1 8192 []) withA) ≡ 0
+  pub past-end : statusSent (served (writeCall 1 8192 nameA) withA) ≡ 27
+  pub nothing-there : statusSent (served (writeCall 1 8192 []) withA) ≡ 0
   pub nothing-changed : served (writeCall 1 8192 []) withoutBlocks .store ≡ withoutBlocks
   -- ""0123456789" and "123456789" are two files.": each is found, and each has its own bytes
   pub both-pass : check withTags ≡ 0

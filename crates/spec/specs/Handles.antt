@@ -45,8 +45,8 @@ checkName text = do
   refuseIf (not (goodBytes text)) ACCES
 
 -- "Directory size 512"
-unfoldable pub shownSize : Store → ℕ → ℕ
-shownSize s o = cond (isDirectory s o) 512 (sizeOf s o)
+unfoldable pub sizeAttribute : Store → ℕ → ℕ
+sizeAttribute s o = cond (isDirectory s o) 512 (sizeOf s o)
 
 -- "Directory .. used 0; file used is 512 times its blocks."
 unfoldable pub usedBytes : Store → ℕ → ℕ
@@ -65,7 +65,7 @@ attributes s o =
       nlink = linkCount s o;
       uid = objectAt s o .uid;
       gid = objectAt s o .gid;
-      size = shownSize s o;
+      size = sizeAttribute s o;
       used = usedBytes s o;
       fsid = stamp s;
       fileid = o + 1;
@@ -75,7 +75,7 @@ attributes s o =
     }
 
 unfoldable pub before : Store → ℕ → Before
-before s o = record { size = shownSize s o; mtime = objectAt s o .mtime; ctime = objectAt s o .ctime }
+before s o = record { size = sizeAttribute s o; mtime = objectAt s o .mtime; ctime = objectAt s o .ctime }
 
 -- object o before a call, in s, and after it, in t
 unfoldable pub change : Store → Store → ℕ → Change

@@ -2,7 +2,7 @@
 ghost use mathlib.Core.Path.{_≡_};
 ghost use Prim.Native.Nat.{_<_};
 ghost use Rattle.spec.specs.Image.{objects};
-ghost use Rattle.spec.specs.Handles.{shownSize, usedBytes, linkCount, attributes, before};
+ghost use Rattle.spec.specs.Handles.{sizeAttribute, usedBytes, linkCount, attributes, before};
 ghost use Rattle.laws.proofs.GoodRecords.{GoodRecords};
 use kinds::layout::Block;
 use kinds::numbers::ObjectNumber;
@@ -28,7 +28,7 @@ const DIRECTORY_SIZE: u32 = 512;
 pub fn shown_size(store: &[u8], o: ObjectNumber) -> u32
     requires { ⌜ GoodRecords (now store) ⌝ }
     requires { ⌜ o .0 < objects (now store) ⌝ }
-    ensures { λ r. ⌜ r ≡ shownSize (now (store .entry)) (o .0) ⌝ }
+    ensures { λ r. ⌜ r ≡ sizeAttribute (now (store .entry)) (o .0) ⌝ }
 {
     if is_directory(store, o) {
         return DIRECTORY_SIZE;

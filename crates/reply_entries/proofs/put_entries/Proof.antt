@@ -1,8 +1,9 @@
 use native.Mathlib.Omega.{arith}
 use Rattle.spec.specs.Image.{names}
 use Rattle.spec.specs.Procedures.Listing.{namedEntries, entriesAbove}
+use Rattle.store_search.proofs.Entry.{parent-below}
 use Rattle.reply_entries.specs.Entries.{dots}
-use Rattle.reply_entries.proofs.Runs.{above-entries, parent-below, entries-append, front-room, rest-room}
+use Rattle.reply_entries.proofs.Runs.{above-entries, entries-append, front-room, rest-room}
 use borrow.Author.Needs.{needs}
 use Rattle.reply_entries.proofs.put_entries.Statement.{statement}
 use Rattle.reply_entries.proofs.put_entries.Tie as tie
@@ -21,7 +22,7 @@ put-dots-requires c κs =
     let rest = entriesAbove (a .cookie) (namedEntries (a .store .now) (a .directory .0) (names (a .store .now))) in (
       omega (arith, g .directory),
       (
-        omega (arith, p .ensures, parent-below (a .store .now) (a .directory .0) (g .good)),
+        omega (arith, p .ensures, parent-below (a .store .now) (g .good) (a .directory .0)),
         front-room (record { at = a .at; left = a .count }) first rest (a .reply .now)
             (rw (above-entries (a .store .now) (a .cookie) (a .directory .0) (p .result .0) (p .ensures)) at (st .pre .1)),
       ),

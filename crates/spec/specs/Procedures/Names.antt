@@ -116,10 +116,10 @@ checkCreate s h text manner = do
   t ← checkHow s d text manner
   passed (d, t)
 
-abbrev pub settableOf : How → Settable
-settableOf (How.Unchecked a) = a
-settableOf (How.Guarded a) = a
-settableOf (How.Exclusive verifier) = onlyCtime
+abbrev pub settableIn : How → Settable
+settableIn (How.Unchecked a) = a
+settableIn (How.Guarded a) = a
+settableIn (How.Exclusive verifier) = onlyCtime
 
 -- "(one given sets mtime and ctime; ..)"
 abbrev pub existingEdit : Store → Context → ℕ → SetSize → Store
@@ -132,7 +132,7 @@ createEdit s c d text a (existing o) = createdIn s (existingEdit s c o (a .size)
 
 unfoldable pub create : Store → Context → List ℕ → List ℕ → How → Done
 create s c h text manner =
-    settle s (failChanging s h) (checkCreate s h text manner) (λ p. createEdit s c (p .0) text (settableOf manner) (p .1))
+    settle s (failChanging s h) (checkCreate s h text manner) (λ p. createEdit s c (p .0) text (settableIn manner) (p .1))
 
 -- "MKDIR: as GUARDED CREATE; a size given is INVAL.": the directory, the object and the name record
 unfoldable pub checkMkdir : Store → List ℕ → List ℕ → Settable → Checked (ℕ × ℕ × ℕ)

@@ -1,5 +1,5 @@
 use borrow.Author.Needs.{needs}
-use Rattle.spec.specs.Handles.{shownSize}
+use Rattle.spec.specs.Handles.{sizeAttribute}
 use Rattle.store_attributes.proofs.shown_size.Statement.{statement}
 use Rattle.store_attributes.proofs.shown_size.Tie as tie
 
@@ -7,14 +7,14 @@ is-directory-requires : tie.Need-is-directory-requires
 is-directory-requires c κs = search needs
 
 returns : tie.Need-returns
-unfolding shownSize
+unfolding sizeAttribute
 returns c = rw (← c .before .is-directory .ensures, c .if1 .taken)
 
 size-of-requires : tie.Need-size-of-requires
 size-of-requires c κs = search needs
 
 returns-2 : tie.Need-returns-2
-unfolding shownSize
+unfolding sizeAttribute
 returns-2 c = rw (← c .before .before .is-directory .ensures, c .before .if1 .left) (c .size-of .ensures)
 
 pub shown-size-spec : {M : Type 1} → statement M

@@ -4,13 +4,13 @@ use Rattle.spec.specs.Replies.{resultBytes}
 use Rattle.spec.specs.Rpc.{accepted}
 use Rattle.laws.proofs.FileBytes.{readFile-length}
 use Rattle.xdr.proofs.Wrote.{wrote-none, andThen, andWords, sized}
-use Rattle.reply_whole.proofs.Behind.{behindWords, behindParts, seven-behind}
+use Rattle.reply_whole.proofs.Joined.{joinWords, joinParts, seven-joined}
 use borrow.Author.Needs.{needs}
 use Rattle.reply_whole.proofs.result.put_result.Statement.{statement}
 use Rattle.reply_whole.proofs.result.put_result.Tie as tie
 
-put-accepted-requires : tie.Need-put-accepted-requires
-put-accepted-requires c κs = search needs
+put-head-requires : tie.Need-put-head-requires
+put-head-requires c κs = search needs
 
 enum-told : tie.Need-enum-told
 enum-told c = search needs
@@ -188,8 +188,8 @@ returns : tie.Need-returns
 unfolding accepted resultBytes
 returns c =
     let a = c .before .before .before .before .before .before .before .before .args in
-    rw (c .enum-told .given .1) (sized _ (andThen (c .before .before .before .before .put-accepted .ensures)
-    (wrote-none _ (c .before .before .before .before .put-accepted .result) (omega arith))))
+    rw (c .enum-told .given .1) (sized _ (andThen (c .before .before .before .before .put-head .ensures)
+    (wrote-none _ (c .before .before .before .before .put-head .result) (omega arith))))
 
 same-length-2 : tie.Need-same-length-2
 same-length-2 c = search needs
@@ -197,7 +197,7 @@ same-length-2 c = search needs
 returns-2 : tie.Need-returns-2
 unfolding accepted resultBytes
 returns-2 c = rw (c .before .before .before .before .before .r .given .1)
-    (sized _ (andThen (c .before .before .before .before .before .before .before .before .before .put-accepted .ensures)
+    (sized _ (andThen (c .before .before .before .before .before .before .before .before .before .put-head .ensures)
     (c .before .before .put-dead .ensures)))
 
 same-length-3 : tie.Need-same-length-3
@@ -206,7 +206,7 @@ same-length-3 c = search needs
 returns-3 : tie.Need-returns-3
 unfolding accepted resultBytes
 returns-3 c = rw (c .before .before .before .before .before .r2 .given .1)
-    (sized _ (andThen (c .before .before .before .before .before .before .before .before .before .put-accepted .ensures)
+    (sized _ (andThen (c .before .before .before .before .before .before .before .before .before .put-head .ensures)
     (c .before .before .put-status-post-op-attr .ensures)))
 
 same-length-4 : tie.Need-same-length-4
@@ -215,7 +215,7 @@ same-length-4 c = search needs
 returns-4 : tie.Need-returns-4
 unfolding accepted resultBytes
 returns-4 c = rw (c .before .before .before .before .before .r3 .given .1)
-    (sized _ (andThen (c .before .before .before .before .before .before .before .before .before .put-accepted .ensures)
+    (sized _ (andThen (c .before .before .before .before .before .before .before .before .before .put-head .ensures)
     (c .before .before .put-status-wcc-data .ensures)))
 
 same-length-5 : tie.Need-same-length-5
@@ -224,7 +224,7 @@ same-length-5 c = search needs
 returns-5 : tie.Need-returns-5
 unfolding accepted resultBytes
 returns-5 c = rw (c .before .before .before .before .before .r4 .given .1)
-    (sized _ (andThen (c .before .before .before .before .before .before .before .before .before .put-accepted .ensures)
+    (sized _ (andThen (c .before .before .before .before .before .before .before .before .before .put-head .ensures)
     (c .before .before .put-renamed .ensures)))
 
 same-length-6 : tie.Need-same-length-6
@@ -233,7 +233,7 @@ same-length-6 c = search needs
 returns-6 : tie.Need-returns-6
 unfolding accepted resultBytes
 returns-6 c = rw (c .before .before .before .before .before .r5 .given .1)
-    (sized _ (andThen (c .before .before .before .before .before .before .before .before .before .put-accepted .ensures)
+    (sized _ (andThen (c .before .before .before .before .before .before .before .before .before .put-head .ensures)
     (c .before .before .put-got-attributes .ensures)))
 
 same-length-7 : tie.Need-same-length-7
@@ -242,7 +242,7 @@ same-length-7 c = search needs
 returns-7 : tie.Need-returns-7
 unfolding accepted resultBytes
 returns-7 c = rw (c .before .before .before .before .before .r6 .given .1)
-    (sized _ (andThen (c .before .before .before .before .before .before .before .before .before .put-accepted .ensures)
+    (sized _ (andThen (c .before .before .before .before .before .before .before .before .before .put-head .ensures)
     (c .before .before .put-found .ensures)))
 
 same-length-8 : tie.Need-same-length-8
@@ -251,7 +251,7 @@ same-length-8 c = search needs
 returns-8 : tie.Need-returns-8
 unfolding accepted resultBytes
 returns-8 c = rw (c .before .before .before .before .before .before .before .before .before .r7 .given .1)
-    (sized _ (andThen (c .before .before .before .before .before .before .before .before .before .before .before .before .before .put-accepted .ensures)
+    (sized _ (andThen (c .before .before .before .before .before .before .before .before .before .before .before .before .before .put-head .ensures)
     (andWords _ _ (c .before .before .before .before .before .before .put-status-post-op-attr2 .ensures) (c .before .before .put-word .ensures))))
 
 same-length-9 : tie.Need-same-length-9
@@ -260,8 +260,8 @@ same-length-9 c = search needs
 returns-9 : tie.Need-returns-9
 unfolding accepted resultBytes
 returns-9 c = rw (c .before .before .before .before .before .before .before .before .before .r8 .given .1, readFile-length)
-    (sized _ (andThen (c .before .before .before .before .before .before .before .before .before .before .before .before .before .put-accepted .ensures)
-    (behindWords _ _ _ (c .before .before .before .before .before .before .put-status-post-op-attr3 .ensures) (c .before .before .put-read-bytes .ensures))))
+    (sized _ (andThen (c .before .before .before .before .before .before .before .before .before .before .before .before .before .put-head .ensures)
+    (joinWords _ _ _ (c .before .before .before .before .before .before .put-status-post-op-attr3 .ensures) (c .before .before .put-read-bytes .ensures))))
 
 same-length-10 : tie.Need-same-length-10
 same-length-10 c = search needs
@@ -269,7 +269,7 @@ same-length-10 c = search needs
 returns-10 : tie.Need-returns-10
 unfolding accepted resultBytes
 returns-10 c = rw (c .before .before .before .before .before .before .before .before .before .r9 .given .1)
-    (sized _ (andThen (c .before .before .before .before .before .before .before .before .before .before .before .before .before .put-accepted .ensures)
+    (sized _ (andThen (c .before .before .before .before .before .before .before .before .before .before .before .before .before .put-head .ensures)
     (andWords _ _ (c .before .before .before .before .before .before .put-status-wcc-data2 .ensures) (c .before .before .put-written .ensures))))
 
 same-length-11 : tie.Need-same-length-11
@@ -278,7 +278,7 @@ same-length-11 c = search needs
 returns-11 : tie.Need-returns-11
 unfolding accepted resultBytes
 returns-11 c = rw (c .before .before .before .before .before .r10 .given .1)
-    (sized _ (andThen (c .before .before .before .before .before .before .before .before .before .put-accepted .ensures)
+    (sized _ (andThen (c .before .before .before .before .before .before .before .before .before .put-head .ensures)
     (c .before .before .put-created .ensures)))
 
 same-length-12 : tie.Need-same-length-12
@@ -287,16 +287,16 @@ same-length-12 c = search needs
 returns-12 : tie.Need-returns-12
 unfolding accepted resultBytes
 returns-12 c = rw (c .before .before .before .before .before .before .before .before .before .r11 .given .1)
-    (sized _ (andThen (c .before .before .before .before .before .before .before .before .before .before .before .before .before .put-accepted .ensures)
-    (behindParts _ _ _ _ (c .before .before .before .before .before .before .put-status-post-op-attr4 .ensures) (c .before .before .put-listing .ensures))))
+    (sized _ (andThen (c .before .before .before .before .before .before .before .before .before .before .before .before .before .put-head .ensures)
+    (joinParts _ _ _ _ (c .before .before .before .before .before .before .put-status-post-op-attr4 .ensures) (c .before .before .put-listing .ensures))))
 
 same-length-13 : tie.Need-same-length-13
 same-length-13 c = search needs
 
 returns-13 : tie.Need-returns-13
 unfolding accepted resultBytes
-returns-13 c = rw (c .before .before .before .before .before .before .before .before .before .r12 .given .1, seven-behind)
-    (sized _ (andThen (c .before .before .before .before .before .before .before .before .before .before .before .before .before .put-accepted .ensures)
+returns-13 c = rw (c .before .before .before .before .before .before .before .before .before .r12 .given .1, seven-joined)
+    (sized _ (andThen (c .before .before .before .before .before .before .before .before .before .before .before .before .before .put-head .ensures)
     (andWords _ _ (c .before .before .before .before .before .before .put-status-post-op-attr5 .ensures) (c .before .before .put-room .ensures))))
 
 same-length-14 : tie.Need-same-length-14
@@ -305,7 +305,7 @@ same-length-14 c = search needs
 returns-14 : tie.Need-returns-14
 unfolding accepted resultBytes
 returns-14 c = rw (c .before .before .before .before .before .before .before .before .before .r13 .given .1, append-assoc)
-    (sized _ (andThen (c .before .before .before .before .before .before .before .before .before .before .before .before .before .put-accepted .ensures)
+    (sized _ (andThen (c .before .before .before .before .before .before .before .before .before .before .before .before .before .put-head .ensures)
     (andWords _ _ (c .before .before .before .before .before .before .put-status-post-op-attr6 .ensures) (c .before .before .put-limits .ensures))))
 
 same-length-15 : tie.Need-same-length-15
@@ -314,7 +314,7 @@ same-length-15 c = search needs
 returns-15 : tie.Need-returns-15
 unfolding accepted resultBytes
 returns-15 c = rw (c .before .before .before .before .before .before .before .before .before .r14 .given .1)
-    (sized _ (andThen (c .before .before .before .before .before .before .before .before .before .before .before .before .before .put-accepted .ensures)
+    (sized _ (andThen (c .before .before .before .before .before .before .before .before .before .before .before .before .before .put-head .ensures)
     (andWords _ _ (c .before .before .before .before .before .before .put-status-post-op-attr7 .ensures) (c .before .before .put-naming .ensures))))
 
 same-length-16 : tie.Need-same-length-16
@@ -323,13 +323,13 @@ same-length-16 c = search needs
 returns-16 : tie.Need-returns-16
 unfolding accepted resultBytes
 returns-16 c = rw (c .before .before .before .before .before .before .before .before .before .r15 .given .1)
-    (sized _ (andThen (c .before .before .before .before .before .before .before .before .before .before .before .before .before .put-accepted .ensures)
+    (sized _ (andThen (c .before .before .before .before .before .before .before .before .before .before .before .before .before .put-head .ensures)
     (andWords _ _ (c .before .before .before .before .before .before .put-status-wcc-data3 .ensures) (c .before .before .put-verifier .ensures))))
 
 pub put-result-spec : {M : Type 1} → statement M
 put-result-spec =
     tie.close (tie.spec
-    put-accepted-requires enum-told enum-known-r put-dead-requires enum-known-r-2 put-status-post-op-attr-requires enum-known-r-3
+    put-head-requires enum-told enum-known-r put-dead-requires enum-known-r-2 put-status-post-op-attr-requires enum-known-r-3
     put-status-wcc-data-requires enum-known-r-4 put-renamed-requires enum-known-r-5 put-got-attributes-requires enum-known-r-6 put-found-requires
     enum-known-r-7 put-status-post-op-attr-requires-2 put-word-requires enum-known-r-8 put-status-post-op-attr-requires-3 put-read-bytes-requires
     enum-known-r-9 put-status-wcc-data-requires-2 put-written-requires enum-known-r-10 put-created-requires enum-known-r-11

@@ -8,16 +8,16 @@ use Rattle.xdr.specs.Wrote.{Wrote}
 use Rattle.xdr.proofs.Wrote.{andThen}
 
 -- words and bytes
-pub behindWords : {n m : ℕ} {r r₁ r₂ : List ℕ} {at p q : ℕ} (xs ys bytes : List ℕ)
+pub joinWords : {n m : ℕ} {r r₁ r₂ : List ℕ} {at p q : ℕ} (xs ys bytes : List ℕ)
     → Wrote n r r₁ at p (words xs) → Wrote m r₁ r₂ p q (words ys ++ bytes) → Wrote (n + m) r r₂ at q (words (xs ++ ys) ++ bytes)
-behindWords xs ys bytes a b = rw (words-append xs ys, append-assoc (words xs) (words ys) bytes) (andThen a b)
+joinWords xs ys bytes a b = rw (words-append xs ys, append-assoc (words xs) (words ys) bytes) (andThen a b)
 
 -- words, and bytes in two parts
-pub behindParts : {n m : ℕ} {r r₁ r₂ : List ℕ} {at p q : ℕ} (xs ys bytes more : List ℕ)
+pub joinParts : {n m : ℕ} {r r₁ r₂ : List ℕ} {at p q : ℕ} (xs ys bytes more : List ℕ)
     → Wrote n r r₁ at p (words xs) → Wrote m r₁ r₂ p q (words ys ++ bytes ++ more) → Wrote (n + m) r r₂ at q (words (xs ++ ys) ++ bytes ++ more)
-behindParts xs ys bytes more a b =
-    rw (append-assoc (words (xs ++ ys)) bytes more) (behindWords xs ys (bytes ++ more) a (rw (append-assoc (words ys) bytes more) at b))
+joinParts xs ys bytes more a b =
+    rw (append-assoc (words (xs ++ ys)) bytes more) (joinWords xs ys (bytes ++ more) a (rw (append-assoc (words ys) bytes more) at b))
 
 -- the seven numbers of FSSTAT
-pub seven-behind : (xs a b c d e f g : List ℕ) → xs ++ a ++ b ++ c ++ d ++ e ++ f ++ g ≡ xs ++ (a ++ b ++ c ++ d ++ e ++ f ++ g)
-seven-behind xs a b c d e f g = simp append-assoc
+pub seven-joined : (xs a b c d e f g : List ℕ) → xs ++ a ++ b ++ c ++ d ++ e ++ f ++ g ≡ xs ++ (a ++ b ++ c ++ d ++ e ++ f ++ g)
+seven-joined xs a b c d e f g = simp append-assoc
