@@ -41,7 +41,8 @@ module _ (σ p q r : ℕ) (s : Store) (L : Ledger) (I : Inv σ p q r s L) where
             (of-stored ns (nameAt s n .directory) b),
       )
 
-  one-path : (o : ℕ) → LiveIn (view s) o → (ns : List ℕ) × Path (view s) o ns × ((ms : List ℕ) → Path (view s) o ms → ms ≡ ns) × (suc (length ns) ≤ liveObjects s)
+  one-path : (o : ℕ) → LiveIn (view s) o → (ns : List ℕ) × Path (view s) o ns × ((ms : List ℕ) → Path (view s) o ms → ms ≡ ns) ×
+      (suc (length ns) ≤ liveObjects s)
   unfolding T
   one-path o l =
       let w = T .leads o l in (

@@ -86,7 +86,8 @@ write-all s g o l r (x ∷ xs) h room =
     wrote-trans s t (writeAll t o xs) o new (made new (writesOf xs)) a (rw (a .own) at b)
 
 -- WRITEs zs that are sent after some of them, ys, were made: the same contents of every file as if only zs had been sent
-pub sent-again : (s : Store) → GoodRecords s → (o : ℕ) → o < objects s → objectAt s o .kind ≡ REGULAR → (ys zs : List SentWrite) → AllSendable ys → AllSendable zs
+pub sent-again : (s : Store) → GoodRecords s → (o : ℕ) → o < objects s → objectAt s o .kind ≡ REGULAR → (ys zs : List SentWrite) → AllSendable ys
+    → AllSendable zs
     → ((w : Write) → Member w (writesOf ys) → Member w (writesOf zs)) → missing s o (made (contents s o) (writesOf zs)) ≤ freeBlockCount s
     → (p : ℕ) → p < objects s → contents (writeAll (writeAll s o ys) o zs) p ≡ contents (writeAll s o zs) p
 sent-again s g o l r ys zs hy hz f room p m =

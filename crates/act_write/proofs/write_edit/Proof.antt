@@ -60,22 +60,26 @@ write-file-requires c κs =
 
 touch-requires : tie.Need-touch-requires
 touch-requires c κs =
-    let st = c .before .before .before .before .before .before .before .before .before .before .before .before .before .before .before in
-    let e : c .before .before .before .before .before .before .before .before .before .larger .result ≡ grown (st .args .store .now) (st .args .o .0)
-    (st .args .offset) (st .args .n) = rw (← c .before .before .before .before .before .before .before .before .before .before .before .size-of
-    .ensures) (c .before .before .before .before .before .before .before .before .before .larger .ensures) in
-    let f = grown-file (st .args .store .now) (st .args .o .0) (st .args .offset) (st .args .n) (st .pre .0) (st .pre .1 .1 .0)
-    (c .before .before .before .before .before .before .before .before .resize .last .0)
-    (c .before .before .before .before .before .before .before .before .resize .ensures ∙ ap (resize (st .args .store .now) (st .args .o .0)) e)
+    let after-write-file = c .before .before .before .before in
+    let after-resize = after-write-file .before .before .before .before in
+    let after-larger = after-resize .before in
+    let after-size-of = after-larger .before .before in
+    let after-shared-slice-known = after-size-of .before .before in
+    let start = after-shared-slice-known .before .before in
+    let e : after-larger .larger .result ≡ grown (start .args .store .now) (start .args .o .0)
+    (start .args .offset) (start .args .n) = rw (← after-size-of .size-of .ensures) (after-larger .larger .ensures) in
+    let f = grown-file (start .args .store .now) (start .args .o .0) (start .args .offset) (start .args .n) (start .pre .0) (start .pre .1 .1 .0)
+    (after-resize .resize .last .0)
+    (after-resize .resize .ensures ∙ ap (resize (start .args .store .now) (start .args .o .0)) e)
     in
-    let w = below-part 256 (st .args .call .now) (st .args .start) (st .args .n) (lit< tt)
-    (λ k. c .before .before .before .before .before .before .before .before .before .before .before .before .before .shared-slice-known .given
+    let w = below-part 256 (start .args .call .now) (start .args .start) (start .args .n) (lit< tt)
+    (λ k. after-shared-slice-known .shared-slice-known .given
     k .fits) in
-    let h = written-shape (st .args .store .now) (st .args .o .0) (st .args .offset) (st .args .n) (st .pre .0) (st .pre .1 .1 .0)
-    (c .before .before .before .before .before .before .before .before .resize .last .0) (c .before .before .before .before .write-file .last .0)
-    (part (st .args .call .now) (st .args .start) (st .args .n)) f w (part-length _ _ _ (st .pre .1 .1 .1))
-    (c .before .before .before .before .write-file .ensures) in
-    record-inside (st .args .store .now) (c .before .before .before .before .write-file .last .0) (st .args .o .0) (st .pre .0) h (st .pre .1 .1 .0 .below)
+    let h = written-shape (start .args .store .now) (start .args .o .0) (start .args .offset) (start .args .n) (start .pre .0) (start .pre .1 .1 .0)
+    (after-resize .resize .last .0) (after-write-file .write-file .last .0)
+    (part (start .args .call .now) (start .args .start) (start .args .n)) f w (part-length _ _ _ (start .pre .1 .1 .1))
+    (after-write-file .write-file .ensures) in
+    record-inside (start .args .store .now) (after-write-file .write-file .last .0) (start .args .o .0) (start .pre .0) h (start .pre .1 .1 .0 .below)
 
 same-length : tie.Need-same-length
 same-length c = search needs
@@ -83,14 +87,18 @@ same-length c = search needs
 returns : tie.Need-returns
 unfolding writeEdit
 returns c =
+    let after-write-file = c .before .before .before .before .before .before .before in
+    let after-resize = after-write-file .before .before .before .before in
+    let after-larger = after-resize .before in
+    let after-size-of = after-larger .before .before in
+    let start = after-size-of .before .before .before .before in
     rw (
-      part-length _ _ _ (c .before .before .before .before .before .before .before .before .before .before .before .before .before .before .before
-          .before .before .before .pre .1 .1 .1),
+      part-length _ _ _ (start .pre .1 .1 .1),
       c .before .before .touch .ensures,
-      c .before .before .before .before .before .before .before .write-file .ensures,
-      c .before .before .before .before .before .before .before .before .before .before .before .resize .ensures,
-      c .before .before .before .before .before .before .before .before .before .before .before .before .larger .ensures,
-      c .before .before .before .before .before .before .before .before .before .before .before .before .before .before .size-of .ensures,
+      after-write-file .write-file .ensures,
+      after-resize .resize .ensures,
+      after-larger .larger .ensures,
+      after-size-of .size-of .ensures,
     )
 
 pub write-edit-spec : {M : Type 1} → statement M

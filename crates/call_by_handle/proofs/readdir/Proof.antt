@@ -67,8 +67,7 @@ finish-requires c κs = search needs
 returns-4 : tie.Need-returns-4
 returns-4 c = rw (
   c .finish .ensures,
-  ← c .before .before .before .before .before .before .before .before .before .before .before .before .long
-      .ensures,
+  ← c .before .before .before .before .before .before .before .before .before .before .before .before .long .ensures,
   c .before .before .before .before .before .before .before .before .before .before .answer .given .1,
   ← c .before .before .before .before .before .before .before .before .long2 .ensures,
   c .before .before .before .before .before .before .answer2 .given .1,

@@ -74,37 +74,49 @@ place-requires-4 : tie.Need-place-requires-4
 place-requires-4 c κs = search needs
 
 returns-4 : tie.Need-returns-4
-returns-4 c = rw (
-  c .place4 .ensures,
-  ← c .before .before .before .before .before .before .before .before .before .before .before .before .before
-      .before .before .long .ensures,
-  c .before .before .before .before .before .before .before .before .before .before .before .before .before .answer
-      .given .1,
-  ← c .before .before .before .before .before .before .before .before .before .before .before .word .ensures,
-  c .before .before .before .before .before .before .before .before .before .answer2 .given .1,
-  ← c .before .before .before .before .before .before .before .choice .ensures,
-  c .before .before .before .before .before .answer3 .given .1,
-  ← c .before .before .before .unbounded .ensures,
-  c .before .enum-told4 .given .1,
-)
+returns-4 c =
+    let after-unbounded = c .before .before .before in
+    let after-answer3 = after-unbounded .before .before in
+    let after-choice = after-answer3 .before .before in
+    let after-answer2 = after-choice .before .before in
+    let after-word = after-answer2 .before .before in
+    let after-answer = after-word .before .before in
+    let after-long = after-answer .before .before in
+    rw (
+      c .place4 .ensures,
+      ← after-long .long .ensures,
+      after-answer .answer .given .1,
+      ← after-word .word .ensures,
+      after-answer2 .answer2 .given .1,
+      ← after-choice .choice .ensures,
+      after-answer3 .answer3 .given .1,
+      ← after-unbounded .unbounded .ensures,
+      c .before .enum-told4 .given .1,
+    )
 
 finish-requires : tie.Need-finish-requires
 finish-requires c κs = search needs
 
 returns-5 : tie.Need-returns-5
-returns-5 c = rw (
-  c .finish .ensures,
-  ← c .before .before .before .before .before .before .before .before .before .before .before .before .before
-      .before .before .before .long .ensures,
-  c .before .before .before .before .before .before .before .before .before .before .before .before .before
-      .before .answer .given .1,
-  ← c .before .before .before .before .before .before .before .before .before .before .before .before .word .ensures,
-  c .before .before .before .before .before .before .before .before .before .before .answer2 .given .1,
-  ← c .before .before .before .before .before .before .before .before .choice .ensures,
-  c .before .before .before .before .before .before .answer3 .given .1,
-  ← c .before .before .before .before .unbounded .ensures,
-  c .before .before .answer4 .given .1,
-)
+returns-5 c =
+    let after-unbounded = c .before .before .before .before in
+    let after-answer3 = after-unbounded .before .before in
+    let after-choice = after-answer3 .before .before in
+    let after-answer2 = after-choice .before .before in
+    let after-word = after-answer2 .before .before in
+    let after-answer = after-word .before .before in
+    let after-long = after-answer .before .before in
+    rw (
+      c .finish .ensures,
+      ← after-long .long .ensures,
+      after-answer .answer .given .1,
+      ← after-word .word .ensures,
+      after-answer2 .answer2 .given .1,
+      ← after-choice .choice .ensures,
+      after-answer3 .answer3 .given .1,
+      ← after-unbounded .unbounded .ensures,
+      c .before .before .answer4 .given .1,
+    )
 
 pub write-spec : {M : Type 1} → statement M
 write-spec =

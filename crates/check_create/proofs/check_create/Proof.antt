@@ -15,10 +15,7 @@ enum-known-reached-2 c = search needs
 returns : tie.Need-returns
 unfolding checkCreate
 returns c =
-    rw (
-      ← c .before .before .before .reach-directory .ensures,
-      c .before .reached2 .given .1,
-    )
+    rw (← c .before .before .before .reach-directory .ensures, c .before .reached2 .given .1)
 
 check-how-requires : tie.Need-check-how-requires
 check-how-requires c κs = search needs

@@ -45,26 +45,33 @@ object-start-requires : tie.Need-object-start-requires
 object-start-requires c κs = search needs
 
 add-save-owner : tie.Need-add-save-owner
-add-save-owner c = let st = c .before .before .before .before .before .before .before .before .before .before .before .before .before .before .before
-    .before .before .before .before in omega (arith, c .before .object-start .ensures, st .pre, st)
+add-save-owner c =
+    let after-number-set2 = c .before .before .before .before .before .before .before .before .before .before .before .before in
+    let start = after-number-set2 .before .before .before .before .before .before .before in
+    let st = start in omega (arith, c .before .object-start .ensures, st .pre, st)
 
 save-owner-requires : tie.Need-save-owner-requires
 save-owner-requires c κs = search needs
 
 add-save-times : tie.Need-add-save-times
-add-save-times c = let st = c .before .before .before .before .before .before .before .before .before .before .before .before .before .before .before
-    .before .before .before .before .before .before .before .before in omega
-    (arith, c .before .before .before .before .before .object-start .ensures, st .pre, st)
+add-save-times c =
+    let after-object-start = c .before .before .before .before .before in
+    let after-uid-of = after-object-start .before .before .before .before .before .before .before .before .before .before .before .before in
+    let start = after-uid-of .before .before .before .before .before .before in
+    let st = start in omega
+    (arith, after-object-start .object-start .ensures, st .pre, st)
 
 save-times-requires : tie.Need-save-times-requires
 save-times-requires c κs =
-    let st = c .before .before .before .before .before .before .before .before .before .before .before .before .before .before .before .before
-    .before .before .before .before .before .before .before in
-    let s = st .args .store .now in
-    let at = c .before .before .before .before .before .object-start .result in
-    let inside : at + modeOffset + ownerLength ≤ length s = omega (arith, c .before .before .before .before .before .object-start .ensures, st .pre) in
-    let same = ap length (c .before .before .before .save-owner .ensures) ∙ overlay-length s (at + modeOffset) _ (rw owner-size inside) in
-    omega (arith, c .before .before .before .before .before .object-start .ensures, st .pre, same)
+    let after-save-owner = c .before .before .before in
+    let after-object-start = after-save-owner .before .before in
+    let after-uid-of = after-object-start .before .before .before .before .before .before .before .before .before .before .before .before in
+    let start = after-uid-of .before .before .before .before .before .before in
+    let s = start .args .store .now in
+    let at = after-object-start .object-start .result in
+    let inside : at + modeOffset + ownerLength ≤ length s = omega (arith, after-object-start .object-start .ensures, start .pre) in
+    let same = ap length (after-save-owner .save-owner .ensures) ∙ overlay-length s (at + modeOffset) _ (rw owner-size inside) in
+    omega (arith, after-object-start .object-start .ensures, start .pre, same)
 
 same-length : tie.Need-same-length
 same-length c = search needs
@@ -72,33 +79,39 @@ same-length c = search needs
 returns : tie.Need-returns
 unfolding setAttributes withAttributes timesBytes
 returns c =
-    let st = c .before .before .before .before .before .before .before .before .before .before .before .before .before .before .before .before
-    .before .before .before .before .before .before .before .before .before .before in
-    let a = st .args in
+    let after-save-owner = c .before .before .before .before .before .before in
+    let after-object-start = after-save-owner .before .before in
+    let after-time-set2 = after-object-start .before .before in
+    let after-mtime-of = after-time-set2 .before in
+    let after-time-set = after-mtime-of .before .before in
+    let after-atime-of = after-time-set .before in
+    let after-number-set3 = after-atime-of .before .before in
+    let after-gid-of = after-number-set3 .before in
+    let after-number-set2 = after-gid-of .before .before in
+    let after-uid-of = after-number-set2 .before in
+    let after-number-set = after-uid-of .before .before in
+    let after-mode-of = after-number-set .before in
+    let after-slice-known = after-mode-of .before .before in
+    let start = after-slice-known .before in
+    let a = start .args in
     let s = a .store .now in
     let w = withAttributes (a .clock) (a .a) (objectAt s (a .o .0)) in
     rw (
       c .before .before .save-times .ensures,
-      c .before .before .before .before .before .before .save-owner .ensures,
-      c .before .before .before .before .before .before .before .before .object-start .ensures,
-      c .before .before .before .before .before .before .before .before .before .before .time-set2 .ensures,
-      c .before .before .before .before .before .before .before .before .before .before .before .mtime-of .ensures,
-      c .before .before .before .before .before .before .before .before .before .before .before .before .before .time-set .ensures,
-      c .before .before .before .before .before .before .before .before .before .before .before .before .before .before .atime-of .ensures,
-      c .before .before .before .before .before .before .before .before .before .before .before .before .before .before .before .before .number-set3 .ensures,
-      c .before .before .before .before .before .before .before .before .before .before .before .before .before .before .before .before .before
-          .gid-of .ensures,
-      c .before .before .before .before .before .before .before .before .before .before .before .before .before .before .before .before .before
-          .before .before .number-set2 .ensures,
-      c .before .before .before .before .before .before .before .before .before .before .before .before .before .before .before .before .before
-          .before .before .before .uid-of .ensures,
-      c .before .before .before .before .before .before .before .before .before .before .before .before .before .before .before .before .before
-          .before .before .before .before .before .number-set .ensures,
-      c .before .before .before .before .before .before .before .before .before .before .before .before .before .before .before .before .before
-          .before .before .before .before .before .before .mode-of .ensures,
+      after-save-owner .save-owner .ensures,
+      after-object-start .object-start .ensures,
+      after-time-set2 .time-set2 .ensures,
+      after-mtime-of .mtime-of .ensures,
+      after-time-set .time-set .ensures,
+      after-atime-of .atime-of .ensures,
+      after-number-set3 .number-set3 .ensures,
+      after-gid-of .gid-of .ensures,
+      after-number-set2 .number-set2 .ensures,
+      after-uid-of .uid-of .ensures,
+      after-number-set .number-set .ensures,
+      after-mode-of .mode-of .ensures,
     )
-    (attributes-written s (a .o .0) w (λ k. c .before .before .before .before .before .before .before .before .before .before .before .before .before
-    .before .before .before .before .before .before .before .before .before .before .before .before .slice-known .given k .fits) (st .pre) refl
+    (attributes-written s (a .o .0) w (λ k. after-slice-known .slice-known .given k .fits) (start .pre) refl
     refl refl refl)
 
 pub set-attributes-spec : {M : Type 1} → statement M

@@ -22,10 +22,10 @@ touch-directory-requires c κs = search needs
 
 touch-directory-requires-2 : tie.Need-touch-directory-requires-2
 touch-directory-requires-2 c κs =
-    let st = c .before .before .before .before .before .before .before .before .before .before .before .before .before .before .before .before
-    .before .before .before in
-    let w = st .pre .0 .sound .shaped in
-    let l = st .pre .1 .0 .target in
+    let after-move-name = c .before .before .before .before .before .before .before .before .before .before .before .before in
+    let start = after-move-name .before .before .before .before .before .before .before in
+    let w = start .pre .0 .sound .shaped in
+    let l = start .pre .1 .0 .target in
     omega arith
 
 same-length : tie.Need-same-length
@@ -34,14 +34,18 @@ same-length c = search needs
 returns : tie.Need-returns
 unfolding renameEdit
 returns c =
+    let after-touch-directory = c .before .before .before .before .before .before in
+    let after-set-attributes = after-touch-directory .before .before .before .before in
+    let after-only-ctime = after-set-attributes .before in
+    let after-move-name = after-only-ctime .before .before .before .before in
+    let after-name-child = after-move-name .before .before in
     rw (
       c .before .before .touch-directory2 .ensures,
-      c .before .before .before .before .before .before .touch-directory .ensures,
-      c .before .before .before .before .before .before .before .before .before .before .set-attributes .ensures,
-      c .before .before .before .before .before .before .before .before .before .before .before .only-ctime .ensures,
-      c .before .before .before .before .before .before .before .before .before .before .before .before .before .before .before .move-name .ensures,
-      c .before .before .before .before .before .before .before .before .before .before .before .before .before .before .before .before .before
-          .name-child .ensures,
+      after-touch-directory .touch-directory .ensures,
+      after-set-attributes .set-attributes .ensures,
+      after-only-ctime .only-ctime .ensures,
+      after-move-name .move-name .ensures,
+      after-name-child .name-child .ensures,
     )
 
 pub rename-edit-spec : {M : Type 1} → statement M

@@ -37,15 +37,18 @@ same-length c = search needs
 returns : tie.Need-returns
 unfolding putObject
 returns c =
-    let st = c .before .before .before .before .before .before .before .before .before .before .before .before .before .before .before in
-    let s = st .args .store .now in
-    let g = st .args .generation in
-    let start = c .before .before .before .before .before .before .before .before .before .before .before .before .object-start in
+    let after-put-u322 = c .before .before .before .before .before .before in
+    let after-put-u32 = after-put-u322 .before .before .before .before in
+    let after-object-start = after-put-u32 .before .before in
+    let start = after-object-start .before .before .before in
+    let s = start .args .store .now in
+    let g = start .args .generation in
+    let start = after-object-start .object-start in
     let at = start .result in
-    let two = overlay-more s at (bytesOf 4 0) (bytesOf 4 g) _ _ generationOffset (omega (arith, start .ensures, st .pre)) (bytes-length 4 0)
-    (c .before .before .before .before .before .before .before .before .before .before .put-u32 .ensures)
-    (c .before .before .before .before .before .before .put-u322 .ensures) in
-    overlay-more s at (bytesOf 4 0 ++ bytesOf 4 g) (zeros (objectLength - modeOffset)) _ _ modeOffset (omega (arith, start .ensures, st .pre))
+    let two = overlay-more s at (bytesOf 4 0) (bytesOf 4 g) _ _ generationOffset (omega (arith, start .ensures, start .pre)) (bytes-length 4 0)
+    (after-put-u32 .put-u32 .ensures)
+    (after-put-u322 .put-u322 .ensures) in
+    overlay-more s at (bytesOf 4 0 ++ bytesOf 4 g) (zeros (objectLength - modeOffset)) _ _ modeOffset (omega (arith, start .ensures, start .pre))
     (simp (length-append, bytes-length)) two (c .before .before .clear-bytes .ensures)
     ∙ ap (overlay s at) (free-bytes g) ∙ ap (λ (k : ℕ). overlay s k (objectBytes (freeObject g))) (start .ensures)
 

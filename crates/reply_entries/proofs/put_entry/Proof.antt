@@ -16,21 +16,21 @@ put-word-requires-3 : tie.Need-put-word-requires-3
 put-word-requires-3 c κs = search needs
 
 cast-put-word : tie.Need-cast-put-word
-cast-put-word c = omega (
-  arith,
-  c .before .before .before .before .before .before .before .before .before .before .before .before .before .before
-      .before .pre .0 .short,
-)
+cast-put-word c =
+    let after-put-word = c .before .before .before .before .before .before .before .before .before .before .before in
+    let start = after-put-word .before .before .before .before in
+    omega (arith, start .pre .0 .short)
 
 put-word-requires-4 : tie.Need-put-word-requires-4
 put-word-requires-4 c κs = search needs
 
 put-padded-requires : tie.Need-put-padded-requires
-put-padded-requires c κs = (
-  c .before .before .before .before .before .before .before .before .before .before .before .before .before .before .before
-      .before .before .before .before .pre .0,
-  omega arith,
-)
+put-padded-requires c κs =
+    let after-put-word2 = c .before .before .before .before .before .before .before .before .before .before .before in
+    let start = after-put-word2 .before .before .before .before .before .before .before .before in (
+      start .pre .0,
+      omega arith,
+    )
 
 put-word-requires-5 : tie.Need-put-word-requires-5
 put-word-requires-5 c κs = search needs
@@ -43,20 +43,21 @@ same-length c = search needs
 
 returns : tie.Need-returns
 returns c =
-    let st = c .before .before .before .before .before .before .before .before .before .before .before .before .before .before .before .before
-    .before .before .before .before .before .before .before .before .before .before .before .before .before .before in
-    let a = st .args in
+    let after-put-word5 = c .before .before .before .before .before .before in
+    let after-put-padded = after-put-word5 .before .before .before .before in
+    let after-put-word4 = after-put-padded .before .before .before .before in
+    let after-put-word3 = after-put-word4 .before .before .before .before in
+    let after-put-word2 = after-put-word3 .before .before .before .before in
+    let after-put-word = after-put-word2 .before .before .before .before in
+    let start = after-put-word .before .before .before .before in
+    let a = start .args in
     wrote-entry (a .fileid) (a .number) (a .len) (part (a .src .now) (a .from) (a .len)) (omega arith) (omega arith)
-    (part-length (a .src .now) (a .from) (a .len) (omega (arith, st .pre .0 .inside)))
-    (c .before .before .before .before .before .before .before .before .before .before .before .before .before .before .before .before .before
-    .before .before .before .before .before .before .before .before .before .put-word .ensures)
-    (c .before .before .before .before .before .before .before .before .before .before .before .before .before .before .before .before .before
-    .before .before .before .before .before .put-word2 .ensures)
-    (c .before .before .before .before .before .before .before .before .before .before .before .before .before .before .before .before .before
-    .before .put-word3 .ensures) (c .before .before .before .before .before .before .before .before .before .before .before .before .before
-    .before .put-word4 .ensures)
-    (c .before .before .before .before .before .before .before .before .before .before .put-padded .ensures)
-    (c .before .before .before .before .before .before .put-word5 .ensures) (c .before .before .put-word6 .ensures)
+    (part-length (a .src .now) (a .from) (a .len) (omega (arith, start .pre .0 .inside)))
+    (after-put-word .put-word .ensures)
+    (after-put-word2 .put-word2 .ensures)
+    (after-put-word3 .put-word3 .ensures) (after-put-word4 .put-word4 .ensures)
+    (after-put-padded .put-padded .ensures)
+    (after-put-word5 .put-word5 .ensures) (c .before .before .put-word6 .ensures)
 
 pub put-entry-spec : {M : Type 1} → statement M
 put-entry-spec =

@@ -31,12 +31,16 @@ same-length c = search needs
 returns : tie.Need-returns
 unfolding opaqueBytes
 returns c =
-    let a = c .before .before .before .before .before .before .before .before .before .before .before .before .before .before .before .args in
+    let after-padding = c .before .before .before .before in
+    let after-put-runs = after-padding .before .before .before in
+    let after-put-word = after-put-runs .before .before .before .before in
+    let start = after-put-word .before .before .before .before in
+    let a = start .args in
     let l = readFile-length (a .store .now) (a .o .0) (a .offset) (a .n) in
-    let z = wrote-over (c .before .before .clear-bytes .ensures) (length-replicate (c .before .before .before .before .padding .result) 0) (omega arith) in
-    rw (l, ← c .before .before .before .before .padding .ensures)
-    (andThen (andThen (c .before .before .before .before .before .before .before .before .before .before .before .put-word .ensures)
-    (c .before .before .before .before .before .before .before .put-runs .ensures)) z)
+    let z = wrote-over (c .before .before .clear-bytes .ensures) (length-replicate (after-padding .padding .result) 0) (omega arith) in
+    rw (l, ← after-padding .padding .ensures)
+    (andThen (andThen (after-put-word .put-word .ensures)
+    (after-put-runs .put-runs .ensures)) z)
 
 pub put-file-bytes-spec : {M : Type 1} → statement M
 put-file-bytes-spec =

@@ -54,26 +54,28 @@ same-length c = search needs
 
 returns : tie.Need-returns
 returns c =
-    let a = c .before .before .before .before .before .before .before .before .before .before .before .before .before .before .before .before .before
-    .before .before .before .before .before .args in
+    let after-store-word3 = c .before .before .before .before .before .before in
+    let after-store-word2 = after-store-word3 .before .before .before .before in
+    let after-store-word = after-store-word2 .before .before .before .before in
+    let after-load-word4 = after-store-word .before .before in
+    let after-load-word3 = after-load-word4 .before in
+    let after-load-word2 = after-load-word3 .before in
+    let after-load-word = after-load-word2 .before in
+    let after-shared-slice-known = after-load-word .before in
+    let start = after-shared-slice-known .before .before in
+    let a = start .args in
     let src = a .src .now in
-    let bytes : Below 256 src = λ k. c .before .before .before .before .before .before .before .before .before .before .before .before .before
-    .before .before .before .before .before .before .before .shared-slice-known .given k .fits in
+    let bytes : Below 256 src = λ k. after-shared-slice-known .shared-slice-known .given k .fits in
     let more = copy-more (a .dst .now) (a .at) src (a .from) in
     more 12 4 _ _ (omega arith) (omega arith)
     (more 8 4 _ _ (omega arith) (omega arith)
     (more 4 4 _ _ (omega arith) (omega arith) (word-copied src (a .from) 4 _ _ _ (a .at) bytes (omega arith)
-    (c .before .before .before .before .before .before .before .before .before .before .before .before .before .before .before .before .before
-    .before .before .load-word .ensures) (c .before .before .before .before .before .before .before .before .before .before .before .before
-    .before .before .store-word .ensures)) (word-copied src (a .from + 4) 4 _ _ _ (a .at + 4) bytes (omega arith)
-    (c .before .before .before .before .before .before .before .before .before .before .before .before .before .before .before .before .before
-    .before .load-word2 .ensures) (c .before .before .before .before .before .before .before .before .before .before .store-word2 .ensures)))
+    (after-load-word .load-word .ensures) (after-store-word .store-word .ensures)) (word-copied src (a .from + 4) 4 _ _ _ (a .at + 4) bytes (omega arith)
+    (after-load-word2 .load-word2 .ensures) (after-store-word2 .store-word2 .ensures)))
     (word-copied src (a .from + 8) 4 _ _ _ (a .at + 8) bytes (omega arith)
-    (c .before .before .before .before .before .before .before .before .before .before .before .before .before .before .before .before .before
-    .load-word3 .ensures) (c .before .before .before .before .before .before .store-word3 .ensures)))
+    (after-load-word3 .load-word3 .ensures) (after-store-word3 .store-word3 .ensures)))
     (word-copied src (a .from + 12) 4 _ _ _ (a .at + 12) bytes (omega arith)
-    (c .before .before .before .before .before .before .before .before .before .before .before .before .before .before .before .before
-    .load-word4 .ensures) (c .before .before .store-word4 .ensures))
+    (after-load-word4 .load-word4 .ensures) (c .before .before .store-word4 .ensures))
 
 pub copy-sixteen-spec : {M : Type 1} → statement M
 copy-sixteen-spec =

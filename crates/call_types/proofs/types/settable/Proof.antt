@@ -57,8 +57,7 @@ returns-3 : tie.Need-returns-3
 unfolding settable
 returns-3 c = rw (
   c .place3 .ensures,
-  ← c .before .before .before .before .before .before .before .before .before .before .before .set-number
-      .ensures,
+  ← c .before .before .before .before .before .before .before .before .before .before .before .set-number .ensures,
   c .before .before .before .before .before .before .before .before .before .answer .given .1,
   ← c .before .before .before .before .before .before .before .set-number2 .ensures,
   c .before .before .before .before .before .answer2 .given .1,
@@ -80,19 +79,25 @@ place-requires-4 c κs = search needs
 
 returns-4 : tie.Need-returns-4
 unfolding settable
-returns-4 c = rw (
-  c .place4 .ensures,
-  ← c .before .before .before .before .before .before .before .before .before .before .before .before .before
-      .before .before .set-number .ensures,
-  c .before .before .before .before .before .before .before .before .before .before .before .before .before
-      .answer .given .1,
-  ← c .before .before .before .before .before .before .before .before .before .before .before .set-number2 .ensures,
-  c .before .before .before .before .before .before .before .before .before .answer2 .given .1,
-  ← c .before .before .before .before .before .before .before .set-number3 .ensures,
-  c .before .before .before .before .before .answer3 .given .1,
-  ← c .before .before .before .set-size .ensures,
-  c .before .enum-told4 .given .1,
-)
+returns-4 c =
+    let after-set-size = c .before .before .before in
+    let after-answer3 = after-set-size .before .before in
+    let after-set-number3 = after-answer3 .before .before in
+    let after-answer2 = after-set-number3 .before .before in
+    let after-set-number2 = after-answer2 .before .before in
+    let after-answer = after-set-number2 .before .before in
+    let after-set-number = after-answer .before .before in
+    rw (
+      c .place4 .ensures,
+      ← after-set-number .set-number .ensures,
+      after-answer .answer .given .1,
+      ← after-set-number2 .set-number2 .ensures,
+      after-answer2 .answer2 .given .1,
+      ← after-set-number3 .set-number3 .ensures,
+      after-answer3 .answer3 .given .1,
+      ← after-set-size .set-size .ensures,
+      c .before .enum-told4 .given .1,
+    )
 
 set-time-requires : tie.Need-set-time-requires
 set-time-requires c κs = search needs
@@ -108,23 +113,29 @@ place-requires-5 c κs = search needs
 
 returns-5 : tie.Need-returns-5
 unfolding settable
-returns-5 c = rw (
-  c .place5 .ensures,
-  ← c .before .before .before .before .before .before .before .before .before .before .before .before .before
-      .before .before .before .before .before .before .set-number .ensures,
-  c .before .before .before .before .before .before .before .before .before .before .before .before .before .before .before .before .before .answer
-      .given .1,
-  ← c .before .before .before .before .before .before .before .before .before .before .before .before .before .before .before
-      .set-number2 .ensures,
-  c .before .before .before .before .before .before .before .before .before .before .before .before .before .answer2 .given
-      .1,
-  ← c .before .before .before .before .before .before .before .before .before .before .before .set-number3 .ensures,
-  c .before .before .before .before .before .before .before .before .before .answer3 .given .1,
-  ← c .before .before .before .before .before .before .before .set-size .ensures,
-  c .before .before .before .before .before .answer4 .given .1,
-  ← c .before .before .before .set-time .ensures,
-  c .before .enum-told5 .given .1,
-)
+returns-5 c =
+    let after-set-time = c .before .before .before in
+    let after-answer4 = after-set-time .before .before in
+    let after-set-size = after-answer4 .before .before in
+    let after-answer3 = after-set-size .before .before in
+    let after-set-number3 = after-answer3 .before .before in
+    let after-answer2 = after-set-number3 .before .before in
+    let after-set-number2 = after-answer2 .before .before in
+    let after-answer = after-set-number2 .before .before in
+    let after-set-number = after-answer .before .before in
+    rw (
+      c .place5 .ensures,
+      ← after-set-number .set-number .ensures,
+      after-answer .answer .given .1,
+      ← after-set-number2 .set-number2 .ensures,
+      after-answer2 .answer2 .given .1,
+      ← after-set-number3 .set-number3 .ensures,
+      after-answer3 .answer3 .given .1,
+      ← after-set-size .set-size .ensures,
+      after-answer4 .answer4 .given .1,
+      ← after-set-time .set-time .ensures,
+      c .before .enum-told5 .given .1,
+    )
 
 set-time-requires-2 : tie.Need-set-time-requires-2
 set-time-requires-2 c κs = search needs
@@ -140,50 +151,62 @@ place-requires-6 c κs = search needs
 
 returns-6 : tie.Need-returns-6
 unfolding settable
-returns-6 c = rw (
-  c .place6 .ensures,
-  ← c .before .before .before .before .before .before .before .before .before .before .before .before .before
-      .before .before .before .before .before .before .before .before .before .before .set-number .ensures,
-  c .before .before .before .before .before .before .before .before .before .before .before .before .before .before .before .before .before .before
-      .before .before .before .answer .given .1,
-  ← c .before .before .before .before .before .before .before .before .before .before .before .before
-      .before .before .before .before .before .before .before .set-number2 .ensures,
-  c .before .before .before .before .before .before .before .before .before .before .before .before .before .before .before .before .before
-      .answer2 .given .1,
-  ← c .before .before .before .before .before .before .before .before .before .before .before .before .before .before .before
-      .set-number3 .ensures,
-  c .before .before .before .before .before .before .before .before .before .before .before .before .before .answer3 .given
-      .1,
-  ← c .before .before .before .before .before .before .before .before .before .before .before .set-size .ensures,
-  c .before .before .before .before .before .before .before .before .before .answer4 .given .1,
-  ← c .before .before .before .before .before .before .before .set-time .ensures,
-  c .before .before .before .before .before .answer5 .given .1,
-  ← c .before .before .before .set-time2 .ensures,
-  c .before .enum-told6 .given .1,
-)
+returns-6 c =
+    let after-set-time2 = c .before .before .before in
+    let after-answer5 = after-set-time2 .before .before in
+    let after-set-time = after-answer5 .before .before in
+    let after-answer4 = after-set-time .before .before in
+    let after-set-size = after-answer4 .before .before in
+    let after-answer3 = after-set-size .before .before in
+    let after-set-number3 = after-answer3 .before .before in
+    let after-answer2 = after-set-number3 .before .before in
+    let after-set-number2 = after-answer2 .before .before in
+    let after-answer = after-set-number2 .before .before in
+    let after-set-number = after-answer .before .before in
+    rw (
+      c .place6 .ensures,
+      ← after-set-number .set-number .ensures,
+      after-answer .answer .given .1,
+      ← after-set-number2 .set-number2 .ensures,
+      after-answer2 .answer2 .given .1,
+      ← after-set-number3 .set-number3 .ensures,
+      after-answer3 .answer3 .given .1,
+      ← after-set-size .set-size .ensures,
+      after-answer4 .answer4 .given .1,
+      ← after-set-time .set-time .ensures,
+      after-answer5 .answer5 .given .1,
+      ← after-set-time2 .set-time2 .ensures,
+      c .before .enum-told6 .given .1,
+    )
 
 returns-7 : tie.Need-returns-7
 unfolding settable
-returns-7 c = rw (
-  ← c .before .before .before .before .before .before .before .before .before .before .before .before .before .before .before .before
-      .before .before .before .before .before .before .before .set-number .ensures,
-  c .before .before .before .before .before .before .before .before .before .before .before .before .before .before .before .before .before .before
-      .before .before .before .answer .given .1,
-  ← c .before .before .before .before .before .before .before .before .before .before .before .before
-      .before .before .before .before .before .before .before .set-number2 .ensures,
-  c .before .before .before .before .before .before .before .before .before .before .before .before .before .before .before .before .before
-      .answer2 .given .1,
-  ← c .before .before .before .before .before .before .before .before .before .before .before .before .before .before .before
-      .set-number3 .ensures,
-  c .before .before .before .before .before .before .before .before .before .before .before .before .before .answer3 .given
-      .1,
-  ← c .before .before .before .before .before .before .before .before .before .before .before .set-size .ensures,
-  c .before .before .before .before .before .before .before .before .before .answer4 .given .1,
-  ← c .before .before .before .before .before .before .before .set-time .ensures,
-  c .before .before .before .before .before .answer5 .given .1,
-  ← c .before .before .before .set-time2 .ensures,
-  c .before .answer6 .given .1,
-)
+returns-7 c =
+    let after-set-time2 = c .before .before .before in
+    let after-answer5 = after-set-time2 .before .before in
+    let after-set-time = after-answer5 .before .before in
+    let after-answer4 = after-set-time .before .before in
+    let after-set-size = after-answer4 .before .before in
+    let after-answer3 = after-set-size .before .before in
+    let after-set-number3 = after-answer3 .before .before in
+    let after-answer2 = after-set-number3 .before .before in
+    let after-set-number2 = after-answer2 .before .before in
+    let after-answer = after-set-number2 .before .before in
+    let after-set-number = after-answer .before .before in
+    rw (
+      ← after-set-number .set-number .ensures,
+      after-answer .answer .given .1,
+      ← after-set-number2 .set-number2 .ensures,
+      after-answer2 .answer2 .given .1,
+      ← after-set-number3 .set-number3 .ensures,
+      after-answer3 .answer3 .given .1,
+      ← after-set-size .set-size .ensures,
+      after-answer4 .answer4 .given .1,
+      ← after-set-time .set-time .ensures,
+      after-answer5 .answer5 .given .1,
+      ← after-set-time2 .set-time2 .ensures,
+      c .before .answer6 .given .1,
+    )
 
 pub settable-spec : {M : Type 1} → statement M
 settable-spec =

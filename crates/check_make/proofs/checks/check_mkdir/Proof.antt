@@ -17,10 +17,7 @@ enum-known-reached-2 c = search needs
 returns : tie.Need-returns
 unfolding checkMkdir
 returns c =
-    rw (
-      ← c .before .before .before .reach-directory .ensures,
-      c .before .reached2 .given .1,
-    )
+    rw (← c .before .before .before .reach-directory .ensures, c .before .reached2 .given .1)
 
 bad-for-directory-requires : tie.Need-bad-for-directory-requires
 bad-for-directory-requires c κs = search needs
@@ -71,8 +68,9 @@ enum-told-2 c = search needs
 
 room-for-new-requires : tie.Need-room-for-new-requires
 room-for-new-requires c κs =
-    let st = c .before .before .before .before .before .before .before .before .before .before .before .before .before .before .before in
-    (st .pre .0, (st .pre .1 .0, zero-le))
+    let after-directory = c .before .before .before .before .before .before .before .before .before .before .before .before in
+    let start = after-directory .before .before .before in
+    (start .pre .0, (start .pre .1 .0, zero-le))
 
 enum-known-room : tie.Need-enum-known-room
 enum-known-room c = search needs
@@ -83,30 +81,46 @@ enum-known-room-2 c = search needs
 returns-4 : tie.Need-returns-4
 unfolding checkMkdir
 returns-4 c =
+    let after-room-for-new = c .before .before .before in
+    let after-enum-told2 = after-room-for-new .before in
+    let after-find-name = after-enum-told2 .before .before in
+    let after-enum-told = after-find-name .before in
+    let after-check-new = after-enum-told .before .before in
+    let after-bad-for-directory = after-check-new .before in
+    let after-reached = after-bad-for-directory .before .before .before in
+    let after-reach-directory = after-reached .before .before in
     rw (
-      ← c .before .before .before .before .before .before .before .before .before .before .before .before .before .before .before .reach-directory .ensures,
-      c .before .before .before .before .before .before .before .before .before .before .before .before .before .reached .given .1,
-      ← c .before .before .before .before .before .before .before .before .before .before .bad-for-directory .ensures,
-      ← c .before .before .before .before .before .before .before .before .before .check-new .ensures,
-      c .before .before .before .before .before .before .before .enum-told .given .1,
-      ← c .before .before .before .before .before .before .find-name .ensures,
-      c .before .before .before .before .enum-told2 .given .1,
-      ← c .before .before .before .room-for-new .ensures,
+      ← after-reach-directory .reach-directory .ensures,
+      after-reached .reached .given .1,
+      ← after-bad-for-directory .bad-for-directory .ensures,
+      ← after-check-new .check-new .ensures,
+      after-enum-told .enum-told .given .1,
+      ← after-find-name .find-name .ensures,
+      after-enum-told2 .enum-told2 .given .1,
+      ← after-room-for-new .room-for-new .ensures,
       c .before .room .given .1,
     )
 
 returns-5 : tie.Need-returns-5
 unfolding checkMkdir
 returns-5 c =
+    let after-room-for-new = c .before .before .before in
+    let after-enum-told2 = after-room-for-new .before in
+    let after-find-name = after-enum-told2 .before .before in
+    let after-enum-told = after-find-name .before in
+    let after-check-new = after-enum-told .before .before in
+    let after-bad-for-directory = after-check-new .before in
+    let after-reached = after-bad-for-directory .before .before .before in
+    let after-reach-directory = after-reached .before .before in
     rw (
-      ← c .before .before .before .before .before .before .before .before .before .before .before .before .before .before .before .reach-directory .ensures,
-      c .before .before .before .before .before .before .before .before .before .before .before .before .before .reached .given .1,
-      ← c .before .before .before .before .before .before .before .before .before .before .bad-for-directory .ensures,
-      ← c .before .before .before .before .before .before .before .before .before .check-new .ensures,
-      c .before .before .before .before .before .before .before .enum-told .given .1,
-      ← c .before .before .before .before .before .before .find-name .ensures,
-      c .before .before .before .before .enum-told2 .given .1,
-      ← c .before .before .before .room-for-new .ensures,
+      ← after-reach-directory .reach-directory .ensures,
+      after-reached .reached .given .1,
+      ← after-bad-for-directory .bad-for-directory .ensures,
+      ← after-check-new .check-new .ensures,
+      after-enum-told .enum-told .given .1,
+      ← after-find-name .find-name .ensures,
+      after-enum-told2 .enum-told2 .given .1,
+      ← after-room-for-new .room-for-new .ensures,
       c .before .room2 .given .1,
     )
 

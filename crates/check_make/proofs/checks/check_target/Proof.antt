@@ -22,11 +22,7 @@ check-absent-requires c κs = search needs
 
 returns : tie.Need-returns
 returns c =
-    rw (
-      ← c .before .before .before .find-name .ensures,
-      c .before .enum-told .given .1,
-      ← c .check-absent .ensures,
-    )
+    rw (← c .before .before .before .find-name .ensures, c .before .enum-told .given .1, ← c .check-absent .ensures)
 
 name-child-requires : tie.Need-name-child-requires
 name-child-requires c κs =

@@ -86,7 +86,8 @@ returns-5 c =
     told-true (mark-four (a .store .now) (a .o .0) (a .count) (a .k) (st .pre .0) (st .pre .1 .0) (st .pre .1 .1 .1 .0) (a .used .now) (st .pre .1 .1 .1 .1)
     _ _ _ _ (c .before .before .before .before .before .before .before .before .before .before .before .block-of .ensures) (omega arith)
     (c .before .before .before .before .before .before .before .before .before .block-of2 .ensures) (omega arith)
-    (c .before .before .before .before .before .before .before .block-of3 .ensures) (omega arith) (c .before .before .before .before .before .block-of4 .ensures) (omega arith))
+    (c .before .before .before .before .before .before .before .block-of3 .ensures) (omega arith)
+    (c .before .before .before .before .before .block-of4 .ensures) (omega arith))
 
 pub mark-four-spec : {M : Type 1} → statement M
 mark-four-spec =

@@ -79,19 +79,25 @@ place-requires-4 c κs = search needs
 
 returns-4 : tie.Need-returns-4
 unfolding callHeader
-returns-4 c = rw (
-  c .place4 .ensures,
-  ← c .before .before .before .before .before .before .before .before .before .before .before .before .before
-      .before .before .word .ensures,
-  c .before .before .before .before .before .before .before .before .before .before .before .before .before .answer
-      .given .1,
-  ← c .before .before .before .before .before .before .before .before .before .before .before .word2 .ensures,
-  c .before .before .before .before .before .before .before .before .before .answer2 .given .1,
-  ← c .before .before .before .before .before .before .before .word3 .ensures,
-  c .before .before .before .before .before .answer3 .given .1,
-  ← c .before .before .before .credential .ensures,
-  c .before .enum-told4 .given .1,
-)
+returns-4 c =
+    let after-credential = c .before .before .before in
+    let after-answer3 = after-credential .before .before in
+    let after-word3 = after-answer3 .before .before in
+    let after-answer2 = after-word3 .before .before in
+    let after-word2 = after-answer2 .before .before in
+    let after-answer = after-word2 .before .before in
+    let after-word = after-answer .before .before in
+    rw (
+      c .place4 .ensures,
+      ← after-word .word .ensures,
+      after-answer .answer .given .1,
+      ← after-word2 .word2 .ensures,
+      after-answer2 .answer2 .given .1,
+      ← after-word3 .word3 .ensures,
+      after-answer3 .answer3 .given .1,
+      ← after-credential .credential .ensures,
+      c .before .enum-told4 .given .1,
+    )
 
 credential-requires-2 : tie.Need-credential-requires-2
 credential-requires-2 c κs = search needs
@@ -107,39 +113,54 @@ place-requires-5 c κs = search needs
 
 returns-5 : tie.Need-returns-5
 unfolding callHeader
-returns-5 c = rw (
-  c .place5 .ensures,
-  ← c .before .before .before .before .before .before .before .before .before .before .before .before .before
-      .before .before .before .before .before .before .word .ensures,
-  c .before .before .before .before .before .before .before .before .before .before .before .before .before .before .before .before .before .answer
-      .given .1,
-  ← c .before .before .before .before .before .before .before .before .before .before .before .before .before .before .before .word2
-      .ensures,
-  c .before .before .before .before .before .before .before .before .before .before .before .before .before .answer2 .given .1,
-  ← c .before .before .before .before .before .before .before .before .before .before .before .word3 .ensures,
-  c .before .before .before .before .before .before .before .before .before .answer3 .given .1,
-  ← c .before .before .before .before .before .before .before .credential .ensures,
-  c .before .before .before .before .before .answer4 .given .1,
-  ← c .before .before .before .credential2 .ensures,
-  c .before .enum-told5 .given .1,
-)
+returns-5 c =
+    let after-credential2 = c .before .before .before in
+    let after-answer4 = after-credential2 .before .before in
+    let after-credential = after-answer4 .before .before in
+    let after-answer3 = after-credential .before .before in
+    let after-word3 = after-answer3 .before .before in
+    let after-answer2 = after-word3 .before .before in
+    let after-word2 = after-answer2 .before .before in
+    let after-answer = after-word2 .before .before in
+    let after-word = after-answer .before .before in
+    rw (
+      c .place5 .ensures,
+      ← after-word .word .ensures,
+      after-answer .answer .given .1,
+      ← after-word2 .word2 .ensures,
+      after-answer2 .answer2 .given .1,
+      ← after-word3 .word3 .ensures,
+      after-answer3 .answer3 .given .1,
+      ← after-credential .credential .ensures,
+      after-answer4 .answer4 .given .1,
+      ← after-credential2 .credential2 .ensures,
+      c .before .enum-told5 .given .1,
+    )
 
 returns-6 : tie.Need-returns-6
 unfolding callHeader
-returns-6 c = rw (
-  ← c .before .before .before .before .before .before .before .before .before .before .before .before .before .before .before .before
-      .before .before .before .word .ensures,
-  c .before .before .before .before .before .before .before .before .before .before .before .before .before
-      .before .before .before .before .answer .given .1,
-  ← c .before .before .before .before .before .before .before .before .before .before .before .before .before .before .before .word2 .ensures,
-  c .before .before .before .before .before .before .before .before .before .before .before .before .before .answer2 .given .1,
-  ← c .before .before .before .before .before .before .before .before .before .before .before .word3 .ensures,
-  c .before .before .before .before .before .before .before .before .before .answer3 .given .1,
-  ← c .before .before .before .before .before .before .before .credential .ensures,
-  c .before .before .before .before .before .answer4 .given .1,
-  ← c .before .before .before .credential2 .ensures,
-  c .before .answer5 .given .1,
-)
+returns-6 c =
+    let after-credential2 = c .before .before .before in
+    let after-answer4 = after-credential2 .before .before in
+    let after-credential = after-answer4 .before .before in
+    let after-answer3 = after-credential .before .before in
+    let after-word3 = after-answer3 .before .before in
+    let after-answer2 = after-word3 .before .before in
+    let after-word2 = after-answer2 .before .before in
+    let after-answer = after-word2 .before .before in
+    let after-word = after-answer .before .before in
+    rw (
+      ← after-word .word .ensures,
+      after-answer .answer .given .1,
+      ← after-word2 .word2 .ensures,
+      after-answer2 .answer2 .given .1,
+      ← after-word3 .word3 .ensures,
+      after-answer3 .answer3 .given .1,
+      ← after-credential .credential .ensures,
+      after-answer4 .answer4 .given .1,
+      ← after-credential2 .credential2 .ensures,
+      c .before .answer5 .given .1,
+    )
 
 pub call-header-spec : {M : Type 1} → statement M
 call-header-spec =

@@ -41,19 +41,21 @@ same-length c = search needs
 
 returns : tie.Need-returns
 returns c =
-    let st = c .before .before .before .before .before .before .before .before .before .before .before .before .before .before .before .before
-    .before .before .before .before .before .before .before .before .before in
+    let after-put-u325 = c .before .before .before .before .before .before in
+    let after-put-u324 = after-put-u325 .before .before .before .before in
+    let after-put-u323 = after-put-u324 .before .before .before .before in
+    let after-put-u322 = after-put-u323 .before .before .before .before in
+    let after-put-u32 = after-put-u322 .before .before .before .before in
+    let start = after-put-u32 .before .before .before in
     rw (
       c .before .before .put-u326 .ensures,
-      c .before .before .before .before .before .before .put-u325 .ensures,
-      c .before .before .before .before .before .before .before .before .before .before .put-u324 .ensures,
-      c .before .before .before .before .before .before .before .before .before .before .before .before .before .before .put-u323 .ensures,
-      c .before .before .before .before .before .before .before .before .before .before .before .before .before .before .before .before .before
-          .before .put-u322 .ensures,
-      c .before .before .before .before .before .before .before .before .before .before .before .before .before .before .before .before .before
-          .before .before .before .before .before .put-u32 .ensures,
+      after-put-u325 .put-u325 .ensures,
+      after-put-u324 .put-u324 .ensures,
+      after-put-u323 .put-u323 .ensures,
+      after-put-u322 .put-u322 .ensures,
+      after-put-u32 .put-u32 .ensures,
     )
-    (head-run (st .args .store .now) (st .args .at) (st .args .v) (st .pre))
+    (head-run (start .args .store .now) (start .args .at) (start .args .v) (start .pre))
 
 pub save-head-spec : {M : Type 1} → statement M
 save-head-spec =
