@@ -1,7 +1,7 @@
 -- What the checks of CREATE and MKDIR tell of the object to be made. Assumes nothing.
+use mathlib.Core.Logic.{_⊎_}
 use Prim.Native.Nat.{ℕ}
 use mathlib.Core.Path.{_≡_, refl, sym, _∙_}
-use mathlib.Core.Logic.{_⊎_}
 use mathlib.Core.Bool.{false}
 use mathlib.Core.List.{List}
 use Rattle.kinds.specs.Numbers.{REGULAR, DIRECTORY}

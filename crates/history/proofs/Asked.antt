@@ -26,7 +26,7 @@ use Rattle.spec.specs.Replies.{resultBytes}
 use Rattle.spec.specs.Checked.{Checked, refused, passed}
 use Rattle.spec.specs.Header.{header}
 use Rattle.spec.specs.Rpc.{denied, accepted, nfs, judge, mismatch}
-use Rattle.spec.specs.Serve.{Outcome, refuse, Sent, send, perform, answer, complete, outcomeOf as settled, serve}
+use Rattle.spec.specs.Serve.{Outcome, refuse, Sent, send, perform, answer, complete, outcome as settled, serve}
 use Rattle.laws.proofs.Count.{by-bool}
 use Rattle.laws.proofs.Words.{words-length}
 use Rattle.history.specs.Book.{Ledger, argumentsGot, judgedArguments, headedArguments, asked, isStatus, isOk, noted, note}
@@ -48,7 +48,7 @@ pub record Acted (s : Store) (x : Request) (a : Arguments) : Type 0 where
 some-none : {A B : Type 0} {a : A} → none ≡ some a → B
 some-none e = let z : _≡_ {A = ℕ} 0 1 = cc in absurd (omega arith)
 
--- the reply in an outcomeOf
+-- the reply in an outcome
 abbrev replied : Outcome → List ℕ
 replied o = take (o .length) (o .space)
 

@@ -1,7 +1,7 @@
 -- A store's bytes as a view: functions of a record's number, built from spec's readers. A number out of range reads as free. The counts and
 -- searches of spec are those of the view. Assumes nothing.
 use mathlib.Core.Path.{_≡_, refl, sym, ap, _∙_}
-use mathlib.Core.Logic.{_⊎_, by-cases}
+use mathlib.Core.Logic.{by-cases, _⊎_}
 use mathlib.Core.Bool.{Bool, true, _&&_, cond}
 use mathlib.Core.Option.{Option, some, none}
 use mathlib.Core.List.{List, []}

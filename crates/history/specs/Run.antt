@@ -22,7 +22,7 @@ abbrev pub AllLent : List Request → Type 0
 AllLent [] = Unit {0}
 AllLent (x ∷ xs) = Lent x × AllLent xs
 
--- the outcomeOf of a request on a store, and the first `length` bytes of its reply space: the reply
+-- the outcome of a request on a store, and the first `length` bytes of its reply space: the reply
 abbrev pub outcomeOf : Store → Request → Outcome
 outcomeOf s x = serve (x .call) s (x .space) (x .context)
 

@@ -1,6 +1,6 @@
 -- The free blocks of a store: all but those that the sizes of its objects need. Assumes nothing.
-use mathlib.Core.Path.{_≡_, ap}
 use mathlib.Core.Logic.{_⊎_}
+use mathlib.Core.Path.{_≡_, ap}
 use Prim.Native.Nat.{ℕ, _+_, _≤_, _<_}
 use native.Mathlib.Omega.{arith}
 use lib.ListN.{length}

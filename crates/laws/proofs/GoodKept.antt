@@ -1,6 +1,6 @@
 -- That the demands on single records and on blocks hold after an edit, from what the edit set. Assumes nothing.
 use mathlib.Core.Path.{_≡_, ap, _∙_}
-use mathlib.Core.Logic.{_≢_, _⊎_, by-cases}
+use mathlib.Core.Logic.{_≢_, by-cases, _⊎_}
 use Prim.Native.Nat.{ℕ, _+_, _≤_, _<_}
 use native.Mathlib.Omega.{arith}
 use native.Mathlib.Decide.{ℕ-discrete}

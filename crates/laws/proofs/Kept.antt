@@ -1,6 +1,6 @@
 -- What an edit of the store leaves as it was: the shape, and every record that is not written. Assumes nothing.
 use mathlib.Core.Path.{_≡_, refl, sym, ap, _∙_}
-use mathlib.Core.Logic.{_≢_, _⊎_, ⊎-elim, by-cases}
+use mathlib.Core.Logic.{_≢_, ⊎-elim, by-cases, _⊎_}
 use mathlib.Core.List.{List, _++_}
 use Prim.Native.Nat.{ℕ, _+_, _-_, _≤_, _<_}
 use native.Mathlib.Omega.{arith}

@@ -11,7 +11,6 @@ use lib.ListN.{length}
 use borrow.Author.Tests.{leb-true, leb-false, ltb-true, ltb-false, eqb-true, eqb-false, eq-eqb, not-true, not-false}
 use Rattle.kinds.specs.Numbers.{REGULAR, DIRECTORY, NOENT, ACCES, EXIST, NOTDIR, INVAL, FBIG, NOSPC, NAMETOOLONG, NOTEMPTY, STALE, BADHANDLE}
 use Rattle.kinds.specs.Numbers.{NOT-SYNC, mostTransferBytes, mostFileBytes, spentGeneration, mostNameBytes, handleLength}
-use Rattle.kinds.specs.declared.call.SetSize.the-variants as SetSize
 use Rattle.kinds.specs.declared.call.Settable.{Settable}
 use Rattle.kinds.specs.declared.call.Guard.{Guard}
 use Rattle.kinds.specs.declared.call.How.{How}

@@ -1,6 +1,6 @@
 -- The fourth edit: an object, its blocks and its name record are free. Assumes nothing.
 use mathlib.Core.Path.{_≡_, refl, ap}
-use mathlib.Core.Logic.{_≢_, _⊎_, by-cases}
+use mathlib.Core.Logic.{_≢_, by-cases, _⊎_}
 use mathlib.Core.List.{[]}
 use Prim.Native.Nat.{ℕ, _+_, _^_, _<_}
 use native.Mathlib.Omega.{arith}

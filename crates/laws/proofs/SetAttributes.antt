@@ -12,7 +12,6 @@ use Rattle.kinds.specs.declared.object.Time.{Time}
 use Rattle.kinds.specs.declared.object.Object.{Object}
 use Rattle.kinds.specs.declared.call.SetNumber.{SetNumber}
 use Rattle.kinds.specs.declared.call.SetNumber.the-variants as SetNumber
-use Rattle.kinds.specs.declared.call.SetSize.the-variants as SetSize
 use Rattle.kinds.specs.declared.call.SetTime.{SetTime}
 use Rattle.kinds.specs.declared.call.SetTime.the-variants as SetTime
 use Rattle.kinds.specs.declared.call.Settable.{Settable}

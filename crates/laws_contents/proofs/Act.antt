@@ -1,6 +1,6 @@
 -- Every call: a file that it does not address keeps its contents, and what WRITE and SETATTR make of the one that they address. Assumes nothing.
 use mathlib.Core.Path.{_≡_, refl, sym, ap, _∙_}
-use mathlib.Core.Logic.{_≢_, _⊎_, ⊎-elim}
+use mathlib.Core.Logic.{_≢_, ⊎-elim, _⊎_}
 use mathlib.Core.List.{List}
 use Prim.Native.Nat.{ℕ, _^_, _<_, min}
 use native.Mathlib.Omega.{arith}
@@ -9,11 +9,9 @@ use lib.ListN.{take}
 use Rattle.kinds.specs.Numbers.{REGULAR, DIRECTORY, mostTransferBytes}
 use Rattle.kinds.specs.declared.object.Context.{Context}
 use Rattle.kinds.specs.declared.call.Part.{Part}
-use Rattle.kinds.specs.declared.call.SetSize.the-variants as SetSize
 use Rattle.kinds.specs.declared.call.Settable.{Settable}
 use Rattle.kinds.specs.declared.call.Guard.{Guard}
 use Rattle.kinds.specs.declared.call.How.{How}
-use Rattle.kinds.specs.declared.call.How.the-variants as How
 use Rattle.kinds.specs.declared.call.Arguments.{Arguments}
 use Rattle.kinds.specs.declared.call.Arguments.the-variants as Arguments
 use Rattle.spec.specs.Checked.{Checked, refused, passed}

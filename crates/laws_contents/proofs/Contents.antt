@@ -4,8 +4,8 @@ use mathlib.Core.Logic.{⊎-elim}
 use Prim.Native.Nat.{ℕ, zero, suc, _+_, _≤_, _<_}
 use native.Mathlib.Omega.{arith}
 use native.Mathlib.Nat.{zero-add, add-zero}
-use lib.Dec.{leb, lit<}
-use lib.ListN.{length, getD, List·getD-eq-default}
+use lib.Dec.{leb}
+use lib.ListN.{length, getD}
 use lib.Seq.{ext-getD}
 use Rattle.spec.specs.Bytes.{part}
 use Rattle.spec.specs.Edits.{readThrough, readFile}
@@ -16,7 +16,6 @@ use Rattle.spec.specs.Results.{gotBytes}
 use Rattle.spec.specs.Room.{sizeOf, byteAt}
 use Rattle.laws.proofs.Bytes.{lt-or-le, getD-part, part-length}
 use Rattle.laws.proofs.FileBytes.{readFile-length, readFile-none}
-use Rattle.laws.proofs.Range.{Below}
 use Rattle.laws_contents.specs.Contents.{contents}
 
 -- as many bytes as the file's size says

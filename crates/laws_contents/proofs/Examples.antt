@@ -8,7 +8,7 @@ use Rattle.laws_contents.specs.Written.{atSize, laid, written, made}
 abbrev old : List ℕ
 old = 1 ∷ 2 ∷ 3 ∷ []
 
--- cutWrite to two, and padded to five
+-- cut to two, and padded to five
 cutWrite : atSize old 2 ≡ 1 ∷ 2 ∷ []
 unfolding atSize
 cutWrite = refl

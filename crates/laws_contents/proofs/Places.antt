@@ -1,15 +1,14 @@
 -- Where the bytes of files lie: each in a block of its file, and no two at one place. Assumes nothing.
 use mathlib.Core.Path.{_≡_, refl, sym, _∙_}
 use mathlib.Core.Logic.{_≢_, ⊎-elim, by-cases}
-use mathlib.Core.List.{[]}
-use Prim.Native.Nat.{ℕ, _+_, _/_, _%_, _≤_, _<_}
+use Prim.Native.Nat.{ℕ, _/_, _≤_, _<_, _+_, _%_}
 use native.Mathlib.Omega.{arith}
 use native.Mathlib.Decide.{ℕ-discrete}
 use lib.ListN.{length, getD}
 use lib.Seq.{getD-take}
-use Rattle.kinds.specs.Layout.{objectLength, nameRecordLength, blockLength}
+use Rattle.kinds.specs.Layout.{blockLength}
 use Rattle.spec.specs.Count.{times}
-use Rattle.spec.specs.Image.{Store, objects, names, blocks, objectStart, nameStart, blockStart, objectAt}
+use Rattle.spec.specs.Image.{Store, objects, blocks, blockStart, objectAt}
 use Rattle.spec.specs.Room.{sizeOf, need, held, uses, byteAt}
 use Rattle.laws.proofs.Bytes.{lt-or-le}
 use Rattle.laws.proofs.Count.{times-at, times-two}

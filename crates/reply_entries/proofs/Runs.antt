@@ -12,7 +12,7 @@ use Rattle.kinds.specs.Layout.{childOffset, lengthOffset, textOffset}
 use Rattle.kinds.specs.Numbers.{mostObjects, entryFixedCost}
 use Rattle.spec.specs.Count.{passing}
 use Rattle.spec.specs.Bytes.{part, beAt}
-use Rattle.spec.specs.Image.{Store, objects, names, nameStart, nameAt, nameFrom, nameLength}
+use Rattle.spec.specs.Image.{Store, names, nameStart, nameAt, nameFrom, nameLength}
 use Rattle.spec.specs.Room.{isUsedName, isIn, parent}
 use Rattle.spec.specs.Results.{Entry}
 use Rattle.spec.specs.Procedures.Listing.{entryOf, dotEntries, namedEntries, entries, entriesAbove, entryCost}

@@ -1,4 +1,4 @@
-use Prim.Native.Nat.{ℕ, _+_, _-_}
+use Prim.Native.Nat.{ℕ, _-_, _+_}
 use mathlib.Core.List.{_++_}
 use mathlib.Core.Path.{ap, _∙_}
 use native.Mathlib.Omega.{arith}
@@ -43,14 +43,14 @@ returns c =
     let start = after-object-start .before .before .before in
     let s = start .args .store .now in
     let g = start .args .generation in
-    let start = after-object-start .object-start in
-    let at = start .result in
-    let two = overlay-more s at (bytesOf 4 0) (bytesOf 4 g) _ _ generationOffset (omega (arith, start .ensures, start .pre)) (bytes-length 4 0)
+    let first = after-object-start .object-start in
+    let at = first .result in
+    let two = overlay-more s at (bytesOf 4 0) (bytesOf 4 g) _ _ generationOffset (omega (arith, first .ensures, start .pre)) (bytes-length 4 0)
     (after-put-u32 .put-u32 .ensures)
     (after-put-u322 .put-u322 .ensures) in
-    overlay-more s at (bytesOf 4 0 ++ bytesOf 4 g) (zeros (objectLength - modeOffset)) _ _ modeOffset (omega (arith, start .ensures, start .pre))
+    overlay-more s at (bytesOf 4 0 ++ bytesOf 4 g) (zeros (objectLength - modeOffset)) _ _ modeOffset (omega (arith, first .ensures, start .pre))
     (simp (length-append, bytes-length)) two (c .before .before .clear-bytes .ensures)
-    ∙ ap (overlay s at) (free-bytes g) ∙ ap (λ (k : ℕ). overlay s k (objectBytes (freeObject g))) (start .ensures)
+    ∙ ap (overlay s at) (free-bytes g) ∙ ap (λ (k : ℕ). overlay s k (objectBytes (freeObject g))) (first .ensures)
 
 pub clear-object-spec : {M : Type 1} → statement M
 clear-object-spec =

@@ -1,16 +1,13 @@
+use mathlib.Core.List.{_∷_}
 use borrow.Author.Needs.{needs}
 use native.Mathlib.Omega.{arith}
-use native.Mathlib.Numerals.{add-one}
-use mathlib.Core.Path.{_≡_, refl, sym, ap, _∙_}
-use mathlib.Core.List.{_∷_, []}
-use Prim.Native.Nat.{ℕ, _+_, _-_, _≤_, zero-le}
-use lib.ListN.{length, getD, replicate, length-set, length-replicate, replicate-append-replicate}
-use Rattle.spec.specs.Bytes.{overlay, part}
-use Rattle.laws.proofs.Bytes.{overlay-step, overlay-none, part-snoc, part-length}
+use mathlib.Core.Path.{_≡_, refl, sym, _∙_}
+use Prim.Native.Nat.{ℕ, _-_, _≤_, zero-le, _+_}
+use lib.ListN.{length, replicate, length-set, length-replicate, replicate-append-replicate}
+use Rattle.spec.specs.Bytes.{overlay}
+use Rattle.laws.proofs.Bytes.{overlay-step, overlay-none}
 use Rattle.wire.proofs.clear_bytes.Statement.{statement}
 use Rattle.wire.proofs.clear_bytes.Tie as tie
-use Rattle.wire.proofs.clear_bytes.Reads as reads
-use Rattle.wire.proofs.clear_bytes.Lts as lts
 
 abbrev Inv-loop : tie.InvT-loop
 Inv-loop dst₀ at len i₀ dst i = (i ≤ len) × (length dst ≡ length dst₀) × (dst ≡ overlay dst₀ at (replicate i 0))

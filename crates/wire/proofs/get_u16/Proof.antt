@@ -3,9 +3,6 @@ use native.Mathlib.Omega.{arith}
 use Rattle.laws.proofs.Bytes.{be-2}
 use Rattle.wire.proofs.get_u16.Statement.{statement}
 use Rattle.wire.proofs.get_u16.Tie as tie
-use Rattle.wire.proofs.get_u16.Reads as reads
-use Rattle.wire.proofs.get_u16.Lts as lts
-use Rattle.wire.proofs.wide.Reads as wide-reads
 
 shared-slice-read-wide : tie.Need-shared-slice-read-wide
 shared-slice-read-wide c = search needs

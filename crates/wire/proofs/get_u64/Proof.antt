@@ -3,9 +3,6 @@ use native.Mathlib.Omega.{arith}
 use Rattle.laws.proofs.Bytes.{be-add}
 use Rattle.wire.proofs.get_u64.Statement.{statement}
 use Rattle.wire.proofs.get_u64.Tie as tie
-use Rattle.wire.proofs.get_u64.Reads as reads
-use Rattle.wire.proofs.get_u64.Lts as lts
-use Rattle.wire.proofs.get_u32.Reads as get-u32-reads
 
 get-u32-requires : tie.Need-get-u32-requires
 get-u32-requires c κs = search needs

@@ -4,8 +4,6 @@ use lib.ListN.{length-set}
 use Rattle.laws.proofs.Bytes.{stores-2}
 use Rattle.wire.proofs.put_u16.Statement.{statement}
 use Rattle.wire.proofs.put_u16.Tie as tie
-use Rattle.wire.proofs.put_u16.Reads as reads
-use Rattle.wire.proofs.put_u16.Lts as lts
 
 cast-s : tie.Need-cast-s
 cast-s c = search needs

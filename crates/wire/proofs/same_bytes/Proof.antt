@@ -1,16 +1,13 @@
 use mathlib.Core.List.{List}
 use borrow.Author.Needs.{needs}
 use native.Mathlib.Omega.{arith}
-use native.Mathlib.Numerals.{add-one}
 use mathlib.Core.Path.{_≡_, refl, sym, ap, _∙_}
-use Prim.Native.Nat.{ℕ, _+_, _-_, _*_, _≤_, _<_, zero-le}
-use Rattle.spec.specs.Bytes.{part, sameBytes}
+use Prim.Native.Nat.{ℕ, _-_, _≤_, zero-le, _+_, _*_, _<_}
+use Rattle.spec.specs.Bytes.{part}
 use Rattle.laws.proofs.Bytes.{same-yes, same-no, part-snoc, getD-part}
-use lib.ListN.{length, getD}
+use lib.ListN.{getD}
 use Rattle.wire.proofs.same_bytes.Statement.{statement}
 use Rattle.wire.proofs.same_bytes.Tie as tie
-use Rattle.wire.proofs.same_bytes.Reads as reads
-use Rattle.wire.proofs.same_bytes.Lts as lts
 
 abbrev Inv-loop : tie.InvT-loop
 Inv-loop a at b from len i₀ i = (i ≤ len) × (part a at i ≡ part b from i)

@@ -76,20 +76,27 @@ names-and-tree-requires c κs =
     )
 
 returns-4 : tie.Need-returns-4
-returns-4 c = checked-bad (c .before .before .before .before .before .before .before .before .before .before .before .before .before .before .before
-    .before .args .store .now) _ (c .before .names-and-tree .ensures .no (not-true _ (c .if3 .taken)))
+returns-4 c =
+    let after-found = c .before .before .before .before .before .before .before .before .before .before .before .before in
+    let start = after-found .before .before .before .before in
+    checked-bad (start .args .store .now) _ (c .before .names-and-tree .ensures .no (not-true _ (c .if3 .taken)))
 
 returns-5 : tie.Need-returns-5
 returns-5 c =
-    let s = c .before .before .before .before .before .before .before .before .before .before .before .before .before .before .before .before .args
-    .store .now in
-    let k = c .before .before .before .before .before .before .before .before .before .before .before .before .found .given .0 .0 in
-    let y = shape-yes s k (sym (c .before .before .before .before .before .before .before .before .before .before .before .before .before .before
-    .shape .ensures) ∙ c .before .before .before .before .before .before .before .before .before .before .before .before .found .given .1) in
-    let g = sym (c .before .before .before .before .before .before .before .before .before .before .is-directory .ensures) ∙
-    not-false _ (c .before .before .before .before .before .before .before .before .before .if1 .left) in
+    let else2 = c .before .before .before .before in
+    let after-objects-pass = else2 .before in
+    let else1 = after-objects-pass .before .before .before .before in
+    let after-is-directory = else1 .before in
+    let after-found = after-is-directory .before .before in
+    let after-shape = after-found .before .before in
+    let start = after-shape .before .before in
+    let s = start .args .store .now in
+    let k = after-found .found .given .0 .0 in
+    let y = shape-yes s k (sym (after-shape .shape .ensures) ∙ after-found .found .given .1) in
+    let g = sym (after-is-directory .is-directory .ensures) ∙
+    not-false _ (else1 .if1 .left) in
     let o = rw (ap (λ (x : Counts). x .objects) (y .1)) at
-    (c .before .before .before .before .before .objects-pass .ensures .yes (not-false _ (c .before .before .before .before .if2 .left))) in
+    (after-objects-pass .objects-pass .ensures .yes (not-false _ (else2 .if2 .left))) in
     checked-good s k _ (y .0) (y .1) g o (c .before .names-and-tree .ensures .yes (not-false _ (c .if3 .left)))
 
 pub check-store-spec : {M : Type 1} → statement M

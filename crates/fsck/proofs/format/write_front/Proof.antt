@@ -29,15 +29,20 @@ same-length c = search needs
 
 returns : tie.Need-returns
 unfolding frontOf
-returns c = rw (
-  c .before .before .clear-bytes .ensures,
-  c .before .before .before .before .before .before .save-object .ensures,
-  c .before .before .before .before .before .before .before .root .ensures,
-  c .before .before .before .before .before .before .before .before .before .before .before .put-u323 .ensures,
-  c .before .before .before .before .before .before .before .before .before .before .before .before .before .before .before .put-u322 .ensures,
-  c .before .before .before .before .before .before .before .before .before .before .before .before .before .before .before .before .before .before
-      .before .put-u32 .ensures,
-)
+returns c =
+    let after-save-object = c .before .before .before .before .before .before in
+    let after-root = after-save-object .before in
+    let after-put-u323 = after-root .before .before .before .before in
+    let after-put-u322 = after-put-u323 .before .before .before .before in
+    let after-put-u32 = after-put-u322 .before .before .before .before in
+    rw (
+      c .before .before .clear-bytes .ensures,
+      after-save-object .save-object .ensures,
+      after-root .root .ensures,
+      after-put-u323 .put-u323 .ensures,
+      after-put-u322 .put-u322 .ensures,
+      after-put-u32 .put-u32 .ensures,
+    )
 
 pub write-front-spec : {M : Type 1} → statement M
 write-front-spec =

@@ -117,8 +117,9 @@ add-result-7 c = search needs
 
 returns : tie.Need-returns
 returns c =
-    let st = c .before .before .before .before .before .before .before .before .before .before .before .before .before .before .before .before .before in
-    omega (arith, word-low (st .args .s .now) (st .args .at) (st .pre))
+    let after-index2 = c .before .before .before .before .before .before .before .before .before .before .before .before in
+    let start = after-index2 .before .before .before .before .before in
+    omega (arith, word-low (start .args .s .now) (start .args .at) (start .pre))
 
 pub word-at-spec : {M : Type 1} → statement M
 word-at-spec =

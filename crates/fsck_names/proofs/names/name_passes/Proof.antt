@@ -81,24 +81,33 @@ put-first-requires c κs = search needs
 
 returns-5 : tie.Need-returns-5
 returns-5 c =
-    let st = c .before .before .before .before .before .before .before .before .before .before .before .before .before .before .before .before in
-    let a = st .args in
+    let else4 = c .before .before .before in
+    let after-is-new = else4 .before in
+    let else3 = after-is-new .before .before .before in
+    let after-mark-child = else3 .before in
+    let after-hash-of = after-mark-child .before .before in
+    let else2 = after-hash-of .before in
+    let else1 = else2 .before in
+    let after-record-passes = else1 .before in
+    let after-length-of = after-record-passes .before in
+    let start = after-length-of .before .before in
+    let a = start .args in
     let s = a .store .now in
-    let g = sym (c .before .before .before .before .before .before .before .before .before .before .before .before .before .record-passes .ensures) ∙
-    not-false _ (c .before .before .before .before .before .before .before .before .before .before .before .before .if1 .left) in
+    let g = sym (after-record-passes .record-passes .ensures) ∙
+    not-false _ (else1 .if1 .left) in
     let u = true-used s (a .n .0) (omega (
       arith,
-      c .before .before .before .before .before .before .before .before .before .before .before .if2 .left,
-      c .before .before .before .before .before .before .before .before .before .before .before .before .before .before .length-of .ensures,
+      else2 .if2 .left,
+      after-length-of .length-of .ensures,
     ))
     in
-    let h = c .before .before .before .before .before .before .before .before .before .before .hash-of in
-    let m = c .before .before .before .before .before .before .before .before .mark-child .ensures .yes
-    (not-false _ (c .before .before .before .before .before .before .before .if3 .left)) in
-    let f = c .before .before .before .before .is-new .ensures .yes (not-false _ (c .before .before .before .if4 .left)) in
-    let k = chains-used s (a .n .0) (a .head .now) (a .next .now) (st .pre .1 .1 .1 .0 .chains) (h .result) (h .ensures .0) (h .ensures .1)
-    (omega (arith, st .pre .0 .few-names, st .pre .1 .1 .0)) u in
-    told-true (names-used s (a .n .0) (a .parents .now) (a .head .now) (a .next .now) _ _ _ (st .pre .1 .1 .1 .0) g f
+    let h = after-hash-of .hash-of in
+    let m = after-mark-child .mark-child .ensures .yes
+    (not-false _ (else3 .if3 .left)) in
+    let f = after-is-new .is-new .ensures .yes (not-false _ (else4 .if4 .left)) in
+    let k = chains-used s (a .n .0) (a .head .now) (a .next .now) (start .pre .1 .1 .1 .0 .chains) (h .result) (h .ensures .0) (h .ensures .1)
+    (omega (arith, start .pre .0 .few-names, start .pre .1 .1 .0)) u in
+    told-true (names-used s (a .n .0) (a .parents .now) (a .head .now) (a .next .now) _ _ _ (start .pre .1 .1 .1 .0) g f
     (rw (c .put-first .ensures .0, c .put-first .ensures .1) k) m)
 
 pub name-passes-spec : {M : Type 1} → statement M
