@@ -44,6 +44,7 @@ use Rattle.laws_contents.specs.Written.{written, sizedTo}
 use Rattle.laws_contents.proofs.SizeSet.{MaySize}
 use Rattle.laws_contents.proofs.Procedures.{setattr-contents, setattr-others, write-passed-written, write-passed-others}
 use Rattle.laws_contents.proofs.Procedures.{existing-others, new-others, removed-others, renamed-contents}
+use Rattle.kinds.specs.declared.call.How.the-variants as How
 
 -- ---- the file that a call addresses
 module _ (s : Store) (g : GoodRecords s) (c : Context) (k : GoodClock (c .clock)) where

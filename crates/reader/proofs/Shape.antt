@@ -20,6 +20,7 @@ use denote.Triple.Entry.{Args, Res}
 use denote.Exit.{yes}
 use Rattle.reader.proofs.Reader as T
 use Rattle.reader.proofs.Reader.Laws as T′
+use Rattle.reader.proofs.new.Symbol.{name as #new}
 
 -- the reader's type, over the signature's lifetimes
 abbrev pub B : Lfts 1 → RattleType

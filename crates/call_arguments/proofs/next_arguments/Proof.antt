@@ -13,7 +13,9 @@ use Rattle.call_end.proofs.reading.ArgumentsRead.Laws as R′
 use Rattle.reader.proofs.Taken.{taken}
 use Rattle.call_arguments.proofs.arguments_at as callee
 use Rattle.call_arguments.proofs.arguments_at.Symbol as callee-def
+use Rattle.call_arguments.proofs.arguments_at.Symbol.{name as #arguments-at}
 use Rattle.call_arguments.proofs.arguments_at.Met as callee-thm
+use Rattle.call_arguments.proofs.next_arguments.Key.{name as #next-arguments}
 use Rattle.call_arguments.proofs.next_arguments as next-arguments
 use Rattle.call_arguments.proofs.next_arguments.Statement as stated
 use Rattle.call_arguments.proofs.next_arguments.Code as code

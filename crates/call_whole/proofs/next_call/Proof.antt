@@ -29,6 +29,7 @@ use Rattle.rpc.proofs.header.HeaderRead as X
 use Rattle.rpc.proofs.header.HeaderRead.Laws as X′
 use Rattle.rpc.proofs.header.next_header as f
 use Rattle.rpc.proofs.header.next_header.Symbol as f-def
+use Rattle.rpc.proofs.header.next_header.Symbol.{name as #f}
 use Rattle.rpc.proofs.header.next_header.Met as f-thm
 use Rattle.call_end.specs.Reading.{argumentsOf}
 use Rattle.call_end.specs.declared.reading.ArgumentsRead.{ArgumentsRead}
@@ -36,6 +37,7 @@ use Rattle.call_end.proofs.reading.ArgumentsRead as Y
 use Rattle.call_end.proofs.reading.ArgumentsRead.Laws as Y′
 use Rattle.call_arguments.proofs.next_arguments as g
 use Rattle.call_arguments.proofs.next_arguments.Symbol as g-def
+use Rattle.call_arguments.proofs.next_arguments.Symbol.{name as #g}
 use Rattle.call_arguments.proofs.next_arguments.Met as g-thm
 use Rattle.reader.proofs.Reader.Laws as T′
 use Rattle.call_whole.specs.After.{argumentsAfter}
@@ -47,16 +49,21 @@ use Rattle.reader.proofs.Shape.{besides}
 use Rattle.reader.proofs.Steps.{Own, reads, moves, asks, asks-number}
 use Rattle.reader.proofs.past as past
 use Rattle.reader.proofs.past.Symbol as past-def
+use Rattle.reader.proofs.past.Symbol.{name as #past}
 use Rattle.reader.proofs.past.Met as past-thm
 use Rattle.rpc.proofs.header.HeaderRead.place as p
 use Rattle.rpc.proofs.header.HeaderRead.place.Symbol as p-def
+use Rattle.rpc.proofs.header.HeaderRead.place.Symbol.{name as #p}
 use Rattle.rpc.proofs.header.HeaderRead.place.Met as p-thm
 use Rattle.rpc.proofs.header.HeaderRead.procedure as n
 use Rattle.rpc.proofs.header.HeaderRead.procedure.Symbol as n-def
+use Rattle.rpc.proofs.header.HeaderRead.procedure.Symbol.{name as #n}
 use Rattle.rpc.proofs.header.HeaderRead.procedure.Met as n-thm
 use Rattle.call_whole.proofs.call_of as h
 use Rattle.call_whole.proofs.call_of.Symbol as h-def
+use Rattle.call_whole.proofs.call_of.Symbol.{name as #h}
 use Rattle.call_whole.proofs.call_of.Met as h-thm
+use Rattle.call_whole.proofs.next_call.Key.{name as #next-call}
 use Rattle.call_whole.proofs.next_call as self
 use Rattle.call_whole.proofs.next_call.Statement as stated
 use Rattle.call_whole.proofs.next_call.Code as code

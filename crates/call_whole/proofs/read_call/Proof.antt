@@ -13,10 +13,13 @@ use Rattle.call_whole.proofs.CallRead.Laws as R′
 use Rattle.reader.proofs.Made.{made}
 use Rattle.reader.proofs.new as new
 use Rattle.reader.proofs.new.Symbol as new-def
+use Rattle.reader.proofs.new.Symbol.{name as #new}
 use Rattle.reader.proofs.new.Met as new-thm
 use Rattle.call_whole.proofs.next_call as callee
 use Rattle.call_whole.proofs.next_call.Symbol as callee-def
+use Rattle.call_whole.proofs.next_call.Symbol.{name as #next-call}
 use Rattle.call_whole.proofs.next_call.Met as callee-thm
+use Rattle.call_whole.proofs.read_call.Key.{name as #read-call}
 use Rattle.call_whole.proofs.read_call as self
 use Rattle.call_whole.proofs.read_call.Statement as stated
 use Rattle.call_whole.proofs.read_call.Code as code

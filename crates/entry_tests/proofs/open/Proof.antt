@@ -52,33 +52,48 @@ enum-told-3 c = search needs
 
 returns-5 : tie.Need-returns-5
 returns-5 c =
-    let a = c .before .before .before .before .before .before .before .before .before .before .before .before .before .before .before .before .args in
+    let after-enum-told = c .before .before .before in
+    let after-check-store = after-enum-told .before .before in
+    let else3 = after-check-store .before .before .before in
+    let else2 = else3 .before in
+    let else1 = else2 .before .before in
+    let start = else1 .before .before .before .before .before in
+    let a = start .args in
     let s = a .store .now in
-    let e = good-passes s _ (sym (c .before .before .before .enum-told .given .1) ∙ c .before .before .before .before .before .check-store .ensures .is) in
+    let e = good-passes s _ (sym (after-enum-told .enum-told .given .1) ∙ after-check-store .check-store .ensures .is) in
     bad-header (a .call .now) s (a .reply .now) (a .context)
-    (c .before .before .before .before .before .before .before .before .before .before .before .if1 .left)
-    (c .before .before .before .before .before .before .before .before .before .if2 .left)
-    (c .before .before .before .before .before .before .before .before .if3 .left) e
+    (else1 .if1 .left)
+    (else2 .if2 .left)
+    (else3 .if3 .left) e
     _ (sym (c .before .before .read-call .ensures .0) ∙ ap headerOf (c .enum-told3 .given .1))
 
 returns-6 : tie.Need-returns-6
 returns-6 c =
-    let a = c .before .before .before .before .before .before .before .before .before .before .before .before .before .before .before .before .before .args in
+    let after-read-call = c .before .before .before in
+    let after-enum-told = after-read-call .before in
+    let after-check-store = after-enum-told .before .before in
+    let else3 = after-check-store .before .before .before in
+    let else2 = else3 .before in
+    let after-struct-known = else2 .before in
+    let else1 = after-struct-known .before in
+    let after-shared-slice-known2 = else1 .before .before .before in
+    let start = after-shared-slice-known2 .before .before in
+    let a = start .args in
     let s = a .store .now in
-    let f = c .before .before .before .before .before .before .check-store .ensures in
-    let e = good-passes s _ (sym (c .before .before .before .before .enum-told .given .1) ∙ f .is) in
-    let f₁ = c .before .before .before .read-call .ensures in
+    let f = after-check-store .check-store .ensures in
+    let e = good-passes s _ (sym (after-enum-told .enum-told .given .1) ∙ f .is) in
+    let f₁ = after-read-call .read-call .ensures in
     hears (a .call .now) s (a .reply .now) (a .context)
-    (c .before .before .before .before .before .before .before .before .before .before .before .before .if1 .left)
-    (c .before .before .before .before .before .before .before .before .before .before .if2 .left)
-    (c .before .before .before .before .before .before .before .before .before .if3 .left) e
+    (else1 .if1 .left)
+    (else2 .if2 .left)
+    (else3 .if3 .left) e
     _ _ _ _ (sym (f₁ .0) ∙ ap headerOf (c .before .read .given .1)) (f₁ .1) (f .map e)
-    (λ i. c .before .before .before .before .before .before .before .before .before .before .before .before .before .before .before
+    (λ i. after-shared-slice-known2
     .shared-slice-known2 .given i .fits)
     (record {
-      seconds = let g = c .before .before .before .before .before .before .before .before .before .before .before .struct-known .given .0 in
+      seconds = let g = after-struct-known .struct-known .given .0 in
           omega arith;
-      nanoseconds = c .before .before .before .before .before .before .before .before .before .before .if2 .left;
+      nanoseconds = else2 .if2 .left;
     })
 
 pub open-spec : {M : Type 1} → statement M

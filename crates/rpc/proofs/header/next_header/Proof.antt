@@ -12,7 +12,9 @@ use Rattle.rpc.proofs.header.HeaderRead.Laws as R′
 use Rattle.reader.proofs.Taken.{taken}
 use Rattle.rpc.proofs.header.header_at as callee
 use Rattle.rpc.proofs.header.header_at.Symbol as callee-def
+use Rattle.rpc.proofs.header.header_at.Symbol.{name as #header-at}
 use Rattle.rpc.proofs.header.header_at.Met as callee-thm
+use Rattle.rpc.proofs.header.next_header.Key.{name as #next-header}
 use Rattle.rpc.proofs.header.next_header as next-header
 use Rattle.rpc.proofs.header.next_header.Statement as stated
 use Rattle.rpc.proofs.header.next_header.Code as code
