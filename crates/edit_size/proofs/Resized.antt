@@ -20,7 +20,6 @@ use Rattle.laws.proofs.RecordRange.{objectAt-fits}
 use Rattle.laws.proofs.Resize.{keptBlocks, freedBlocks, addedBlocks}
 use Rattle.laws.proofs.Valid.{LiveObject, live-size}
 use Rattle.store_blocks.specs.Blocks.{blockList}
-use Rattle.edit_size.specs.Sized.{sized}
 
 -- the last numbers of the first `before`
 freed-part : (own : List ℕ) (before after : ℕ) → after ≤ before → drop after (take before own) ≡ part own after (before - after)
@@ -76,12 +75,12 @@ module _ {s : Store} {o size old : ℕ} {own : List ℕ} {before after : ℕ} (r
   resized-run : (start end : ℕ) (xs ys : List ℕ) → start ≤ old → min (sizeOf s o) size ≡ start → max (sizeOf s o) size ≡ end
       → freedBlocks s o size ++ addedBlocks s o size ≡ xs
       → keptBlocks s o size ++ addedBlocks s o size ≡ ys → (t u z : Store) (numbers : List ℕ) → t ≡ clearTail s o start end → InRange (blocks t) xs
-      → u ≡ clearBlocks t xs → numbers ≡ blockNumbers ys → z ≡ putObject u o (sized size numbers (objectAt u o)) → z ≡ resize s o size
-  unfolding resize withSize sized
+      → u ≡ clearBlocks t xs → numbers ≡ blockNumbers ys → z ≡ putObject u o (withSize size numbers (objectAt u o)) → z ≡ resize s o size
+  unfolding resize withSize
   resized-run start end xs ys l a b c d t u z numbers e i f g k =
       k ∙ ap₂ (λ (x : Store) (y : Object). putObject x o y)
       (f ∙ ap₂ clearBlocks (e ∙ sym (ap₂ (clearTail s o) a b)) (sym c))
-      (ap₂ (sized size) (g ∙ ap blockNumbers (sym d)) (record-kept start end t u xs l e i f))
+      (ap₂ (withSize size) (g ∙ ap blockNumbers (sym d)) (record-kept start end t u xs l e i f))
 
   -- ---- a size that is not above the old one
   module _ (h : size ≤ old) where
@@ -101,7 +100,7 @@ module _ {s : Store} {o size old : ℕ} {own : List ℕ} {before after : ℕ} (r
         rw (tail-kept size old t h e .shape .blocks, ← freed-own) (range-drop (blocks s) (need size) (held s o) (held-range s o live-record))
 
     pub shrunk : (t u z : Store) (numbers : List ℕ) → t ≡ clearTail s o size old → u ≡ clearBlocks t (part own after (before - after))
-        → numbers ≡ blockNumbers (take after (take before own) ++ take (after - before) own) → z ≡ putObject u o (sized size numbers (objectAt u o))
+        → numbers ≡ blockNumbers (take after (take before own) ++ take (after - before) own) → z ≡ putObject u o (withSize size numbers (objectAt u o))
         → z ≡ resize s o size
     shrunk t u z numbers e =
         let n : after - before ≡ 0 = omega (arith, fewer) in
@@ -137,7 +136,7 @@ module _ {s : Store} {o size old : ℕ} {own : List ℕ} {before after : ℕ} (r
         (range-take (blocks s) (need size - need (sizeOf s o)) (freeBlocks s) (free-range s))
 
     pub grown : (t u z : Store) (numbers : List ℕ) → t ≡ clearTail s o old size → u ≡ clearBlocks t (part added 0 (after - before - 0))
-        → numbers ≡ blockNumbers (take after (take before own) ++ take (after - before) added) → z ≡ putObject u o (sized size numbers (objectAt u o))
+        → numbers ≡ blockNumbers (take after (take before own) ++ take (after - before) added) → z ≡ putObject u o (withSize size numbers (objectAt u o))
         → z ≡ resize s o size
     grown t u z numbers e =
         resized-run old size (part added 0 (after - before - 0)) (take after (take before own) ++ take (after - before) added) (omega arith)

@@ -8,11 +8,11 @@ use Rattle.kinds.specs.Layout.{sizeOffset, atimeOffset, blocksOffset, objectLen
 use Rattle.kinds.specs.Numbers.{fileBlocks}
 use Rattle.kinds.specs.declared.object.Object.{Object}
 use Rattle.spec.specs.Bytes.{part, overlay, bytesOf}
+use Rattle.spec.specs.Edits.{withSize}
 use Rattle.spec.specs.Image.{Store, objectStart, halvesBytes, headBytes, timesBytes, objectBytes, objectAt, putObject}
 use Rattle.laws.proofs.Bytes.{part-after, overlay-join, overlay-length, bytes-length}
 use Rattle.laws.proofs.Range.{Below}
 use Rattle.edit_attributes.proofs.Kept.{timesLength, skip, numbers-kept, times-kept}
-use Rattle.edit_size.specs.Sized.{sized}
 
 module _ (s : Store) (o size : ℕ) (numbers : List ℕ) (f : Below 256 s) (h : objectStart o + objectLength ≤ length s) where
   abbrev at : ℕ
@@ -31,12 +31,12 @@ module _ (s : Store) (o size : ℕ) (numbers : List ℕ) (f : Below 256 s) (h : 
   abbrev numbersBytes : Object → List ℕ
   numbersBytes v = bytesOf 4 (v .kind) ++ bytesOf 4 (v .generation) ++ bytesOf 4 (v .mode) ++ bytesOf 4 (v .uid) ++ bytesOf 4 (v .gid)
 
-  spelt : objectBytes (sized size numbers (objectAt s o))
+  spelt : objectBytes (withSize size numbers (objectAt s o))
       ≡ numbersBytes (objectAt s o) ++ (bytesOf 4 size ++ (timesBytes (objectAt s o) ++ halvesBytes fileBlocks numbers))
-  unfolding objectBytes headBytes timesBytes sized
+  unfolding objectBytes headBytes timesBytes withSize
   spelt = simp append-assoc
 
-  pub size-written : overlay first (at + blocksOffset) (halvesBytes fileBlocks numbers) ≡ putObject s o (sized size numbers (objectAt s o))
+  pub size-written : overlay first (at + blocksOffset) (halvesBytes fileBlocks numbers) ≡ putObject s o (withSize size numbers (objectAt s o))
   unfolding putObject
   size-written =
       let past : at + sizeOffset + length (bytesOf 4 size) ≡ at + atimeOffset = omega (arith, bytes-length 4 size) in

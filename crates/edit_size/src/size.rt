@@ -8,10 +8,9 @@ ghost use Rattle.kinds.specs.Layout.{objectLength};
 ghost use Rattle.kinds.specs.Numbers.{REGULAR, fileBlocks, mostFileBytes};
 ghost use Rattle.spec.specs.Image.{objects, objectStart, objectAt, putObject};
 ghost use Rattle.spec.specs.Room.{need, sizeOf, freeBlockCount};
-ghost use Rattle.spec.specs.Edits.{blockNumbers, resize};
+ghost use Rattle.spec.specs.Edits.{blockNumbers, withSize, resize};
 ghost use Rattle.laws.proofs.GoodRecords.{GoodRecords};
 ghost use Rattle.store_blocks.specs.Blocks.{UsedMap};
-ghost use Rattle.edit_size.specs.Sized.{sized};
 use edit_data::clear_blocks;
 use edit_data::clear_tail;
 use kinds::layout::ObjectRecord;
@@ -52,7 +51,7 @@ fn resized_blocks(
 // Writes the size and the blocks of an object. The other bytes of its record stay.
 fn save_size(store: &mut [u8], o: ObjectNumber, size: u32, list: [BlockNumber; 16])
     requires { ⌜ objectStart (o .0) + objectLength ≤ length (now store) ⌝ }
-    ensures { λ _. ⌜ now (store .exit) ≡ putObject (now (store .entry)) (o .0) (sized size (numbersOf list) (objectAt (now (store .entry)) (o .0))) ⌝ }
+    ensures { λ _. ⌜ now (store .exit) ≡ putObject (now (store .entry)) (o .0) (withSize size (numbersOf list) (objectAt (now (store .entry)) (o .0))) ⌝ }
 {
     let at = object_start(store, o);
     wire::put_u32(store, at + ObjectRecord::SIZE, size);

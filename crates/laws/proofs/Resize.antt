@@ -39,7 +39,7 @@ addedBlocks s o size = take (need size - need (sizeOf s o)) (freeBlocks s)
 
 -- the object's record with its new size and blocks
 abbrev pub resized : Store → ℕ → ℕ → Object
-resized s o size = withSize size (keptBlocks s o size ++ addedBlocks s o size) (objectAt s o)
+resized s o size = withSize size (blockNumbers (keptBlocks s o size ++ addedBlocks s o size)) (objectAt s o)
 
 -- numbers in range fit two bytes
 range-below : (m n : ℕ) (xs : List ℕ) → m ≤ n → 0 < n → InRange m xs → Below n xs

@@ -75,9 +75,9 @@ clearTail s o start end =
 unfoldable pub blockNumbers : List ℕ → List ℕ
 blockNumbers rs = take fileBlocks (rs ++ replicate fileBlocks unusedBlock)
 
--- an object of another size, with its blocks
+-- an object of another size, with these block numbers
 unfoldable pub withSize : ℕ → List ℕ → Object → Object
-withSize size rs v =
+withSize size numbers v =
     record {
       kind = v .kind;
       generation = v .generation;
@@ -88,7 +88,7 @@ withSize size rs v =
       atime = v .atime;
       mtime = v .mtime;
       ctime = v .ctime;
-      blocks = blockNumbers rs;
+      blocks = numbers;
     }
 
 -- SECOND EDIT: a file's size. "New blocks, freed blocks and cut tails (new to old end) are zeroed; any growth zeroes each byte from old
@@ -99,7 +99,8 @@ resize s o size =
     let kept = take (need size) (held s o) in
     let freed = drop (need size) (held s o) in
     let added = take (need size - need old) (freeBlocks s) in
-    putObject (clearBlocks (clearTail s o (min old size) (max old size)) (freed ++ added)) o (withSize size (kept ++ added) (objectAt s o))
+    putObject (clearBlocks (clearTail s o (min old size) (max old size)) (freed ++ added)) o
+    (withSize size (blockNumbers (kept ++ added)) (objectAt s o))
 
 -- an object in a record that has been free: the record's generation stays
 unfoldable pub withGeneration : ℕ → Object → Object
