@@ -19,8 +19,8 @@ namesHead = 16
 abbrev pub blocksHead : ℕ
 blocksHead = 20
 
--- "80 bytes each: type, generation, mode, uid, gid, size (4 each); atime, mtime, ctime (8 each); 16 two-byte block numbers": the type stands
--- first, and each other field at its offset
+-- "type, generation, mode, uid, gid, size (4 each); atime, mtime, ctime (8 each); 16 two-byte block numbers"; "Object records grow to 92 bytes
+-- (verifier, then a flag word ..)": the type stands first, and each other field at its offset
 abbrev pub generationOffset : ℕ
 generationOffset = 4
 
@@ -48,8 +48,18 @@ ctimeOffset = 40
 abbrev pub blocksOffset : ℕ
 blocksOffset = 48
 
+abbrev pub verifierOffset : ℕ
+verifierOffset = 80
+
+abbrev pub exclusiveOffset : ℕ
+exclusiveOffset = 88
+
 abbrev pub objectLength : ℕ
-objectLength = 80
+objectLength = 92
+
+-- "80 bytes each", document 01's layout: the fields of these stand where they stood
+abbrev pub oldObjectLength : ℕ
+oldObjectLength = 80
 
 -- the nanoseconds of a time stand after its seconds
 abbrev pub nanosecondsOffset : ℕ
@@ -79,5 +89,6 @@ blockLength = 512
 abbrev pub layout : List ℕ
 layout =
     stampOffset ∷ objectCountOffset ∷ objectsHead ∷ namesHead ∷ blocksHead
-    ∷ generationOffset ∷ modeOffset ∷ uidOffset ∷ gidOffset ∷ sizeOffset ∷ atimeOffset ∷ mtimeOffset ∷ ctimeOffset ∷ blocksOffset ∷ objectLength
-    ∷ nanosecondsOffset ∷ timeLength ∷ childOffset ∷ lengthOffset ∷ textOffset ∷ nameRecordLength ∷ blockLength ∷ []
+    ∷ generationOffset ∷ modeOffset ∷ uidOffset ∷ gidOffset ∷ sizeOffset ∷ atimeOffset ∷ mtimeOffset ∷ ctimeOffset ∷ blocksOffset ∷ verifierOffset
+    ∷ exclusiveOffset ∷ objectLength ∷ oldObjectLength ∷ nanosecondsOffset ∷ timeLength ∷ childOffset ∷ lengthOffset ∷ textOffset
+    ∷ nameRecordLength ∷ blockLength ∷ []

@@ -114,6 +114,10 @@ fileBlocks = 16
 abbrev pub unusedBlock : ℕ
 unusedBlock = 65535
 
+-- "a flag word: 1 on a regular file that keeps one": a verifier
+abbrev pub keptFlag : ℕ
+keptFlag = 1
+
 -- "a file's size at most 8,192"
 abbrev pub mostFileBytes : ℕ
 mostFileBytes = 8192
@@ -176,7 +180,7 @@ directoryRights = 0x1F
 abbrev pub limits : List ℕ
 limits =
     leastReplyBytes ∷ mostCallBytes ∷ nanosecondsEnd ∷ mostObjects ∷ mostNameRecords ∷ mostBlocks ∷ fileBlocks ∷ unusedBlock
-    ∷ mostFileBytes ∷ spentGeneration ∷ mostMode ∷ mostNameBytes ∷ handleLength ∷ mostHandleBytes ∷ mostCredentialBytes
+    ∷ keptFlag ∷ mostFileBytes ∷ spentGeneration ∷ mostMode ∷ mostNameBytes ∷ handleLength ∷ mostHandleBytes ∷ mostCredentialBytes
     ∷ mostTransferBytes ∷ mostLinks ∷ fileSync ∷ fileSystemProperties ∷ listingCost ∷ entryFixedCost ∷ fileRights ∷ directoryRights ∷ []
 
 -- the answers: done, store fails its check, reply space, clock, call over 8,192 bytes, no complete call header, format

@@ -5,7 +5,7 @@ use Rattle.kinds.specs.Numbers.{FREE, DIRECTORY, fileBlocks, unusedBlock
 use Rattle.kinds.specs.declared.object.Time.{Time}
 use Rattle.kinds.specs.declared.object.Object.{Object}
 
--- of a kind and a mode: ids 0, no blocks, all times from one clock
+-- of a kind and a mode: ids 0, no blocks, no verifier, all times from one clock
 abbrev pub plainObject : ℕ → ℕ → Time → Object
 plainObject kind mode clock =
     record {
@@ -19,6 +19,8 @@ plainObject kind mode clock =
       mtime = clock;
       ctime = clock;
       blocks = replicate fileBlocks unusedBlock;
+      verifier = 0;
+      exclusive = 0;
     }
 
 -- "Format gives a root of mode 493, ids 0, times from the clock, every generation 0"; "a directory's size 0 with no blocks"
@@ -43,4 +45,6 @@ freeObject generation =
       mtime = noTime;
       ctime = noTime;
       blocks = replicate fileBlocks 0;
+      verifier = 0;
+      exclusive = 0;
     }

@@ -17,7 +17,7 @@ impl Image {
     pub const BLOCKS_HEAD: usize = 20;
 
     // The numbers of this file, in their order.
-    pub fn layout() -> [usize; 22]
+    pub fn layout() -> [usize; 25]
         ensures { λ r. ⌜ r ≡ layout ⌝ }
     {
         [
@@ -35,7 +35,10 @@ impl Image {
             ObjectRecord::MTIME,
             ObjectRecord::CTIME,
             ObjectRecord::BLOCKS,
+            ObjectRecord::VERIFIER,
+            ObjectRecord::EXCLUSIVE,
             ObjectRecord::BYTES,
+            ObjectRecord::OLD_BYTES,
             TimeField::NANOSECONDS,
             TimeField::BYTES,
             NameRecord::CHILD,
@@ -69,7 +72,14 @@ impl ObjectRecord {
 
     pub const BLOCKS: usize = 48;
 
-    pub const BYTES: usize = 80;
+    pub const VERIFIER: usize = 80;
+
+    pub const EXCLUSIVE: usize = 88;
+
+    pub const BYTES: usize = 92;
+
+    // The bytes of a record in the layout of document 01, which the converter reads.
+    pub const OLD_BYTES: usize = 80;
 }
 
 // A time: the seconds stand first.

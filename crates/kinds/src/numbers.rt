@@ -272,10 +272,12 @@ impl Limit {
 
     pub const MOST_BLOCKS: usize = 1024;
 
-    // The block numbers of one object, the number of an unused one, and the largest file.
+    // The block numbers of one object, the number of an unused one, the flag of a file that keeps a verifier, and the largest file.
     pub const FILE_BLOCKS: usize = 16;
 
     pub const UNUSED_BLOCK: u16 = 65535;
+
+    pub const KEPT_FLAG: u32 = 1;
 
     pub const MOST_FILE_BYTES: u64 = 8192;
 
@@ -314,7 +316,7 @@ impl Limit {
     pub const DIRECTORY_RIGHTS: u32 = 0x1F;
 
     // The numbers of the constants above, in their order.
-    pub fn numbers() -> [u64; 23]
+    pub fn numbers() -> [u64; 24]
         ensures { λ r. ⌜ r ≡ limits ⌝ }
     {
         [
@@ -326,6 +328,7 @@ impl Limit {
             Limit::MOST_BLOCKS as u64,
             Limit::FILE_BLOCKS as u64,
             Limit::UNUSED_BLOCK as u64,
+            Limit::KEPT_FLAG as u64,
             Limit::MOST_FILE_BYTES,
             Limit::SPENT_GENERATION as u64,
             Limit::MOST_MODE as u64,

@@ -9,7 +9,8 @@ pub struct Time {
     pub nanoseconds: u32,
 }
 
-// An object record of the store.
+// An object record of the store. The verifier is that of the EXCLUSIVE CREATE that made the file, and is kept where the flag `exclusive` is 1; else
+// both are 0.
 pub struct Object {
     pub kind: u32,
     pub generation: u32,
@@ -21,6 +22,8 @@ pub struct Object {
     pub mtime: Time,
     pub ctime: Time,
     pub blocks: [u16; 16],
+    pub verifier: u64,
+    pub exclusive: u32,
 }
 
 impl Object {
@@ -39,6 +42,8 @@ impl Object {
             mtime: clock,
             ctime: clock,
             blocks: [Limit::UNUSED_BLOCK; 16],
+            verifier: 0,
+            exclusive: 0,
         }
     }
 }

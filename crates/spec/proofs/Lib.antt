@@ -1,3 +1,5 @@
+pub mod Conversion
 pub mod Edges
+pub mod Exclusive
 pub mod Setting
 pub mod Starred

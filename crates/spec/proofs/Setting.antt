@@ -5,22 +5,23 @@ use mathlib.Core.List.{List, [], _∷_, _++_}
 use Rattle.kinds.specs.declared.object.Context.{Context}
 use Rattle.spec.specs.Arguments.{handle, unbounded, nameIn, time, setNumber, setSize, setTime, settable, guard, how, form, arguments}
 use Rattle.spec.specs.Bytes.{part, overlay, zeros, digits, beOf, bytesOf, beAt, words, opaqueBytes, sameBytes, allBytes}
-use Rattle.spec.specs.Check.{isZero, goodCounts, goodShape, goodTime, goodBlock, goodSize, goodLive, goodFree, goodObject, goodRoot, goodUsed}
-use Rattle.spec.specs.Check.{goodNameRecord, isDistinct, isNamedOnce, isUsedOnce, leadsToRoot, passes}
+use Rattle.spec.specs.Check.{isZero, goodCounts, goodShape, goodTime, goodBlock, goodSize, goodVerifier, goodLive, goodFree, goodObject, goodRoot}
+use Rattle.spec.specs.Check.{goodUsed, goodNameRecord, isDistinct, isNamedOnce, isUsedOnce, leadsToRoot, recordsPass, passes}
+use Rattle.spec.specs.Convert.{oldNames, oldBlocks, oldShape, lengthened, converted, goodOld}
 use Rattle.spec.specs.Count.{sum, count, every, some-below, passing, lowest, times, iterate}
-use Rattle.spec.specs.Edits.{withAttributes, setAttributes, clearBlocks, clearTail, blockNumbers, withSize, resize, withGeneration}
-use Rattle.spec.specs.Edits.{createObject, removeObject, moveName, writeThrough, readThrough, writeFile, readFile}
+use Rattle.spec.specs.Edits.{withAttributes, setAttributes, withVerifier, forgetVerifier, clearBlocks, clearTail, blockNumbers, withSize, resize}
+use Rattle.spec.specs.Edits.{withGeneration, createObject, removeObject, moveName, writeThrough, readThrough, writeFile, readFile}
 use Rattle.spec.specs.Handles.{handleOf, reach, reachDirectory, checkName, sizeAttribute, usedBytes, linkCount, attributes, before, change, handleChange}
 use Rattle.spec.specs.Header.{credential, callHeader, header}
 use Rattle.spec.specs.Image.{Store, volumes, stamp, objects, names, blocks, halvesAt, halvesBytes, timeAt, timeBytes, objectFrom, headBytes}
-use Rattle.spec.specs.Image.{timesBytes, objectBytes, objectAt, putObject, nameFrom, nameBytes, nameAt, nameLength, putName}
+use Rattle.spec.specs.Image.{timesBytes, verifierBytes, objectBytes, objectAt, putObject, nameFrom, nameBytes, nameAt, nameLength, putName}
 use Rattle.spec.specs.Names.{isDot, isDotDot, goodByte, goodBytes, goodName}
 use Rattle.spec.specs.Procedures.{act}
 use Rattle.spec.specs.Procedures.Attributes.{badAttributes, lacksRoom, sizeTouches, getattr, checkSetattr, setattrEdit, setattr, grantedBits, access}
 use Rattle.spec.specs.Procedures.Data.{reachRegular, readLength, readResult, read, checkWrite, writeEdit, writeStore, writeDone, write, commit}
 use Rattle.spec.specs.Procedures.Listing.{entryOf, dotEntries, entries, entriesAbove, fitting, checkListing, checkReaddirIn, checkReaddir, readdir}
-use Rattle.spec.specs.Procedures.Names.{lookIn, checkIn, checkLookup, lookup, roomForNew, newObject, newEdit, checkExisting, checkNew, checkAttributed}
-use Rattle.spec.specs.Procedures.Names.{checkCreate, create, checkMkdir, mkdir}
+use Rattle.spec.specs.Procedures.Names.{lookIn, checkIn, checkLookup, lookup, roomForNew, newObject, newEdit, isMadeBy, checkExisting, checkNew}
+use Rattle.spec.specs.Procedures.Names.{checkHow, checkCreate, create, checkMkdir, mkdir}
 use Rattle.spec.specs.Procedures.Removal.{checkEntry, checkRemove, hasEntries, checkRmdir, removeFrom, remove, rmdir, isWithin, checkMove}
 use Rattle.spec.specs.Procedures.Removal.{checkRename, renameEdit, failRenaming, rename}
 use Rattle.spec.specs.Procedures.Volume.{fsstat, fsinfo, pathconf}
@@ -30,7 +31,7 @@ use Rattle.spec.specs.Room.{isLive, isRegular, isDirectory, sizeOf, held
 use Rattle.spec.specs.Room.{availableCount, availableObject, isUsedName, availableName, freeNameCount, isNaming, namings, isIn, isNamed}
 use Rattle.spec.specs.Room.{findName, subdirectories, parent, above, byteAt}
 use Rattle.spec.specs.Rpc.{denied, accepted, judge, mismatch}
-use Rattle.spec.specs.Serve.{Outcome, serve, check, formatted, format}
+use Rattle.spec.specs.Serve.{Outcome, serve, check, formatted, format, convert}
 use Rattle.spec.specs.Xdr.{number, word, long, choice, flag, bytes, pad, opaque, end}
 
 -- a clock, a verifier and a reply space of 4,224 bytes whose bytes are not zero
@@ -42,7 +43,7 @@ space = replicate 4224 165
 
 -- a store of stamp 9, formatted with counts p, q, r
 abbrev pub fresh : ℕ → ℕ → ℕ → Store
-fresh p q r = format (zeros (20 + 80 * p + 44 * q + 512 * r)) 9 p q r (context .clock) .store
+fresh p q r = format (zeros (20 + 92 * p + 44 * q + 512 * r)) 9 p q r (context .clock) .store
 
 -- a call of procedure p with xid 7, credential and verifier of flavor 0 and length 0
 abbrev pub callTo : ℕ → List ℕ → List ℕ
@@ -177,20 +178,28 @@ threeDirectories = after (mkdirIn 2 nameC ∷ []) twoDirectories
 abbrev pub later : Context
 later = record { clock = record { seconds = 7; nanoseconds = 8 }; verifier = 8 }
 
+-- EXCLUSIVE CREATE of a name in the root with a verifier of two words, and what a record of the store holds after a call: four bytes at an index
+abbrev pub exclusiveCall : List ℕ → ℕ → ℕ → List ℕ
+exclusiveCall name high low = createBy name (2 ∷ high ∷ low ∷ [])
+
+abbrev pub wordAfter : List ℕ → Store → ℕ → ℕ
+wordAfter call s at = beAt (served call s .store) at 4
+
 -- what computing an entry unfolds: naming `computing` on an `unfolding` line unfolds all of these
 unfoldable pub computing : ℕ
 unfolding handle unbounded nameIn time setNumber setSize setTime settable guard how form arguments part overlay digits beOf bytesOf beAt words
-    opaqueBytes sameBytes allBytes isZero goodCounts goodShape goodTime goodBlock goodSize goodLive goodFree goodObject goodRoot goodUsed
-    goodNameRecord isDistinct isNamedOnce isUsedOnce leadsToRoot passes sum every some-below passing lowest times iterate withAttributes
-    setAttributes clearBlocks clearTail blockNumbers withSize resize withGeneration createObject removeObject moveName writeThrough readThrough
-    writeFile readFile handleOf reach reachDirectory checkName sizeAttribute usedBytes linkCount attributes before change handleChange credential
-    callHeader header volumes stamp objects names blocks halvesAt halvesBytes timeAt timeBytes objectFrom headBytes timesBytes objectBytes objectAt
-    putObject nameFrom nameBytes nameAt nameLength putName isDot isDotDot goodByte goodBytes goodName act badAttributes lacksRoom sizeTouches
-    getattr checkSetattr setattrEdit setattr grantedBits access reachRegular readLength readResult read checkWrite writeEdit writeStore writeDone
-    write commit entryOf dotEntries entries entriesAbove fitting checkListing checkReaddirIn checkReaddir readdir lookIn checkIn checkLookup lookup
-    roomForNew newObject newEdit checkExisting checkNew checkAttributed checkCreate create checkMkdir mkdir checkEntry checkRemove hasEntries
-    checkRmdir removeFrom remove rmdir isWithin checkMove checkRename renameEdit failRenaming rename fsstat fsinfo pathconf fattr3 postOp preOp
-    wccData entryBytes entriesBytes resultBytes failShowing failChanging isLive isRegular isDirectory sizeOf held uses isFreeBlock freeBlocks
-    freeBlockCount isAvailable availableCount availableObject isUsedName availableName freeNameCount isNaming namings isIn isNamed findName
-    subdirectories parent above byteAt denied accepted judge mismatch serve check formatted format number word long choice flag bytes pad opaque end
+    opaqueBytes sameBytes allBytes isZero goodCounts goodShape goodTime goodBlock goodSize goodVerifier goodLive goodFree goodObject goodRoot goodUsed
+    goodNameRecord isDistinct isNamedOnce isUsedOnce leadsToRoot recordsPass passes oldNames oldBlocks oldShape lengthened converted goodOld sum every
+    some-below passing lowest times iterate withAttributes setAttributes withVerifier forgetVerifier clearBlocks clearTail blockNumbers withSize
+    resize withGeneration createObject removeObject moveName writeThrough readThrough writeFile readFile handleOf reach reachDirectory checkName
+    sizeAttribute usedBytes linkCount attributes before change handleChange credential callHeader header volumes stamp objects names blocks halvesAt
+    halvesBytes timeAt timeBytes objectFrom headBytes timesBytes verifierBytes objectBytes objectAt putObject nameFrom nameBytes nameAt nameLength
+    putName isDot isDotDot goodByte goodBytes goodName act badAttributes lacksRoom sizeTouches getattr checkSetattr setattrEdit setattr grantedBits
+    access reachRegular readLength readResult read checkWrite writeEdit writeStore writeDone write commit entryOf dotEntries entries entriesAbove
+    fitting checkListing checkReaddirIn checkReaddir readdir lookIn checkIn checkLookup lookup roomForNew newObject newEdit isMadeBy checkExisting
+    checkNew checkHow checkCreate create checkMkdir mkdir checkEntry checkRemove hasEntries checkRmdir removeFrom remove rmdir isWithin checkMove
+    checkRename renameEdit failRenaming rename fsstat fsinfo pathconf fattr3 postOp preOp wccData entryBytes entriesBytes resultBytes failShowing
+    failChanging isLive isRegular isDirectory sizeOf held uses isFreeBlock freeBlocks freeBlockCount isAvailable availableCount availableObject
+    isUsedName availableName freeNameCount isNaming namings isIn isNamed findName subdirectories parent above byteAt denied accepted judge mismatch
+    serve check formatted format convert number word long choice flag bytes pad opaque end
 computing = 0

@@ -23,8 +23,8 @@ pub record Starred : Type 0 where
   pub lookup-length : served (lookupCall nameA) withA .length ≡ 220
   pub create-length : served (createCall nameA) (fresh 2 1 16) .length ≡ 252
   pub write-length : served (writeCall 1 0 nameA) withA .length ≡ 160
-  -- "P=1, Q=0, R=0: 100 bytes; MKDIR gives NOSPC."
-  pub smallest : length rootAlone ≡ 100
+  -- "P=1, Q=0, R=0: 100 bytes; MKDIR gives NOSPC."; "01's 100 bytes: 112"
+  pub smallest : length rootAlone ≡ 112
   pub smallest-passes : check rootAlone ≡ 0
   pub smallest-full : statusSent (served (mkdirCall nameA) rootAlone) ≡ 28
   pub smallest-kept : served (mkdirCall nameA) rootAlone .store ≡ rootAlone
@@ -39,7 +39,7 @@ pub record Starred : Type 0 where
   pub empty : served (readdirCall 2 104) rootAlone ≡ replied (answered (0 ∷ 1 ∷ rootWords ++ (0 ∷ 0 ∷ 0 ∷ 1 ∷ []))) rootAlone
   -- "WRITE of 1 byte at 8,191 fits; at 8,192 FBIG; 0 bytes there succeeds."
   pub last-byte : statusSent (served (writeCall 1 8191 nameA) withA) ≡ 0
-  pub last-byte-stored : getD (served (writeCall 1 8191 nameA) withA .store) (20 + 160 + 44 + 8191) 0 ≡ 0x61
+  pub last-byte-stored : getD (served (writeCall 1 8191 nameA) withA .store) (20 + 184 + 44 + 8191) 0 ≡ 0x61
   pub past-end : statusSent (served (writeCall 1 8192 nameA) withA) ≡ 27
   pub nothing-there : statusSent (served (writeCall 1 8192 []) withA) ≡ 0
   pub nothing-changed : served (writeCall 1 8192 []) withoutBlocks .store ≡ withoutBlocks

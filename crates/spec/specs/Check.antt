@@ -5,8 +5,8 @@ use mathlib.Core.Bool.{Bool, _&&_, _||_, not, cond}
 use lib.Dec.{eqb, leb, ltb}
 use lib.ListN.{length, getD}
 use Rattle.kinds.specs.Layout.{blocksHead, modeOffset, objectLength, textOffset, nameRecordLength, blockLength}
-use Rattle.kinds.specs.Numbers.{REGULAR, DIRECTORY, nanosecondsEnd, mostObjects, mostNameRecords, mostBlocks, fileBlocks, unusedBlock, mostFileBytes}
-use Rattle.kinds.specs.Numbers.{spentGeneration, mostMode, mostNameBytes}
+use Rattle.kinds.specs.Numbers.{REGULAR, DIRECTORY, nanosecondsEnd, mostObjects, mostNameRecords, mostBlocks, fileBlocks, unusedBlock, keptFlag}
+use Rattle.kinds.specs.Numbers.{mostFileBytes, spentGeneration, mostMode, mostNameBytes}
 use Rattle.kinds.specs.declared.object.Time.{Time}
 use Rattle.kinds.specs.declared.object.Object.{Object}
 use Rattle.spec.specs.Bytes.{part, allBytes}
@@ -22,7 +22,7 @@ isZero bytes = allBytes (λ x. eqb x 0) bytes
 unfoldable pub goodCounts : ℕ → ℕ → ℕ → Bool
 goodCounts p q r = leb 1 p && leb p mostObjects && leb q mostNameRecords && leb r mostBlocks
 
--- "Length exactly 20 + 80P + 44Q + 512R"
+-- "the image [grows] to 20 + 92P + 44Q + 512R"
 abbrev pub imageLength : ℕ → ℕ → ℕ → ℕ
 imageLength p q r = blocksHead + objectLength * p + nameRecordLength * q + blockLength * r
 
@@ -42,11 +42,15 @@ goodBlock r v k = cond (ltb k (need (v .size))) (ltb (getD (v .blocks) k 0) r) (
 unfoldable pub goodSize : Object → Bool
 goodSize v = eqb (v .kind) REGULAR && leb (v .size) mostFileBytes || eqb (v .kind) DIRECTORY && eqb (v .size) 0
 
+-- "a flag word: 1 on a regular file that keeps one, else both zero"
+unfoldable pub goodVerifier : Object → Bool
+goodVerifier v = eqb (v .exclusive) keptFlag && eqb (v .kind) REGULAR || eqb (v .exclusive) 0 && eqb (v .verifier) 0
+
 -- "live generations below 4,294,967,295; modes at most 4,095; valid nanoseconds"
 unfoldable pub goodLive : ℕ → Object → Bool
 goodLive r v =
     ltb (v .generation) spentGeneration && leb (v .mode) mostMode && goodTime (v .atime) && goodTime (v .mtime) && goodTime (v .ctime)
-    && goodSize v && every fileBlocks (goodBlock r v)
+    && goodSize v && goodVerifier v && every fileBlocks (goodBlock r v)
 
 -- "a free object zero but for its generation"
 unfoldable pub goodFree : Store → ℕ → Bool
@@ -93,8 +97,12 @@ isUsedOnce s r = leb (uses s r) 1
 unfoldable pub leadsToRoot : Store → ℕ → Bool
 leadsToRoot s o = not (isLive s o) || eqb (above s (objects s) o) 0
 
--- the store check; "Block contents aren't checked."
+-- the demands on the records; "Block contents aren't checked."
+unfoldable pub recordsPass : Store → Bool
+recordsPass s =
+    goodRoot s && every (objects s) (goodObject s) && every (names s) (goodNameRecord s) && every (names s) (isDistinct s)
+    && every (objects s) (isNamedOnce s) && every (blocks s) (isUsedOnce s) && every (objects s) (leadsToRoot s)
+
+-- the store check
 unfoldable pub passes : Store → Bool
-passes s =
-    goodShape s && (goodRoot s && every (objects s) (goodObject s) && every (names s) (goodNameRecord s) && every (names s) (isDistinct s)
-    && every (objects s) (isNamedOnce s) && every (blocks s) (isUsedOnce s) && every (objects s) (leadsToRoot s))
+passes s = goodShape s && recordsPass s

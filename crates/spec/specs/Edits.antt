@@ -45,6 +45,8 @@ withAttributes clock a v =
       mtime = timeSet clock (a .mtime) (v .mtime);
       ctime = clock;
       blocks = v .blocks;
+      verifier = v .verifier;
+      exclusive = v .exclusive;
     }
 
 -- FIRST EDIT: an object's attributes and times
@@ -59,6 +61,28 @@ onlyCtime =
 abbrev pub mtimeAndCtime : Settable
 mtimeAndCtime =
     record { mode = SetNumber.Keep; uid = SetNumber.Keep; gid = SetNumber.Keep; size = SetSize.Keep; atime = SetTime.Keep; mtime = SetTime.ToServer }
+
+-- an object with another verifier and flag
+unfoldable pub withVerifier : ℕ → ℕ → Object → Object
+withVerifier verifier flag v =
+    record {
+      kind = v .kind;
+      generation = v .generation;
+      mode = v .mode;
+      uid = v .uid;
+      gid = v .gid;
+      size = v .size;
+      atime = v .atime;
+      mtime = v .mtime;
+      ctime = v .ctime;
+      blocks = v .blocks;
+      verifier = verifier;
+      exclusive = flag;
+    }
+
+-- SECOND EDIT: "A successful SETATTR forgets the verifier."
+unfoldable pub forgetVerifier : Store → ℕ → Store
+forgetVerifier s o = putObject s o (withVerifier 0 0 (objectAt s o))
 
 -- whole blocks zeroed
 unfoldable pub clearBlocks : Store → List ℕ → Store
@@ -89,9 +113,11 @@ withSize size numbers v =
       mtime = v .mtime;
       ctime = v .ctime;
       blocks = numbers;
+      verifier = v .verifier;
+      exclusive = v .exclusive;
     }
 
--- SECOND EDIT: a file's size. "New blocks, freed blocks and cut tails (new to old end) are zeroed; any growth zeroes each byte from old
+-- THIRD EDIT: a file's size. "New blocks, freed blocks and cut tails (new to old end) are zeroed; any growth zeroes each byte from old
 -- to new end that gets no data. Other block bytes stay."; "The lowest-numbered .. free blocks are taken."
 unfoldable pub resize : Store → ℕ → ℕ → Store
 resize s o size =
@@ -116,20 +142,22 @@ withGeneration generation v =
       mtime = v .mtime;
       ctime = v .ctime;
       blocks = v .blocks;
+      verifier = v .verifier;
+      exclusive = v .exclusive;
     }
 
--- THIRD EDIT: object v in the free record o, named `text` in directory d by the free name record n
+-- FOURTH EDIT: object v in the free record o, named `text` in directory d by the free name record n
 unfoldable pub createObject : Store → ℕ → ℕ → Object → ℕ → List ℕ → Store
 createObject s o n v d text =
     putName (putObject s o (withGeneration (objectAt s o .generation) v)) n (record { directory = d; child = o; text = text })
 
--- FOURTH EDIT: the object that name record n names, its blocks and the name record are free. "Freeing an object raises its generation by one"
+-- FIFTH EDIT: the object that name record n names, its blocks and the name record are free. "Freeing an object raises its generation by one"
 unfoldable pub removeObject : Store → ℕ → Store
 removeObject s n =
     let o = nameAt s n .child in
     putName (putObject (clearBlocks s (held s o)) o (freeObject (objectAt s o .generation + 1))) n freeName
 
--- FIFTH EDIT: "The name record is rewritten in place"
+-- SIXTH EDIT: "The name record is rewritten in place"
 unfoldable pub moveName : Store → ℕ → ℕ → List ℕ → Store
 moveName s n d text = putName s n (record { directory = d; child = nameAt s n .child; text = text })
 

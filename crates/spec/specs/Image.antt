@@ -4,8 +4,8 @@ use mathlib.Core.List.{List, [], _∷_, _++_}
 use lib.ListN.{length, getD}
 use Rattle.kinds.specs.Numbers.{fileBlocks, mostNameBytes}
 use Rattle.kinds.specs.Layout.{stampOffset, objectCountOffset, objectsHead, namesHead, blocksHead, generationOffset, modeOffset, uidOffset, gidOffset}
-use Rattle.kinds.specs.Layout.{sizeOffset, atimeOffset, mtimeOffset, ctimeOffset, blocksOffset, objectLength, nanosecondsOffset, childOffset}
-use Rattle.kinds.specs.Layout.{lengthOffset, textOffset, nameRecordLength, blockLength}
+use Rattle.kinds.specs.Layout.{sizeOffset, atimeOffset, mtimeOffset, ctimeOffset, blocksOffset, verifierOffset, exclusiveOffset, objectLength}
+use Rattle.kinds.specs.Layout.{nanosecondsOffset, childOffset, lengthOffset, textOffset, nameRecordLength, blockLength}
 use Rattle.kinds.specs.declared.object.Time.{Time}
 use Rattle.kinds.specs.declared.object.Object.{Object}
 use Rattle.spec.specs.Bytes.{part, overlay, zeros, beAt, bytesOf}
@@ -57,7 +57,7 @@ timeAt b at = record { seconds = beAt b at 4; nanoseconds = beAt b (at + nanosec
 unfoldable pub timeBytes : Time → List ℕ
 timeBytes t = bytesOf 4 (t .seconds) ++ bytesOf 4 (t .nanoseconds)
 
--- "type, generation, mode, uid, gid, size (4 each); atime, mtime, ctime (8 each); 16 two-byte block numbers"
+-- "type, generation, mode, uid, gid, size (4 each); atime, mtime, ctime (8 each); 16 two-byte block numbers"; "(verifier, then a flag word ..)"
 unfoldable pub objectFrom : List ℕ → ℕ → Object
 objectFrom b at =
     record {
@@ -71,9 +71,11 @@ objectFrom b at =
       mtime = timeAt b (at + mtimeOffset);
       ctime = timeAt b (at + ctimeOffset);
       blocks = halvesAt b (at + blocksOffset) fileBlocks;
+      verifier = beAt b (at + verifierOffset) 8;
+      exclusive = beAt b (at + exclusiveOffset) 4;
     }
 
--- the numbers, the times and then the blocks of an object
+-- the numbers, the times, the blocks and then the verifier of an object
 unfoldable pub headBytes : Object → List ℕ
 headBytes v =
     bytesOf 4 (v .kind) ++ bytesOf 4 (v .generation) ++ bytesOf 4 (v .mode) ++ bytesOf 4 (v .uid) ++ bytesOf 4 (v .gid) ++ bytesOf 4 (v .size)
@@ -81,8 +83,11 @@ headBytes v =
 unfoldable pub timesBytes : Object → List ℕ
 timesBytes v = timeBytes (v .atime) ++ timeBytes (v .mtime) ++ timeBytes (v .ctime)
 
+unfoldable pub verifierBytes : Object → List ℕ
+verifierBytes v = bytesOf 8 (v .verifier) ++ bytesOf 4 (v .exclusive)
+
 unfoldable pub objectBytes : Object → List ℕ
-objectBytes v = headBytes v ++ timesBytes v ++ halvesBytes fileBlocks (v .blocks)
+objectBytes v = headBytes v ++ timesBytes v ++ halvesBytes fileBlocks (v .blocks) ++ verifierBytes v
 
 unfoldable pub objectAt : Store → ℕ → Object
 objectAt s o = objectFrom s (objectStart o)

@@ -1,4 +1,4 @@
--- From bytes up to the three entries; each file names what it stands on.
+-- From bytes up to the four entries; each file names what it stands on.
 pub mod Bytes
 pub mod Count
 pub mod Xdr
@@ -8,6 +8,7 @@ pub mod Room
 pub mod Checked
 pub mod Names
 pub mod Check
+pub mod Convert
 pub mod Handles
 pub mod Edits
 pub mod Results

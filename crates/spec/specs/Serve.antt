@@ -1,4 +1,4 @@
--- The three entries: for any bytes, what each answers and what it leaves in the lent buffers.
+-- The four entries: for any bytes, what each answers and what it leaves in the lent buffers.
 use Prim.Native.Nat.{ℕ, _*_, _-_}
 use mathlib.Core.List.{List, [], _∷_, _++_}
 use mathlib.Core.Bool.{not, cond}
@@ -15,8 +15,9 @@ use Rattle.kinds.specs.declared.call.Header.{Header}
 use Rattle.kinds.specs.declared.call.Header.the-variants as Header
 use Rattle.kinds.specs.declared.call.Arguments.{Arguments}
 use Rattle.spec.specs.Bytes.{overlay, zeros, words}
-use Rattle.spec.specs.Image.{Store, objectBytes}
+use Rattle.spec.specs.Image.{Store, objects, objectBytes}
 use Rattle.spec.specs.Check.{goodCounts, imageLength, goodTime, passes}
+use Rattle.spec.specs.Convert.{oldNames, oldBlocks, converted, goodOld}
 use Rattle.spec.specs.Arguments.{arguments}
 use Rattle.spec.specs.Procedures.{act}
 use Rattle.spec.specs.Results.{Done}
@@ -91,18 +92,24 @@ formatted stamp p q r clock =
     ++ words (q ∷ []) ++ zeros (nameRecordLength * q)
     ++ words (r ∷ []) ++ zeros (blockLength * r)
 
--- format's answer and the buffer after it
-pub record Formatted : Type 0 where
+-- the answer of an entry that writes a whole store, and the buffer after it
+pub record Written : Type 0 where
   pub number : ℕ
   pub store : Store
 
-abbrev pub formattedIf : Store → Store → Checked (Unit {0}) → Formatted
-formattedIf s t (refused number) = record { number = number; store = s }
-formattedIf s t (passed _) = record { number = 0; store = t }
+abbrev pub writtenIf : Store → Store → Checked (Unit {0}) → Written
+writtenIf s t (refused number) = record { number = number; store = s }
+writtenIf s t (passed _) = record { number = 0; store = t }
 
 -- the format entry: "answers 3, 6 or 0"; "6 | format: a count out of range, or buffer not of exactly that length | after 3"
-unfoldable pub format : Store → ℕ → ℕ → ℕ → ℕ → Time → Formatted
-format s stamp p q r clock = formattedIf s (formatted stamp p q r clock) (do
+unfoldable pub format : Store → ℕ → ℕ → ℕ → ℕ → Time → Written
+format s stamp p q r clock = writtenIf s (formatted stamp p q r clock) (do
   refuseIf (not (goodTime clock)) 3
   refuseIf (not (goodCounts p q r)) 6
   refuseIf (not (eqb (length s) (imageLength p q r))) 6)
+
+-- the converter: "it answers 1 for a bad old image, then 6 for a target not of exactly the new length, target untouched"
+unfoldable pub convert : List ℕ → Store → Written
+convert old s = writtenIf s (converted old) (do
+  refuseIf (not (goodOld old)) 1
+  refuseIf (not (eqb (length s) (imageLength (objects old) (oldNames old) (oldBlocks old)))) 6)

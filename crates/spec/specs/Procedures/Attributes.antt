@@ -17,7 +17,7 @@ use Rattle.kinds.specs.declared.call.Settable.{Settable}
 use Rattle.kinds.specs.declared.call.Guard.{Guard}
 use Rattle.kinds.specs.declared.call.Guard.the-variants as Guard
 use Rattle.spec.specs.Checked.{Checked, _>>=_, _>>_, refuseIf, passed}
-use Rattle.spec.specs.Edits.{setAttributes, resize}
+use Rattle.spec.specs.Edits.{setAttributes, forgetVerifier, resize}
 use Rattle.spec.specs.Handles.{reach, attributes, change}
 use Rattle.spec.specs.Image.{Store, objectAt}
 use Rattle.spec.specs.Results.{Done, unchanged, failShowing, failChanging, settle, dead, changed, gotAttributes, granted}
@@ -91,9 +91,9 @@ checkSetattr s h a g = do
   refuseIf (lacksRoom s (sizeOf s o) (sizeSet (a .size) (sizeOf s o))) NOSPC
   passed o
 
--- "Success sets ctime; a size sets mtime unless mtime is given."
+-- "Success sets ctime; a size sets mtime unless mtime is given."; "A successful SETATTR forgets the verifier."
 unfoldable pub setattrEdit : Store → Context → ℕ → Settable → Store
-setattrEdit s c o a = setAttributes (resizeTo s o (a .size)) (c .clock) o (sizeTouches a)
+setattrEdit s c o a = forgetVerifier (setAttributes (resizeTo s o (a .size)) (c .clock) o (sizeTouches a)) o
 
 -- what an edit of the handle's own object gives: its change
 abbrev pub edited : Store → ℕ → Store → Done

@@ -1,9 +1,10 @@
 -- LOOKUP, CREATE and MKDIR.
 use Prim.Native.Nat.{ℕ}
+use lib.Dec.{eqb}
 use mathlib.Core.Bool.{Bool, true, false, _&&_, _||_, not, cond}
 use mathlib.Core.List.{List}
 use mathlib.Core.Option.{Option, some, none}
-use Rattle.kinds.specs.Numbers.{NOENT, EXIST, INVAL, NOSPC, NOTSUPP, REGULAR, DIRECTORY}
+use Rattle.kinds.specs.Numbers.{NOENT, EXIST, INVAL, NOSPC, REGULAR, DIRECTORY, keptFlag}
 use Rattle.kinds.specs.Objects.{plainObject}
 use Rattle.kinds.specs.declared.object.Time.{Time}
 use Rattle.kinds.specs.declared.object.Object.{Object}
@@ -14,9 +15,9 @@ use Rattle.kinds.specs.declared.call.Settable.{Settable}
 use Rattle.kinds.specs.declared.call.How.{How}
 use Rattle.kinds.specs.declared.call.How.the-variants as How
 use Rattle.spec.specs.Checked.{Checked, _>>=_, _>>_, refuseIf, present, absent, refused, passed}
-use Rattle.spec.specs.Edits.{withAttributes, setAttributes, onlyCtime, mtimeAndCtime, resize, createObject}
+use Rattle.spec.specs.Edits.{withAttributes, setAttributes, onlyCtime, mtimeAndCtime, withVerifier, resize, createObject}
 use Rattle.spec.specs.Handles.{handleOf, reachDirectory, checkName, attributes, change}
-use Rattle.spec.specs.Image.{Store, nameAt}
+use Rattle.spec.specs.Image.{Store, objectAt, nameAt}
 use Rattle.spec.specs.Names.{isDot, isDotDot, isDots}
 use Rattle.spec.specs.Procedures.Attributes.{isGiven, sizeSet, badAttributes, lacksRoom, resizeTo}
 use Rattle.spec.specs.Results.{Done, unchanged, failShowing, failChanging, settle, found, created}
@@ -63,9 +64,9 @@ newObject clock kind a = withAttributes clock a (plainObject kind 0 clock)
 abbrev pub touchDirectory : Store → Context → ℕ → Store
 touchDirectory s c d = setAttributes s (c .clock) d mtimeAndCtime
 
-unfoldable pub newEdit : Store → Context → ℕ → ℕ → ℕ → ℕ → List ℕ → Settable → Store
-newEdit s c kind o n d text a =
-    touchDirectory (resizeTo (createObject s o n (newObject (c .clock) kind a) d text) o (a .size)) c d
+-- the new object v, of the size that is given, where one is
+unfoldable pub newEdit : Store → Context → Object → SetSize → ℕ → ℕ → ℕ → List ℕ → Store
+newEdit s c v size o n d text = touchDirectory (resizeTo (createObject s o n v d text) o size) c d
 
 -- the object's handle and attributes, and the directory's change
 abbrev pub createdIn : Store → Store → ℕ → ℕ → Done
@@ -80,16 +81,33 @@ abbrev pub isNew : Checked (ℕ × ℕ) → Checked Target
 isNew (refused status) = refused status
 isNew (passed p) = passed (new (p .0) (p .1))
 
--- "UNCHECKED on a regular file obeys the size only (.. NOSPC possible); other existing names EXIST."
-unfoldable pub checkExisting : Store → Bool → Settable → ℕ → Checked Target
-checkExisting s unchecked a o = do
-  refuseIf (not (unchecked && isRegular s o)) EXIST
-  refuseIf (lacksRoom s (sizeOf s o) (sizeSet (a .size) (sizeOf s o))) NOSPC
+-- the attributes that a call gives; EXCLUSIVE: "an absent name is made with unset attributes"
+abbrev pub settableIn : How → Settable
+settableIn (How.Unchecked a) = a
+settableIn (How.Guarded a) = a
+settableIn (How.Exclusive verifier) = onlyCtime
+
+-- file o was made EXCLUSIVE with this verifier, and keeps it
+unfoldable pub isMadeBy : Store → ℕ → ℕ → Bool
+isMadeBy s verifier o = isRegular s o && eqb (objectAt s o .exclusive) keptFlag && eqb (objectAt s o .verifier) verifier
+
+-- the object that has the name is taken: "UNCHECKED on a regular file .. ; other existing names EXIST."; "an existing regular file made that way
+-- with the same verifier is success; else EXIST"
+abbrev pub isTaken : Store → How → ℕ → Bool
+isTaken s (How.Unchecked a) o = isRegular s o
+isTaken s (How.Guarded a) o = false
+isTaken s (How.Exclusive verifier) o = isMadeBy s verifier o
+
+-- "UNCHECKED on a regular file obeys the size only (.. NOSPC possible)"
+unfoldable pub checkExisting : Store → How → ℕ → Checked Target
+checkExisting s manner o = do
+  refuseIf (not (isTaken s manner o)) EXIST
+  refuseIf (lacksRoom s (sizeOf s o) (sizeSet (settableIn manner .size) (sizeOf s o))) NOSPC
   passed (existing o)
 
-abbrev pub targetOf : Store → Bool → Settable → Option ℕ → Checked Target
-targetOf s unchecked a none = isNew (roomForNew s (sizeSet (a .size) 0))
-targetOf s unchecked a (some n) = checkExisting s unchecked a (nameAt s n .child)
+abbrev pub targetOf : Store → How → Option ℕ → Checked Target
+targetOf s manner none = isNew (roomForNew s (sizeSet (settableIn manner .size) 0))
+targetOf s manner (some n) = checkExisting s manner (nameAt s n .child)
 
 -- the checks of a name to be made: ""." or "..", EXIST. INVAL on attributes as SETATTR."
 unfoldable pub checkNew : List ℕ → Bool → Checked (Unit {0})
@@ -98,16 +116,11 @@ checkNew text invalid = do
   refuseIf (isDots text) EXIST
   refuseIf invalid INVAL
 
-unfoldable pub checkAttributed : Store → ℕ → List ℕ → Bool → Settable → Checked Target
-checkAttributed s d text unchecked a = do
-  checkNew text (badAttributes a)
-  targetOf s unchecked a (findName s d text)
-
--- "EXCLUSIVE gives NOTSUPP before name checks."
-abbrev pub checkHow : Store → ℕ → List ℕ → How → Checked Target
-checkHow s d text (How.Unchecked a) = checkAttributed s d text true a
-checkHow s d text (How.Guarded a) = checkAttributed s d text false a
-checkHow s d text (How.Exclusive verifier) = refused NOTSUPP
+-- "EXCLUSIVE now passes the name checks and "." or ".." give EXIST."
+unfoldable pub checkHow : Store → ℕ → List ℕ → How → Checked Target
+checkHow s d text manner = do
+  checkNew text (badAttributes (settableIn manner))
+  targetOf s manner (findName s d text)
 
 -- the directory and the target
 unfoldable pub checkCreate : Store → List ℕ → List ℕ → How → Checked (ℕ × Target)
@@ -116,23 +129,24 @@ checkCreate s h text manner = do
   t ← checkHow s d text manner
   passed (d, t)
 
-abbrev pub settableIn : How → Settable
-settableIn (How.Unchecked a) = a
-settableIn (How.Guarded a) = a
-settableIn (How.Exclusive verifier) = onlyCtime
-
 -- "(one given sets mtime and ctime; ..)"
 abbrev pub existingEdit : Store → Context → ℕ → SetSize → Store
 existingEdit s c o SetSize.Keep = s
 existingEdit s c o (SetSize.To n) = setAttributes (resize s o n) (c .clock) o mtimeAndCtime
 
-abbrev pub createEdit : Store → Context → ℕ → List ℕ → Settable → Target → Done
-createEdit s c d text a (new o n) = createdIn s (newEdit s c REGULAR o n d text a) d o
-createEdit s c d text a (existing o) = createdIn s (existingEdit s c o (a .size)) d o
+-- a new file; EXCLUSIVE: "its 8-byte verifier kept"
+abbrev pub newFile : Time → How → Object
+newFile clock (How.Unchecked a) = newObject clock REGULAR a
+newFile clock (How.Guarded a) = newObject clock REGULAR a
+newFile clock (How.Exclusive verifier) = withVerifier verifier keptFlag (newObject clock REGULAR onlyCtime)
+
+abbrev pub createEdit : Store → Context → ℕ → List ℕ → How → Target → Done
+createEdit s c d text manner (new o n) = createdIn s (newEdit s c (newFile (c .clock) manner) (settableIn manner .size) o n d text) d o
+createEdit s c d text manner (existing o) = createdIn s (existingEdit s c o (settableIn manner .size)) d o
 
 unfoldable pub create : Store → Context → List ℕ → List ℕ → How → Done
 create s c h text manner =
-    settle s (failChanging s h) (checkCreate s h text manner) (λ p. createEdit s c (p .0) text (settableIn manner) (p .1))
+    settle s (failChanging s h) (checkCreate s h text manner) (λ p. createEdit s c (p .0) text manner (p .1))
 
 -- "MKDIR: as GUARDED CREATE; a size given is INVAL.": the directory, the object and the name record
 unfoldable pub checkMkdir : Store → List ℕ → List ℕ → Settable → Checked (ℕ × ℕ × ℕ)
@@ -145,4 +159,5 @@ checkMkdir s h text a = do
 
 unfoldable pub mkdir : Store → Context → List ℕ → List ℕ → Settable → Done
 mkdir s c h text a =
-    settle s (failChanging s h) (checkMkdir s h text a) (λ p. createdIn s (newEdit s c DIRECTORY (p .1) (p .2) (p .0) text a) (p .0) (p .1))
+    settle s (failChanging s h) (checkMkdir s h text a)
+    (λ p. createdIn s (newEdit s c (newObject (c .clock) DIRECTORY a) (a .size) (p .1) (p .2) (p .0) text) (p .0) (p .1))
