@@ -17,17 +17,16 @@ use Rattle.kinds.specs.declared.call.SetSize.the-variants as SetSize
 use Rattle.kinds.specs.declared.call.Settable.{Settable}
 use Rattle.kinds.specs.declared.call.Guard.{Guard}
 use Rattle.kinds.specs.declared.call.How.{How}
-use Rattle.kinds.specs.declared.call.How.the-variants as How
 use Rattle.kinds.specs.declared.call.Arguments.{Arguments}
 use Rattle.kinds.specs.declared.call.Arguments.the-variants as Arguments
 use Rattle.spec.specs.Checked.{Checked, refused, passed}
-use Rattle.spec.specs.Edits.{withAttributes, setAttributes, onlyCtime, mtimeAndCtime, resize, withGeneration, createObject, removeObject, moveName, writeFile}
+use Rattle.spec.specs.Edits.{setAttributes, onlyCtime, mtimeAndCtime, resize, withGeneration, createObject, removeObject, moveName, writeFile}
 use Rattle.spec.specs.Image.{Store, objects, names, blocks, objectAt, nameAt}
 use Rattle.spec.specs.Procedures.{cut, act}
 use Rattle.spec.specs.Procedures.Attributes.{isGiven, sizeSet, sizeTouches, resizeTo, checkSetattr, setattrEdit, edited, setattr}
 use Rattle.spec.specs.Procedures.Data.{grown, checkWrite, writeEdit, writeStore, writeDone, write}
-use Rattle.spec.specs.Procedures.Names.{newObject, touchDirectory, newEdit, createdIn, Target, new, existing, settableIn, existingEdit, createEdit}
-use Rattle.spec.specs.Procedures.Names.{checkCreate, create, checkMkdir, mkdir}
+use Rattle.spec.specs.Procedures.Names.{newObject, touchDirectory, newEdit, createdIn, Target, new, existing, settableIn, existingEdit, newFile}
+use Rattle.spec.specs.Procedures.Names.{createEdit, checkCreate, create, checkMkdir, mkdir}
 use Rattle.spec.specs.Procedures.Removal.{checkRemove, checkRmdir, removeFrom, remove, rmdir, checkRename, renameEdit, failRenaming, renamedTo, rename}
 use Rattle.spec.specs.Results.{Result, Done, failChanging, settle}
 use Rattle.spec.specs.Room.{sizeOf, need, freeBlockCount}
@@ -41,10 +40,11 @@ use Rattle.laws.proofs.Error.{getattr-store, lookup-store, access-store
 use Rattle.laws.proofs.Error.{commit-store}
 use Rattle.laws.proofs.GoodKept.{used-of}
 use Rattle.laws.proofs.GoodRecords.{GoodRecords, StillGood, GoodClock, clock-fits, valid-records, still-refl, still-trans, live-at, free-size}
-use Rattle.laws.proofs.GoodRecords.{used-at, set-attributes-still, resize-still, write-file-still, create-object-still, remove-object-still}
-use Rattle.laws.proofs.GoodRecords.{move-name-still}
+use Rattle.laws.proofs.GoodRecords.{used-at, set-attributes-still, forget-verifier-still, resize-still, write-file-still, create-object-still}
+use Rattle.laws.proofs.GoodRecords.{remove-object-still, move-name-still}
 use Rattle.laws.proofs.Kept.{kept-refl}
 use Rattle.laws.proofs.MoveName.{move-name}
+use Rattle.laws.proofs.NewObject.{FreshObject, new-fresh, file-kind, file-fresh}
 use Rattle.laws.proofs.Passed.{SetattrPassed, setattr-passed, WritePassed, write-passed, NewRoom, CreatePassed, create-passed, mkdir-passed}
 use Rattle.laws.proofs.Passed.{RemovePassed, remove-passed, RmdirPassed, rmdir-passed, RenamePassed, rename-passed, found-record, no-entries}
 use Rattle.laws.proofs.Range.{Below, below-take}
@@ -53,9 +53,8 @@ use Rattle.laws.proofs.RemoveObject.{remove-object}
 use Rattle.laws.proofs.Resize.{resize-size, resize-tree}
 use Rattle.laws.proofs.SameReads.{freeBlockCount-reads}
 use Rattle.laws.proofs.Served.{Ran, serve-ran}
-use Rattle.laws.proofs.SetAttributes.{FitsSettable, Allowed, only-ctime-fits, mtime-and-ctime-fits, only-ctime-allowed}
-use Rattle.laws.proofs.SetAttributes.{mtime-and-ctime-allowed, size-touches-fits, size-touches-allowed, set-attributes-structure, new-fits}
-use Rattle.laws.proofs.SetAttributes.{new-live}
+use Rattle.laws.proofs.SetAttributes.{FitsSettable, only-ctime-fits, mtime-and-ctime-fits, only-ctime-allowed}
+use Rattle.laws.proofs.SetAttributes.{mtime-and-ctime-allowed, size-touches-fits, size-touches-allowed, set-attributes-structure}
 use Rattle.laws.proofs.Structure.{SameTree, kept-structure}
 use Rattle.laws.proofs.Unique.{one-naming}
 use Rattle.laws.proofs.Valid.{LiveObject, GoodName, Live, Used, Valid, live-size}
@@ -67,12 +66,6 @@ regular-of r v l n = ⊎-elim (λ p. p .0) (λ p. absurd (n (p .0))) (l .size)
 size-small : (s : Store) (o : ℕ) → LiveObject (blocks s) (objectAt s o) → sizeOf s o ≤ mostFileBytes
 unfolding sizeOf
 size-small s o v = live-size (blocks s) (objectAt s o) v
-
--- the attributes of every manner of CREATE fit
-pub how-settable : (manner : How) → FitsHow manner → FitsSettable (settableIn manner)
-how-settable (How.Unchecked a) f = f
-how-settable (How.Guarded a) f = f
-how-settable (How.Exclusive verifier) f = only-ctime-fits
 
 -- no size is given
 pub not-given : (x : SetSize) → isGiven x ≡ false → sizeSet x 0 ≡ 0
@@ -147,9 +140,14 @@ module _ (s : Store) (c : Context) (v : Valid s) (b : Below 256 s) (k : GoodCloc
       let r = resize-to s records o (a .size) l
       (λ given. regular-of (blocks s) (objectAt s o) (live-at s records o l live) (p .not-directory given)) (p .allowed .size) (p .room) in
       let t = resizeTo s o (a .size) in
-      still-trans s t (setattrEdit s c o a) (r .0)
-      (set-attributes-still t (r .0 .good) (c .clock) o (sizeTouches a) (below-after s t (r .0) o l) (rw (r .1 .kind o l) live) k
-      (size-touches-fits a f) (size-touches-allowed a (p .allowed)))
+      let m = below-after s t (r .0) o l in
+      let fits = size-touches-fits a f in
+      let still-live : Live t o = rw (r .1 .kind o l) live in
+      let u = setAttributes t (c .clock) o (sizeTouches a) in
+      let q = set-attributes-still t (r .0 .good) (c .clock) o (sizeTouches a) m still-live k fits (size-touches-allowed a (p .allowed)) in
+      let tree = set-attributes-structure t (c .clock) o (sizeTouches a) (r .0 .good .sound) m (clock-fits (c .clock) k) fits .tree in
+      let i = still-trans s t u (r .0) q in
+      still-trans s u (setattrEdit s c o a) i (forget-verifier-still u (q .good) o (below-after s u i o l) (rw (tree .kind o m) still-live))
 
   setattr-good : (h : List ℕ) (a : Settable) (w : Guard) → FitsSettable a → StillGood s (setattr s c h a w .store)
   unfolding setattr
@@ -176,38 +174,35 @@ module _ (s : Store) (c : Context) (v : Valid s) (b : Below 256 s) (k : GoodCloc
       (λ o e. write-store h offset count bytes o w (write-passed s h offset count bytes o e))
 
   -- ---- CREATE and MKDIR
-  new-edit : (kind o n d : ℕ) (text : List ℕ) (a : Settable) → (kind ≡ REGULAR) ⊎ (kind ≡ DIRECTORY) → (isGiven (a .size) ≡ true → kind ≡ REGULAR)
-      → NewRoom s (sizeSet (a .size) 0) o n → d < objects s → objectAt s d .kind ≡ DIRECTORY → GoodName text → Below 256 text → FitsSettable a → Allowed a
-      → StillGood s (newEdit s c kind o n d text a)
-  unfolding newEdit newObject withAttributes withGeneration sizeOf
-  new-edit kind o n d text a either sized room below dir good w f allow =
-      let x = newObject (c .clock) kind a in
+  new-edit : (v : Object) (x : SetSize) (o n d : ℕ) (text : List ℕ) → FreshObject v → (isGiven x ≡ true → v .kind ≡ REGULAR) → sizeSet x 0 ≤ mostFileBytes
+      → NewRoom s (sizeSet x 0) o n → d < objects s → objectAt s d .kind ≡ DIRECTORY → GoodName text → Below 256 text
+      → StillGood s (newEdit s c v x o n d text)
+  unfolding newEdit withGeneration sizeOf
+  new-edit v x o n d text fresh sized small room below dir good w =
       let h = records .sound in
-      let clock = clock-fits (c .clock) k in
-      let word : kind < 4294967296 = ⊎-elim (λ (e : kind ≡ 1). omega arith) (λ (e : kind ≡ 2). omega arith) either in
-      let fits = new-fits (c .clock) kind a clock word f in
-      let live = new-live (blocks s) (c .clock) kind a (k .nanoseconds) allow either in
+      let fits = fresh .fits in
       let l = room .object-below in
-      let t = createObject s o n x d text in
+      let t = createObject s o n v d text in
       let z = h .shaped in
-      let r = create-object-still s records o n x d text l (room .object-free) (room .generation-low) (room .name-below) fits live refl below dir good w in
-      let e = create-object s o n x d text h l (room .name-below) fits (omega arith) (good .short) w in
+      let r = create-object-still s records o n v d text l (room .object-free) (room .generation-low) (room .name-below) fits (fresh .live (blocks s))
+      (fresh .empty) below dir good w in
+      let e = create-object s o n v d text h l (room .name-below) fits (omega arith) (good .short) w in
       let free : freeBlockCount t ≡ freeBlockCount s = freeBlockCount-reads s t (e .shape .blocks)
-      (λ q _. create-object-uses s o n x d text h l (room .name-below) fits (omega arith) (good .short) w
-      (free-size s records o l (room .object-free)) refl q) in
-      let size : objectAt t o .size ≡ 0 = ap (λ (y : Object). y .size) (e .object) in
-      let sizes = resize-to t (r .good) o (a .size) (below-after s t r o l) (λ given. ap (λ (y : Object). y .kind) (e .object) ∙ sized given) (allow .size)
+      (λ q _. create-object-uses s o n v d text h l (room .name-below) fits (omega arith) (good .short) w
+      (free-size s records o l (room .object-free)) (fresh .empty) q) in
+      let size : objectAt t o .size ≡ 0 = ap (λ (y : Object). y .size) (e .object) ∙ fresh .empty in
+      let sizes = resize-to t (r .good) o x (below-after s t r o l) (λ given. ap (λ (y : Object). y .kind) (e .object) ∙ sized given) small
       (rw (size, free) (omega (arith, room .room))) in
-      let u = resizeTo t o (a .size) in
+      let u = resizeTo t o x in
       let m = below-after s t r d below in
       touch-after s u (still-trans s t u r (sizes .0)) c d k below
       (sizes .1 .kind d m ∙ ap (λ (y : Object). y .kind)
       (e .other-objects d below (λ q. omega (arith, room .object-free, ap (λ (i : ℕ). objectAt s i .kind) q)))) dir
 
-  existing-edit : (a : Settable) (o : ℕ) (x : SetSize) → o < objects s → objectAt s o .kind ≡ REGULAR → sizeSet x 0 ≤ mostFileBytes
+  existing-edit : (o : ℕ) (x : SetSize) → o < objects s → objectAt s o .kind ≡ REGULAR → sizeSet x 0 ≤ mostFileBytes
       → need (sizeSet x (sizeOf s o)) - need (sizeOf s o) ≤ freeBlockCount s → StillGood s (existingEdit s c o x)
-  existing-edit a o SetSize.Keep l reg small room = still-refl s records
-  existing-edit a o (SetSize.To n) l reg small room =
+  existing-edit o SetSize.Keep l reg small room = still-refl s records
+  existing-edit o (SetSize.To n) l reg small room =
       let t = resize s o n in
       let r = resize-still s records o n l reg small room in
       let tree = resize-tree s o n (records .sound) l (live-at s records o l (omega arith)) small room in
@@ -216,30 +211,31 @@ module _ (s : Store) (c : Context) (v : Valid s) (b : Below 256 s) (k : GoodCloc
       mtime-and-ctime-allowed)
 
   create-target : (h text : List ℕ) (manner : How) (d : ℕ) (t : Target) → Below 256 text → FitsHow manner → CreatePassed s h text manner d t
-      → StillGood s (createEdit s c d text (settableIn manner) t .store)
+      → StillGood s (createEdit s c d text manner t .store)
   create-target h text manner d (new o n) w f p =
-      new-edit REGULAR o n d text (settableIn manner) (_⊎_.inl refl) (λ _. refl) (p .target .1) (p .reached .below) (p .directory) (p .good) w
-      (how-settable manner f) (p .allowed)
+      new-edit (newFile (c .clock) manner) (settableIn manner .size) o n d text (file-fresh (c .clock) manner k f (p .allowed))
+      (λ _. file-kind (c .clock) manner) (p .allowed .size) (p .target .1) (p .reached .below) (p .directory) (p .good) w
   create-target h text manner d (existing o) w f p =
       let (n, e, i, q) = p .target in
       let r = found-record s d text n e in
       let u = used-at s records n (r .0) (r .1) in
-      existing-edit (settableIn manner) o (settableIn manner .size) (rw i at (u .0)) (q .regular) (p .allowed .size) (q .room)
+      existing-edit o (settableIn manner .size) (rw i at (u .0)) (q .regular) (p .allowed .size) (q .room)
 
   create-good : (h text : List ℕ) (manner : How) → Below 256 text → FitsHow manner → StillGood s (create s c h text manner .store)
   unfolding create
   create-good h text manner w f =
-      settle-good (failChanging s h) (checkCreate s h text manner) (λ p. createEdit s c (p .0) text (settableIn manner) (p .1))
+      settle-good (failChanging s h) (checkCreate s h text manner) (λ p. createEdit s c (p .0) text manner (p .1))
       (λ p e. create-target h text manner (p .0) (p .1) w f (create-passed s h text manner p e))
 
   mkdir-good : (h text : List ℕ) (a : Settable) → Below 256 text → FitsSettable a → StillGood s (mkdir s c h text a .store)
   unfolding mkdir
   mkdir-good h text a w f =
-      settle-good (failChanging s h) (checkMkdir s h text a) (λ p. createdIn s (newEdit s c DIRECTORY (p .1) (p .2) (p .0) text a) (p .0) (p .1))
+      let x = newObject (c .clock) DIRECTORY a in
+      settle-good (failChanging s h) (checkMkdir s h text a) (λ p. createdIn s (newEdit s c x (a .size) (p .1) (p .2) (p .0) text) (p .0) (p .1))
       (λ p e. let q = mkdir-passed s h text a p e in
-      new-edit DIRECTORY (p .1) (p .2) (p .0) text a (_⊎_.inr refl) (λ given. true-false (sym given ∙ q .no-size))
-      (rw (not-given (a .size) (q .no-size)) (q .room))
-      (q .reached .below) (q .directory) (q .good) w f (q .allowed))
+      new-edit x (a .size) (p .1) (p .2) (p .0) text (new-fresh (c .clock) DIRECTORY a k (_⊎_.inr refl) f (q .allowed))
+      (λ given. true-false (sym given ∙ q .no-size)) (q .allowed .size) (rw (not-given (a .size) (q .no-size)) (q .room))
+      (q .reached .below) (q .directory) (q .good) w)
 
   -- ---- REMOVE and RMDIR
   -- the edit, where no other name stands in the object, and the directory is not the object

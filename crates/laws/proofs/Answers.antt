@@ -17,7 +17,7 @@ use Rattle.spec.proofs.Setting.{renameCall, nameB, answerTo, nameC, threeDirect
 
 -- a store whose one record beside the root is free, of generation 4,294,967,295
 abbrev pub spent : Store
-spent = after [] (take (12 + 80 + 4) (fresh 2 1 0) ++ (255 ∷ 255 ∷ 255 ∷ 255 ∷ []) ++ drop (12 + 80 + 8) (fresh 2 1 0))
+spent = after [] (take (12 + 92 + 4) (fresh 2 1 0) ++ (255 ∷ 255 ∷ 255 ∷ 255 ∷ []) ++ drop (12 + 92 + 8) (fresh 2 1 0))
 
 -- the words of settable attributes that set a size alone
 abbrev pub sizeOnly : ℕ → List ℕ

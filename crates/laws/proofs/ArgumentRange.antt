@@ -57,6 +57,12 @@ word-fits call b at n next e =
     only-if-got (leb (at + 4) (length call)) at (got (beAt call at 4) (at + 4)) n next e
     (λ _ u. subst (λ (m : ℕ). m < 2 ^ 32) (same-got (beAt call at 4) n (at + 4) next u) (be-below call at 4 b))
 
+long-fits : Gives (λ (n : ℕ). n < 2 ^ 64) long
+unfolding long number
+long-fits call b at n next e =
+    only-if-got (leb (at + 8) (length call)) at (got (beAt call at 8) (at + 8)) n next e
+    (λ _ u. subst (λ (m : ℕ). m < 2 ^ 64) (same-got (beAt call at 8) n (at + 8) next u) (be-below call at 8 b))
+
 time-fits : Gives FitsTime time
 unfolding time
 time-fits =
@@ -108,7 +114,7 @@ settable-fits call b at x next e =
 abbrev pub FitsHow : How → Type 0
 FitsHow (How.Unchecked a) = FitsSettable a
 FitsHow (How.Guarded a) = FitsSettable a
-FitsHow (How.Exclusive verifier) = Unit {0}
+FitsHow (How.Exclusive verifier) = verifier < 2 ^ 64
 
 manner-fits : (b : Bool) (a : Settable) → FitsSettable a → FitsHow (cond b (How.Unchecked a) (How.Guarded a))
 manner-fits true a f = f
@@ -121,8 +127,8 @@ how-fits =
     let exclusive : Reader How = long >>= (λ verifier. done (How.Exclusive verifier)) in
     gives-then (λ (n : ℕ). Unit {0}) FitsHow (choice 2) (λ mode. cond (eqb mode 2) exclusive (attributed mode)) (gives-any (choice 2)) (λ mode _.
     gives-cond FitsHow (eqb mode 2) exclusive (attributed mode)
-    (gives-then (λ (n : ℕ). Unit {0}) FitsHow long (λ verifier. done (How.Exclusive verifier)) (gives-any long)
-    (λ v _. gives-done FitsHow (How.Exclusive v) tt))
+    (gives-then (λ (n : ℕ). n < 2 ^ 64) FitsHow long (λ verifier. done (How.Exclusive verifier)) long-fits
+    (λ v f. gives-done FitsHow (How.Exclusive v) f))
     (gives-then FitsSettable FitsHow settable (λ a. done (cond (eqb mode 0) (How.Unchecked a) (How.Guarded a))) settable-fits (λ a f.
     gives-done FitsHow (cond (eqb mode 0) (How.Unchecked a) (How.Guarded a)) (manner-fits (eqb mode 0) a f))))
 

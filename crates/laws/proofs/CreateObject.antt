@@ -1,4 +1,4 @@
--- The third edit: an object in a free record, named by a free name record. Assumes nothing.
+-- The fourth edit: an object in a free record, named by a free name record. Assumes nothing.
 use mathlib.Core.Path.{_≡_, ap, _∙_}
 use mathlib.Core.Logic.{by-cases, _⊎_}
 use mathlib.Core.List.{List, []}
@@ -40,12 +40,24 @@ generation-fits g v h f =
       ctime = f .ctime;
       long = f .long;
       halves = f .halves;
+      verifier = f .verifier;
+      exclusive = f .exclusive;
     }
 
 pub generation-live : (r g : ℕ) (v : Object) → g < spentGeneration → LiveObject r v → LiveObject r (withGeneration g v)
 unfolding withGeneration
 generation-live r g v h f =
-    record { generation = h; mode = f .mode; atime = f .atime; mtime = f .mtime; ctime = f .ctime; size = f .size; held = f .held; rest = f .rest }
+    record {
+      generation = h;
+      mode = f .mode;
+      atime = f .atime;
+      mtime = f .mtime;
+      ctime = f .ctime;
+      size = f .size;
+      verifier = f .verifier;
+      held = f .held;
+      rest = f .rest;
+    }
 
 -- an object of size 0 has no blocks
 pub no-blocks : (s : Store) (o : ℕ) → objectAt s o .size ≡ 0 → held s o ≡ []

@@ -24,7 +24,7 @@ use Rattle.spec.specs.Procedures.{cut, act}
 use Rattle.spec.specs.Procedures.Attributes.{getattr, checkSetattr, setattrEdit, edited, setattr, grantedBits, access}
 use Rattle.spec.specs.Procedures.Data.{reachRegular, readResult, read, checkWrite, writeDone, write, commit}
 use Rattle.spec.specs.Procedures.Listing.{checkReaddir, readdir}
-use Rattle.spec.specs.Procedures.Names.{checkLookup, lookup, touchDirectory, newEdit, createdIn, Target, new, existing, settableIn, checkCreate}
+use Rattle.spec.specs.Procedures.Names.{checkLookup, lookup, newObject, touchDirectory, newEdit, createdIn, Target, new, existing, checkCreate}
 use Rattle.spec.specs.Procedures.Names.{createEdit, create, checkMkdir, mkdir}
 use Rattle.spec.specs.Procedures.Removal.{checkRemove, checkRmdir, removeFrom, remove, rmdir, checkRename, renameEdit, failRenaming, renamedTo, rename}
 use Rattle.spec.specs.Procedures.Volume.{roomResult, fsstat, fsinfo, pathconf}
@@ -91,9 +91,9 @@ pub settle-unchanged : {A : Type 0} (s : Store) (fail : ℕ → Result) (c : Che
 settle-unchanged s fail (refused status) go = refl
 settle-unchanged s fail (passed a) go = refl
 
-create-ok : (s : Store) (c : Context) (d : ℕ) (text : List ℕ) (a : Settable) (t : Target) → ShowsOK (createEdit s c d text a t .result)
-create-ok s c d text a (new o n) = created-ok _ _ _
-create-ok s c d text a (existing o) = created-ok _ _ _
+create-ok : (s : Store) (c : Context) (d : ℕ) (text : List ℕ) (manner : How) (t : Target) → ShowsOK (createEdit s c d text manner t .result)
+create-ok s c d text manner (new o n) = created-ok _ _ _
+create-ok s c d text manner (existing o) = created-ok _ _ _
 
 module _ (s : Store) (c : Context) where
   setattr-error : (h : List ℕ) (a : Settable) (g : Guard) → KeptUnlessOK s (setattr s c h a g)
@@ -109,14 +109,14 @@ module _ (s : Store) (c : Context) where
   create-error : (h text : List ℕ) (manner : How) → KeptUnlessOK s (create s c h text manner)
   unfolding create
   create-error h text manner =
-      settle-ok s (failChanging s h) (checkCreate s h text manner) (λ p. createEdit s c (p .0) text (settableIn manner) (p .1))
-      (λ p. create-ok s c (p .0) text (settableIn manner) (p .1))
+      settle-ok s (failChanging s h) (checkCreate s h text manner) (λ p. createEdit s c (p .0) text manner (p .1))
+      (λ p. create-ok s c (p .0) text manner (p .1))
 
   mkdir-error : (h text : List ℕ) (a : Settable) → KeptUnlessOK s (mkdir s c h text a)
   unfolding mkdir
   mkdir-error h text a =
-      settle-ok s (failChanging s h) (checkMkdir s h text a) (λ p. createdIn s (newEdit s c DIRECTORY (p .1) (p .2) (p .0) text a) (p .0) (p .1))
-      (λ p. created-ok _ _ _)
+      settle-ok s (failChanging s h) (checkMkdir s h text a)
+      (λ p. createdIn s (newEdit s c (newObject (c .clock) DIRECTORY a) (a .size) (p .1) (p .2) (p .0) text) (p .0) (p .1)) (λ p. created-ok _ _ _)
 
   remove-error : (h : List ℕ) (checks : Checked (ℕ × ℕ)) → KeptUnlessOK s (removeFrom s c h checks)
   unfolding removeFrom

@@ -9,7 +9,7 @@ use Rattle.kinds.specs.Numbers.{REGULAR, DIRECTORY, nanosecondsEnd, mostFileByt
 use Rattle.kinds.specs.declared.object.Time.{Time}
 use Rattle.kinds.specs.declared.object.Object.{Object}
 use Rattle.kinds.specs.declared.call.Settable.{Settable}
-use Rattle.spec.specs.Edits.{setAttributes, resize, createObject, removeObject, moveName, writeFile}
+use Rattle.spec.specs.Edits.{setAttributes, forgetVerifier, resize, createObject, removeObject, moveName, writeFile}
 use Rattle.spec.specs.Image.{Store, objects, names, blocks, objectAt, nameAt}
 use Rattle.spec.specs.Room.{sizeOf, need, freeBlockCount}
 use Rattle.laws.proofs.BlockLists.{held-range}
@@ -22,7 +22,8 @@ use Rattle.laws.proofs.Range.{Below}
 use Rattle.laws.proofs.Records.{FitsTime, FitsObject}
 use Rattle.laws.proofs.RemoveObject.{remove-object, remove-object-objects, remove-object-names, remove-object-blocks}
 use Rattle.laws.proofs.Resize.{resize-object, resize-objects, resize-blocks, resize-tree}
-use Rattle.laws.proofs.SetAttributes.{FitsSettable, Allowed, set-attributes, set-attributes-good, set-attributes-structure}
+use Rattle.laws.proofs.SetAttributes.{FitsSettable, Allowed, set-attributes, set-attributes-good, set-attributes-structure, forget-verifier}
+use Rattle.laws.proofs.SetAttributes.{forget-verifier-structure, forget-verifier-good}
 use Rattle.laws.proofs.Shape.{SameShape, same-refl, same-trans}
 use Rattle.laws.proofs.Structure.{kept-structure, tree-names, structure-blocks}
 use Rattle.laws.proofs.Valid.{LiveObject, FreeObject, GoodObject, GoodObjects, GoodName, GoodNames, Live, Used, BlocksUsedOnce, Valid, live-kind}
@@ -90,6 +91,20 @@ module _ (s : Store) (g : GoodRecords s) where
           good-objects = set-attributes-good s clock o a (g .sound) l t f (c .nanoseconds) w (live-at o l v) (g .good-objects);
           good-names = tree-names s (setAttributes s clock o a) (q .tree) (g .good-names);
           used-once = structure-blocks s (setAttributes s clock o a) q (g .used-once);
+        };
+      }
+
+  pub forget-verifier-still : (o : ℕ) → o < objects s → Live s o → StillGood s (forgetVerifier s o)
+  forget-verifier-still o l v =
+      let e = forget-verifier s o (g .sound) l in
+      let q = forget-verifier-structure s o (g .sound) l in
+      record {
+        shape = e .shape;
+        good = record {
+          sound = e .sound;
+          good-objects = forget-verifier-good s o (g .sound) l (live-at o l v) (g .good-objects);
+          good-names = tree-names s (forgetVerifier s o) (q .tree) (g .good-names);
+          used-once = structure-blocks s (forgetVerifier s o) q (g .used-once);
         };
       }
 

@@ -84,12 +84,12 @@ shaped-same s t e h =
       exact = omega arith;
     }
 
+pub good-short : (s : Store) (n : ℕ) → GoodNameRecord s n → nameLength s n ≤ mostNameBytes
+good-short s n (_⊎_.inl f) = omega (arith, f .empty)
+good-short s n (_⊎_.inr u) = u .short
+
 pub valid-sound : (s : Store) → Valid s → Below 256 s → Sound s
-valid-sound s v b = record { shaped = v .shaped; bytes = b; short = λ n l. short-of n (v .good-names n l) }
-  where
-    short-of : (n : ℕ) → GoodNameRecord s n → nameLength s n ≤ mostNameBytes
-    short-of n (_⊎_.inl f) = omega (arith, f .empty)
-    short-of n (_⊎_.inr u) = u .short
+valid-sound s v b = record { shaped = v .shaped; bytes = b; short = λ n l. good-short s n (v .good-names n l) }
 
 -- ---- a name record whose 44 bytes are the same
 pub kept-by-bytes : (s t : Store) (n : ℕ) → objects t ≡ objects s → nameLength s n ≤ mostNameBytes

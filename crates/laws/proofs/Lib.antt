@@ -6,6 +6,7 @@ pub mod Arguments
 pub mod BlockLists
 pub mod BlockWrites
 pub mod Bytes
+pub mod Converted
 pub mod Count
 pub mod CreateObject
 pub mod Damaged
@@ -23,12 +24,15 @@ pub mod Kept
 pub mod Listing
 pub mod MoveName
 pub mod Names
+pub mod NewObject
 pub mod Passed
 pub mod PlainObject
 pub mod Range
 pub mod RecordRange
 pub mod Records
+pub mod RecordsOnly
 pub mod RemoveObject
+pub mod Resent
 pub mod Resize
 pub mod SameReads
 pub mod Searches

@@ -1,4 +1,4 @@
--- The fifth edit: a name record is rewritten in place. Assumes nothing.
+-- The sixth edit: a name record is rewritten in place. Assumes nothing.
 use mathlib.Core.Path.{_≡_, ap, _∙_}
 use mathlib.Core.Logic.{by-cases, _⊎_}
 use mathlib.Core.List.{List}

@@ -10,7 +10,7 @@ use lib.Dec.{eqb, leb, ltb}
 use lib.ListN.{length}
 use borrow.Author.Tests.{leb-true, leb-false, ltb-true, ltb-false, eqb-true, eqb-false, eq-eqb, not-true, not-false}
 use Rattle.kinds.specs.Numbers.{REGULAR, DIRECTORY, NOENT, ACCES, EXIST, NOTDIR, INVAL, FBIG, NOSPC, NAMETOOLONG, NOTEMPTY, STALE, BADHANDLE}
-use Rattle.kinds.specs.Numbers.{NOT-SYNC, mostTransferBytes, mostFileBytes, spentGeneration, mostNameBytes, handleLength}
+use Rattle.kinds.specs.Numbers.{NOT-SYNC, keptFlag, mostTransferBytes, mostFileBytes, spentGeneration, mostNameBytes, handleLength}
 use Rattle.kinds.specs.declared.call.Settable.{Settable}
 use Rattle.kinds.specs.declared.call.Guard.{Guard}
 use Rattle.kinds.specs.declared.call.How.{How}
@@ -22,8 +22,8 @@ use Rattle.spec.specs.Image.{Store, stamp, objects, names, objectAt, nameAt, na
 use Rattle.spec.specs.Names.{isDot, isDotDot, isDots, goodBytes}
 use Rattle.spec.specs.Procedures.Attributes.{isGiven, sizeSet, badAttributes, lacksRoom, differs, checkSetattr}
 use Rattle.spec.specs.Procedures.Data.{reachRegular, grown, checkWrite}
-use Rattle.spec.specs.Procedures.Names.{childOf, lookIn, checkIn, checkLookup, roomForNew, Target, new, existing, isNew, checkExisting, targetOf}
-use Rattle.spec.specs.Procedures.Names.{checkNew, checkAttributed, checkHow, checkCreate, settableIn, checkMkdir}
+use Rattle.spec.specs.Procedures.Names.{childOf, lookIn, checkIn, checkLookup, roomForNew, Target, new, existing, isNew, settableIn}
+use Rattle.spec.specs.Procedures.Names.{isMadeBy, isTaken, checkExisting, targetOf, checkNew, checkHow, checkCreate, checkMkdir}
 use Rattle.spec.specs.Procedures.Removal.{checkEntry, checkRemove, hasEntries, checkRmdir, isWithin, checkMove, checkRename}
 use Rattle.spec.specs.Room.{isLive, isRegular, isDirectory, sizeOf, need, freeBlockCount, isAvailable, availableObject, isUsedName, availableName}
 use Rattle.spec.specs.Room.{isIn, isNamed, findName, parent}
@@ -32,7 +32,7 @@ use Rattle.laws.proofs.Count.{and-both, by-bool, true-false, lowest-pas
 use Rattle.laws.proofs.SetAttributes.{Allowed, allowed}
 use Rattle.laws.proofs.Tests.{and-true, or-none, true-nonzero}
 use Rattle.laws.proofs.Valid.{Live, Used, GoodName, live-true, live-false, used-true, true-used, used-false, directory-true, true-directory}
-use Rattle.laws.proofs.Valid.{regular-true, bytes-good, dots-no}
+use Rattle.laws.proofs.Valid.{regular-true, true-regular, bytes-good, dots-no}
 
 -- ---- checks in order
 refused-passed : {A : Type 0} (status : ℕ) (a : A) → refused status ≡ passed a → ⊥
@@ -293,28 +293,56 @@ write-passed s h offset count bytes o e =
     rest-false false u x y = true-false (sym y)
 
 -- ---- CREATE
--- of a file that has the name: it is regular, and there is room for the size
-pub record ExistingPassed (s : Store) (a : Settable) (o : ℕ) : Type 0 where
+-- of a file that was made EXCLUSIVE with this verifier: it is regular, and keeps the verifier
+pub record MadeBy (s : Store) (verifier o : ℕ) : Type 0 where
   pub regular : objectAt s o .kind ≡ REGULAR
-  pub room : need (sizeSet (a .size) (sizeOf s o)) - need (sizeOf s o) ≤ freeBlockCount s
+  pub flagged : objectAt s o .exclusive ≡ keptFlag
+  pub same-verifier : objectAt s o .verifier ≡ verifier
+
+pub made-true : (s : Store) (verifier o : ℕ) → isMadeBy s verifier o ≡ true → MadeBy s verifier o
+unfolding isMadeBy
+made-true s verifier o e =
+    let v = objectAt s o in
+    let a = and-both (isRegular s o && eqb (v .exclusive) keptFlag) (eqb (v .verifier) verifier) e in
+    let b = and-both (isRegular s o) (eqb (v .exclusive) keptFlag) (a .0) in
+    record {
+      regular = regular-true s o (b .0);
+      flagged = eqb-true (v .exclusive) keptFlag (b .1);
+      same-verifier = eqb-true (v .verifier) verifier (a .1);
+    }
+
+pub true-made : (s : Store) (verifier o : ℕ) → MadeBy s verifier o → isMadeBy s verifier o ≡ true
+unfolding isMadeBy
+true-made s verifier o m =
+    let v = objectAt s o in
+    rw (true-regular s o (m .regular), eq-eqb (v .exclusive) keptFlag (m .flagged), eq-eqb (v .verifier) verifier (m .same-verifier))
+
+-- what is taken is a regular file, whatever the manner
+pub taken-regular : (s : Store) (manner : How) (o : ℕ) → isTaken s manner o ≡ true → objectAt s o .kind ≡ REGULAR
+taken-regular s (How.Unchecked a) o e = regular-true s o e
+taken-regular s (How.Guarded a) o e = true-false (sym e)
+taken-regular s (How.Exclusive verifier) o e = made-true s verifier o e .regular
+
+-- of a file that has the name: the manner takes it, it is regular, and there is room for the size
+pub record ExistingPassed (s : Store) (manner : How) (o : ℕ) : Type 0 where
+  pub taken : isTaken s manner o ≡ true
+  pub regular : objectAt s o .kind ≡ REGULAR
+  pub room : need (sizeSet (settableIn manner .size) (sizeOf s o)) - need (sizeOf s o) ≤ freeBlockCount s
 
 -- what the target of CREATE is
-abbrev pub TargetPassed : Store → ℕ → List ℕ → Settable → Target → Type 0
-TargetPassed s d text a (new o n) = (findName s d text ≡ none) × NewRoom s (sizeSet (a .size) 0) o n
-TargetPassed s d text a (existing o) = (n : ℕ) × (findName s d text ≡ some n) × (nameAt s n .child ≡ o) × ExistingPassed s a o
+abbrev pub TargetPassed : Store → ℕ → List ℕ → How → Target → Type 0
+TargetPassed s d text manner (new o n) = (findName s d text ≡ none) × NewRoom s (sizeSet (settableIn manner .size) 0) o n
+TargetPassed s d text manner (existing o) = (n : ℕ) × (findName s d text ≡ some n) × (nameAt s n .child ≡ o) × ExistingPassed s manner o
 
-existing-passed : (s : Store) (unchecked : Bool) (a : Settable) (o : ℕ) (t : Target) → checkExisting s unchecked a o ≡ passed t
-    → (passed (existing o) ≡ passed t) × ExistingPassed s a o
+existing-passed : (s : Store) (manner : How) (o : ℕ) (t : Target) → checkExisting s manner o ≡ passed t
+    → (passed (existing o) ≡ passed t) × ExistingPassed s manner o
 unfolding checkExisting
-existing-passed s unchecked a o t e =
-    refuse-passed (not (unchecked && isRegular s o)) EXIST _ t e (λ t₁ f₁.
-    refuse-passed (lacksRoom s (sizeOf s o) (sizeSet (a .size) (sizeOf s o))) NOSPC _ t f₁ (λ t₂ f₂. (
-      f₂,
-      record {
-        regular = regular-true s o (and-both unchecked (isRegular s o) (not-false (unchecked && isRegular s o) t₁) .1);
-        room = room-passed s (sizeOf s o) (sizeSet (a .size) (sizeOf s o)) t₂;
-      },
-    )))
+existing-passed s manner o t e =
+    let size = sizeSet (settableIn manner .size) (sizeOf s o) in
+    refuse-passed (not (isTaken s manner o)) EXIST _ t e (λ t₁ f₁.
+    refuse-passed (lacksRoom s (sizeOf s o) size) NOSPC _ t f₁ (λ t₂ f₂.
+    let w = not-false (isTaken s manner o) t₁ in
+    (f₂, record { taken = w; regular = taken-regular s manner o w; room = room-passed s (sizeOf s o) size t₂ })))
 
 -- the checks of a name to be made
 new-passed : {B P : Type 0} (text : List ℕ) (invalid : Bool) (k : Unit {0} → Checked B) (b : B)
@@ -339,34 +367,27 @@ pub record CreatePassed (s : Store) (h text : List ℕ) (manner : How) (d : ℕ)
   pub directory : objectAt s d .kind ≡ DIRECTORY
   pub good : GoodName text
   pub allowed : Allowed (settableIn manner)
-  pub target : TargetPassed s d text (settableIn manner) t
+  pub target : TargetPassed s d text manner t
 
-new-target : (s : Store) (d : ℕ) (text : List ℕ) (a : Settable) (t : Target) (c : Checked (ℕ × ℕ)) → findName s d text ≡ none
-    → roomForNew s (sizeSet (a .size) 0) ≡ c
-    → isNew c ≡ passed t → TargetPassed s d text a t
-new-target s d text a t (refused status) x q e = absurd (refused-passed status t e)
-new-target s d text a t (passed p) x q e =
-    subst (TargetPassed s d text a) (same-passed (new (p .0) (p .1)) t e) (x, room-for-new s (sizeSet (a .size) 0) p q)
+new-target : (s : Store) (d : ℕ) (text : List ℕ) (manner : How) (t : Target) (c : Checked (ℕ × ℕ)) → findName s d text ≡ none
+    → roomForNew s (sizeSet (settableIn manner .size) 0) ≡ c → isNew c ≡ passed t → TargetPassed s d text manner t
+new-target s d text manner t (refused status) x q e = absurd (refused-passed status t e)
+new-target s d text manner t (passed p) x q e =
+    subst (TargetPassed s d text manner) (same-passed (new (p .0) (p .1)) t e) (x, room-for-new s (sizeSet (settableIn manner .size) 0) p q)
 
-target-passed : (s : Store) (d : ℕ) (text : List ℕ) (unchecked : Bool) (a : Settable) (t : Target) (x : Option ℕ) → findName s d text ≡ x
-    → targetOf s unchecked a x ≡ passed t → TargetPassed s d text a t
-target-passed s d text unchecked a t none x e = new-target s d text a t (roomForNew s (sizeSet (a .size) 0)) x refl e
-target-passed s d text unchecked a t (some n) x e =
-    let p = existing-passed s unchecked a (nameAt s n .child) t e in
-    subst (TargetPassed s d text a) (same-passed (existing (nameAt s n .child)) t (p .0)) (n, x, refl, p .1)
-
-attributed-passed : (s : Store) (d : ℕ) (text : List ℕ) (unchecked : Bool) (a : Settable) (t : Target) → checkAttributed s d text unchecked a ≡ passed t
-    → GoodName text × Allowed a × TargetPassed s d text a t
-unfolding checkAttributed
-attributed-passed s d text unchecked a t e =
-    new-passed text (badAttributes a) _ t e (λ n b f.
-    (n, allowed a b, target-passed s d text unchecked a t (findName s d text) refl f))
+target-passed : (s : Store) (d : ℕ) (text : List ℕ) (manner : How) (t : Target) (x : Option ℕ) → findName s d text ≡ x
+    → targetOf s manner x ≡ passed t → TargetPassed s d text manner t
+target-passed s d text manner t none x e = new-target s d text manner t (roomForNew s (sizeSet (settableIn manner .size) 0)) x refl e
+target-passed s d text manner t (some n) x e =
+    let p = existing-passed s manner (nameAt s n .child) t e in
+    subst (TargetPassed s d text manner) (same-passed (existing (nameAt s n .child)) t (p .0)) (n, x, refl, p .1)
 
 how-passed : (s : Store) (d : ℕ) (text : List ℕ) (manner : How) (t : Target) → checkHow s d text manner ≡ passed t
-    → GoodName text × Allowed (settableIn manner) × TargetPassed s d text (settableIn manner) t
-how-passed s d text (How.Unchecked a) t e = attributed-passed s d text true a t e
-how-passed s d text (How.Guarded a) t e = attributed-passed s d text false a t e
-how-passed s d text (How.Exclusive verifier) t e = absurd (refused-passed 10004 t e)
+    → GoodName text × Allowed (settableIn manner) × TargetPassed s d text manner t
+unfolding checkHow
+how-passed s d text manner t e =
+    new-passed text (badAttributes (settableIn manner)) _ t e (λ n b f.
+    (n, allowed (settableIn manner) b, target-passed s d text manner t (findName s d text) refl f))
 
 pub create-passed : (s : Store) (h text : List ℕ) (manner : How) (p : ℕ × Target) → checkCreate s h text manner ≡ passed p
     → CreatePassed s h text manner (p .0) (p .1)

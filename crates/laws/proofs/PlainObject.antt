@@ -26,6 +26,8 @@ plain-fits kind mode clock k m c =
       ctime = c;
       long = refl;
       halves = below-same (2 ^ 16) fileBlocks unusedBlock (lit< tt) (lit< tt);
+      verifier = lit< tt;
+      exclusive = lit< tt;
     }
 
 pub plain-live : (r kind mode : ℕ) (clock : Time) → (kind ≡ REGULAR) ⊎ (kind ≡ DIRECTORY) → mode ≤ mostMode → clock .nanoseconds < nanosecondsEnd
@@ -38,6 +40,7 @@ plain-live r kind mode clock k m c =
       mtime = c;
       ctime = c;
       size = of-kind k;
+      verifier = _⊎_.inr (refl, refl);
       held = λ j b. absurd (omega arith);
       rest = λ j b d. getD-replicate fileBlocks j unusedBlock 0 d;
     }

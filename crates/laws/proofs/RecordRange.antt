@@ -6,12 +6,12 @@ use native.Mathlib.Omega.{arith}
 use lib.Dec.{lit<}
 use lib.ListN.{length, getD, replicate, length-take}
 use Rattle.kinds.specs.Layout.{generationOffset, modeOffset, uidOffset, gidOffset, sizeOffset, atimeOffset, mtimeOffset, ctimeOffset, blocksOffset}
-use Rattle.kinds.specs.Layout.{nanosecondsOffset, childOffset, lengthOffset, textOffset}
+use Rattle.kinds.specs.Layout.{verifierOffset, exclusiveOffset, nanosecondsOffset, childOffset, lengthOffset, textOffset}
 use Rattle.kinds.specs.Numbers.{fileBlocks, mostNameBytes}
 use Rattle.kinds.specs.declared.object.Object.{Object}
 use Rattle.spec.specs.Bytes.{part, beAt, bytesOf}
-use Rattle.spec.specs.Image.{Store, objectStart, nameStart, halvesAt, halvesBytes, timeAt, timeBytes, headBytes, timesBytes, objectFrom, objectBytes}
-use Rattle.spec.specs.Image.{objectAt, putObject, Name, nameFrom, nameBytes, nameAt, nameLength, putName}
+use Rattle.spec.specs.Image.{Store, objectStart, nameStart, halvesAt, halvesBytes, timeAt, timeBytes, headBytes, timesBytes, verifierBytes, objectFrom}
+use Rattle.spec.specs.Image.{objectBytes, objectAt, putObject, Name, nameFrom, nameBytes, nameAt, nameLength, putName}
 use Rattle.laws.proofs.Bytes.{part-length}
 use Rattle.laws.proofs.Range.{Below, below-append, below-drop, below-take, below-bytes, below-overlay, be-below}
 use Rattle.laws.proofs.Records.{FitsObject, halves-count}
@@ -45,6 +45,8 @@ objectAt-fits s o f =
       ctime = record { seconds = be-below s (at + ctimeOffset) 4 f; nanoseconds = be-below s (at + ctimeOffset + nanosecondsOffset) 4 f };
       long = halves-count s (at + blocksOffset) fileBlocks;
       halves = halves-below s (at + blocksOffset) fileBlocks f;
+      verifier = be-below s (at + verifierOffset) 8 f;
+      exclusive = be-below s (at + exclusiveOffset) 4 f;
     }
 
 pub below-part : (m : ℕ) (b : List ℕ) (at n : ℕ) → 0 < m → Below m b → Below m (part b at n)
@@ -68,8 +70,8 @@ halves-bytes zero xs k = lit< tt
 halves-bytes (suc n) xs k = below-append 256 (halvesBytes n xs) (bytesOf 2 (getD xs n 0)) (halves-bytes n xs) (below-bytes 2 (getD xs n 0)) k
 
 pub object-bytes : (v : Object) → Below 256 (objectBytes v)
-unfolding objectBytes headBytes timesBytes timeBytes
-object-bytes v = search (below-append, below-bytes, halves-bytes) depth 14
+unfolding objectBytes headBytes timesBytes timeBytes verifierBytes
+object-bytes v = search (below-append, below-bytes, halves-bytes) depth 20 fits 4000
 
 pub below-zeros : (n : ℕ) → Below 256 (replicate n 0)
 below-zeros zero k = lit< tt

@@ -9,12 +9,13 @@ use lib.Dec.{lit≤}
 use lib.Seq.{take-suc, take-all, getD-append-seam}
 use lib.ListN.{length, take, getD, length-append, List·getD-append}
 use Rattle.kinds.specs.Layout.{generationOffset, modeOffset, uidOffset, gidOffset, sizeOffset, atimeOffset, mtimeOffset, ctimeOffset, blocksOffset}
-use Rattle.kinds.specs.Layout.{objectLength, nanosecondsOffset}
+use Rattle.kinds.specs.Layout.{verifierOffset, exclusiveOffset, objectLength, nanosecondsOffset}
 use Rattle.kinds.specs.Numbers.{fileBlocks}
 use Rattle.kinds.specs.declared.object.Time.{Time}
 use Rattle.kinds.specs.declared.object.Object.{Object}
 use Rattle.spec.specs.Bytes.{beOf, part, overlay, beAt, bytesOf}
-use Rattle.spec.specs.Image.{Store, objectStart, halvesAt, halvesBytes, timeAt, timeBytes, objectFrom, headBytes, timesBytes, objectBytes, objectAt, putObject}
+use Rattle.spec.specs.Image.{Store, objectStart, halvesAt, halvesBytes, timeAt, timeBytes, objectFrom, headBytes, timesBytes, verifierBytes, objectBytes}
+use Rattle.spec.specs.Image.{objectAt, putObject}
 use Rattle.laws.proofs.Bytes.{lt-or-le, bytes-length, be-part, part-same, part-right, part-left, part-whole, be-bytes}
 use Rattle.laws.proofs.Apart.{Apart, part-apart}
 
@@ -35,6 +36,8 @@ pub record FitsObject (v : Object) : Type 0 where
   pub ctime : FitsTime (v .ctime)
   pub long : length (v .blocks) ≡ fileBlocks
   pub halves : (k : ℕ) → getD (v .blocks) k 0 < 2 ^ 16
+  pub verifier : v .verifier < 2 ^ 64
+  pub exclusive : v .exclusive < 2 ^ 32
 
 -- ---- lengths
 pub halves-length : (k : ℕ) (xs : List ℕ) → length (halvesBytes k xs) ≡ 2 * k
@@ -48,7 +51,7 @@ halves-count b at zero = refl
 halves-count b at (suc k) = simp length-append (omega (arith, halves-count b at k))
 
 pub object-length : (v : Object) → length (objectBytes v) ≡ objectLength
-unfolding objectBytes headBytes timesBytes timeBytes bytesOf halvesBytes
+unfolding objectBytes headBytes timesBytes timeBytes verifierBytes bytesOf halvesBytes
 object-length v = refl
 
 -- ---- one of several numbers of two bytes
@@ -65,7 +68,7 @@ half-read b at (suc n) k h =
     (λ (l : k < n). List·getD-append (halvesAt b at n) (beAt b (at + 2 * n) 2 ∷ []) 0 k (rw halves-count l) ∙ half-read b at n k l)
     (eq-or-lt-of-le (le-of-suc-le-suc h))
 
--- ---- an object is read off its own 80 bytes
+-- ---- an object is read off its own 92 bytes
 pub halves-part : (b : List ℕ) (at n i k : ℕ) → i + 2 * k ≤ n → halvesAt (part b at n) i k ≡ halvesAt b (at + i) k
 unfolding halvesAt
 halves-part b at n i zero h = refl
@@ -93,6 +96,8 @@ object-part b at = sym (cc (
   add-assoc at mtimeOffset nanosecondsOffset,
   add-assoc at ctimeOffset nanosecondsOffset,
   halves-part b at objectLength blocksOffset fileBlocks (lit≤ tt),
+  be-part b at objectLength verifierOffset 8 (lit≤ tt),
+  be-part b at objectLength exclusiveOffset 4 (lit≤ tt),
 ))
 
 pub object-by-part : (b b′ : List ℕ) (at : ℕ) → part b at objectLength ≡ part b′ at objectLength → objectFrom b at ≡ objectFrom b′ at
@@ -123,15 +128,17 @@ halves-again n xs (suc k) h l f =
 blocks-again : (v : Object) → FitsObject v → halvesAt (objectBytes v) blocksOffset fileBlocks ≡ v .blocks
 unfolding objectBytes headBytes timesBytes timeBytes bytesOf
 blocks-again v f =
+    let front = headBytes v ++ timesBytes v in
+    let numbers = halvesBytes fileBlocks (v .blocks) in
+    let long = halves-length fileBlocks (v .blocks) in
     sym (halves-part (objectBytes v) blocksOffset (2 * fileBlocks) 0 fileBlocks (lit≤ tt))
     ∙ ap (λ (x : List ℕ). halvesAt x 0 fileBlocks)
-    (part-right (headBytes v ++ timesBytes v) (halvesBytes fileBlocks (v .blocks)) blocksOffset 0 (2 * fileBlocks) refl
-    ∙ part-whole (halvesBytes fileBlocks (v .blocks)) (2 * fileBlocks)
-    (halves-length fileBlocks (v .blocks)))
+    (part-left (front ++ numbers) (verifierBytes v) blocksOffset (2 * fileBlocks) (simp length-append (omega arith))
+    ∙ part-right front numbers blocksOffset 0 (2 * fileBlocks) refl ∙ part-whole numbers (2 * fileBlocks) long)
     ∙ halves-again fileBlocks (v .blocks) fileBlocks (lit≤ tt) (omega arith) (f .halves) ∙ take-all fileBlocks (v .blocks) (omega arith)
 
 pub object-again : (v : Object) → FitsObject v → objectFrom (objectBytes v) 0 ≡ v
-unfolding objectFrom timeAt objectBytes headBytes timesBytes timeBytes bytesOf halvesBytes beAt part
+unfolding objectFrom timeAt objectBytes headBytes timesBytes timeBytes verifierBytes bytesOf halvesBytes beAt part
 object-again v f =
     λ i. record {
       kind = be-bytes 4 (v .kind) (f .kind) i;
@@ -156,6 +163,8 @@ object-again v f =
             (f .ctime .nanoseconds) i;
       };
       blocks = blocks-again v f i;
+      verifier = be-bytes 8 (v .verifier) (f .verifier) i;
+      exclusive = be-bytes 4 (v .exclusive) (f .exclusive) i;
     }
 
 pub objectAt-same : (s : Store) (o : ℕ) (v : Object) → objectStart o + objectLength ≤ length s → FitsObject v → objectAt (putObject s o v) o ≡ v

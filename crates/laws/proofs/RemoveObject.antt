@@ -1,4 +1,4 @@
--- The fourth edit: an object, its blocks and its name record are free. Assumes nothing.
+-- The fifth edit: an object, its blocks and its name record are free. Assumes nothing.
 use mathlib.Core.Path.{_≡_, refl, ap}
 use mathlib.Core.Logic.{_≢_, by-cases, _⊎_}
 use mathlib.Core.List.{[]}
@@ -36,6 +36,8 @@ free-fits g h =
       ctime = record { seconds = lit< tt; nanoseconds = lit< tt };
       long = refl;
       halves = below-same (2 ^ 16) fileBlocks 0 (lit< tt) (lit< tt);
+      verifier = lit< tt;
+      exclusive = lit< tt;
     }
 
 pub free-set : (t : Store) (n : ℕ) → NameIs t n freeName → FreeName t n

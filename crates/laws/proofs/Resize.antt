@@ -1,4 +1,4 @@
--- The second edit: a file's size. Its blocks after it, how often each block is used, and how many are free. Assumes nothing.
+-- The third edit: a file's size. Its blocks after it, how often each block is used, and how many are free. Assumes nothing.
 use mathlib.Core.Path.{_≡_, refl, sym, ap, _∙_}
 use mathlib.Core.Logic.{⊎-elim, _⊎_}
 use mathlib.Core.List.{List, _++_}
@@ -117,6 +117,8 @@ module _ (s : Store) (o size : ℕ) (h : Sound s) (l : o < objects s) (v : LiveO
         ctime = f .ctime;
         long = numbers-long (keptBlocks s o size ++ addedBlocks s o size);
         halves = numbers-fit (blocks s) (keptBlocks s o size ++ addedBlocks s o size) (h .shaped .few-blocks) new-range;
+        verifier = f .verifier;
+        exclusive = f .exclusive;
       }
 
   pub resize-object : ObjectSet s o (resized s o size) (resize s o size)
@@ -196,6 +198,7 @@ module _ (s : Store) (o size : ℕ) (h : Sound s) (l : o < objects s) (v : LiveO
         mtime = v .mtime;
         ctime = v .ctime;
         size = _⊎_.inl (k, small);
+        verifier = v .verifier;
         held = λ i (b : i < need size). let e = numbers-held rs (need size) new-length (need-few size small) in
             rw (sym (getD-take (need size) (blockNumbers rs) i 0 b) ∙ ap (λ (x : List ℕ). getD x i 0) e) (new-range i (omega (arith, new-length)));
         rest = λ i a b. numbers-rest rs i (omega (arith, new-length)) b;

@@ -1,4 +1,4 @@
--- The first edit: an object's attributes and times. Assumes nothing.
+-- The first edit, an object's attributes and times, and the second, its verifier forgotten. Assumes nothing.
 use mathlib.Core.Path.{_≡_, refl}
 use mathlib.Core.Logic.{_⊎_}
 use mathlib.Core.Bool.{Bool, true, false, _||_, cond}
@@ -6,8 +6,7 @@ use Prim.Native.Nat.{ℕ, _^_, _≤_, _<_}
 use native.Mathlib.Omega.{arith}
 use lib.Dec.{ltb, lit<, lit≤}
 use borrow.Author.Tests.{ltb-false, leb-false}
-use Rattle.kinds.specs.Numbers.{REGULAR, DIRECTORY, nanosecondsEnd, mostFileBytes, mostMode}
-use Rattle.kinds.specs.Objects.{plainObject}
+use Rattle.kinds.specs.Numbers.{nanosecondsEnd, mostFileBytes, mostMode}
 use Rattle.kinds.specs.declared.object.Time.{Time}
 use Rattle.kinds.specs.declared.object.Object.{Object}
 use Rattle.kinds.specs.declared.call.SetNumber.{SetNumber}
@@ -16,18 +15,16 @@ use Rattle.kinds.specs.declared.call.SetTime.{SetTime}
 use Rattle.kinds.specs.declared.call.SetTime.the-variants as SetTime
 use Rattle.kinds.specs.declared.call.Settable.{Settable}
 use Rattle.spec.specs.Bytes.{part}
-use Rattle.spec.specs.Edits.{numberSet, timeSet, withAttributes, setAttributes, onlyCtime, mtimeAndCtime}
+use Rattle.spec.specs.Edits.{numberSet, timeSet, withAttributes, setAttributes, onlyCtime, mtimeAndCtime, withVerifier, forgetVerifier}
 use Rattle.spec.specs.Image.{Store, objects, blocks, blockStart, objectAt}
 use Rattle.spec.specs.Procedures.Attributes.{isGiven, sizeSet, numberOver, badTime, badAttributes, orServer, sizeTouches}
-use Rattle.spec.specs.Procedures.Names.{newObject}
 use Rattle.laws.proofs.GoodKept.{good-objects-set}
 use Rattle.laws.proofs.Kept.{Sound, ObjectSet, put-object}
-use Rattle.laws.proofs.PlainObject.{plain-fits, plain-live}
 use Rattle.laws.proofs.RecordRange.{objectAt-fits}
 use Rattle.laws.proofs.Records.{FitsTime, FitsObject}
 use Rattle.laws.proofs.Structure.{SameStructure, set-structure}
 use Rattle.laws.proofs.Tests.{or-none}
-use Rattle.laws.proofs.Valid.{LiveObject, GoodObjects}
+use Rattle.laws.proofs.Valid.{GoodVerifier, LiveObject, GoodObjects}
 use Rattle.laws.proofs.Writes.{object-written}
 
 -- ---- attributes whose numbers fit their places, as those of the code's type do
@@ -71,6 +68,8 @@ attributes-fit clock a v c f h =
       ctime = c;
       long = h .long;
       halves = h .halves;
+      verifier = h .verifier;
+      exclusive = h .exclusive;
     }
 
 -- those that set times only, and those that go with a size
@@ -174,11 +173,12 @@ attributes-live r clock a v c f h =
       mtime = time-allowed clock (a .mtime) (v .mtime) c (f .mtime) (h .mtime);
       ctime = c;
       size = h .size;
+      verifier = h .verifier;
       held = h .held;
       rest = h .rest;
     }
 
--- ---- THE EDIT
+-- ---- THE FIRST EDIT
 module _ (s : Store) (clock : Time) (o : ℕ) (a : Settable) (h : Sound s) (l : o < objects s) where
   pub set-attributes : FitsTime clock → FitsSettable a → ObjectSet s o (withAttributes clock a (objectAt s o)) (setAttributes s clock o a)
   unfolding setAttributes
@@ -200,12 +200,65 @@ module _ (s : Store) (clock : Time) (o : ℕ) (a : Settable) (h : Sound s) (l : 
       good-objects-set s (setAttributes s clock o a) o (withAttributes clock a (objectAt s o)) (e .shape) (e .object) (e .other-objects)
       (_⊎_.inr (attributes-live (blocks s) clock a (objectAt s o) n g v))
 
--- ---- a new object
-pub new-fits : (clock : Time) (kind : ℕ) (a : Settable) → FitsTime clock → kind < 2 ^ 32 → FitsSettable a → FitsObject (newObject clock kind a)
-unfolding newObject
-new-fits clock kind a c k f = attributes-fit clock a (plainObject kind 0 clock) c f (plain-fits kind 0 clock k (lit< tt) c)
+-- ---- another verifier
+pub verifier-fits : (verifier flag : ℕ) (v : Object) → verifier < 2 ^ 64 → flag < 2 ^ 32 → FitsObject v → FitsObject (withVerifier verifier flag v)
+unfolding withVerifier
+verifier-fits verifier flag v a b h =
+    record {
+      kind = h .kind;
+      generation = h .generation;
+      mode = h .mode;
+      uid = h .uid;
+      gid = h .gid;
+      size = h .size;
+      atime = h .atime;
+      mtime = h .mtime;
+      ctime = h .ctime;
+      long = h .long;
+      halves = h .halves;
+      verifier = a;
+      exclusive = b;
+    }
 
-pub new-live : (r : ℕ) (clock : Time) (kind : ℕ) (a : Settable) → clock .nanoseconds < nanosecondsEnd → Allowed a → (kind ≡ REGULAR) ⊎ (kind ≡ DIRECTORY)
-    → LiveObject r (newObject clock kind a)
-unfolding newObject
-new-live r clock kind a c f k = attributes-live r clock a (plainObject kind 0 clock) c f (plain-live r kind 0 clock k (lit≤ tt) c)
+-- a live object stays as the check demands, where the check allows the verifier
+pub verifier-live : (r verifier flag : ℕ) (v : Object) → GoodVerifier (withVerifier verifier flag v) → LiveObject r v
+    → LiveObject r (withVerifier verifier flag v)
+unfolding withVerifier
+verifier-live r verifier flag v g h =
+    record {
+      generation = h .generation;
+      mode = h .mode;
+      atime = h .atime;
+      mtime = h .mtime;
+      ctime = h .ctime;
+      size = h .size;
+      verifier = g;
+      held = h .held;
+      rest = h .rest;
+    }
+
+-- no verifier
+pub no-verifier : (v : Object) → GoodVerifier (withVerifier 0 0 v)
+unfolding withVerifier
+no-verifier v = _⊎_.inr (refl, refl)
+
+-- ---- THE SECOND EDIT
+module _ (s : Store) (o : ℕ) (h : Sound s) (l : o < objects s) where
+  pub forget-verifier : ObjectSet s o (withVerifier 0 0 (objectAt s o)) (forgetVerifier s o)
+  unfolding forgetVerifier
+  forget-verifier = put-object s o _ h l (verifier-fits 0 0 (objectAt s o) (lit< tt) (lit< tt) (objectAt-fits s o (h .bytes)))
+
+  pub forget-verifier-structure : SameStructure s (forgetVerifier s o)
+  unfolding withVerifier
+  forget-verifier-structure = set-structure s (forgetVerifier s o) o (withVerifier 0 0 (objectAt s o)) forget-verifier refl refl refl refl
+
+  -- the bytes of the blocks stay
+  pub forget-verifier-data : (at n : ℕ) → blockStart s 0 ≤ at → part (forgetVerifier s o) at n ≡ part s at n
+  unfolding forgetVerifier
+  forget-verifier-data = object-written s o (withVerifier 0 0 (objectAt s o)) (omega (arith, h .shaped)) l .blocks
+
+  pub forget-verifier-good : LiveObject (blocks s) (objectAt s o) → GoodObjects s → GoodObjects (forgetVerifier s o)
+  forget-verifier-good v =
+      let e = forget-verifier in
+      good-objects-set s (forgetVerifier s o) o (withVerifier 0 0 (objectAt s o)) (e .shape) (e .object) (e .other-objects)
+      (_⊎_.inr (verifier-live (blocks s) 0 0 (objectAt s o) (no-verifier (objectAt s o)) v))

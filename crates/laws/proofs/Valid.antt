@@ -9,11 +9,11 @@ use native.Mathlib.Nat.{add-zero}
 use lib.Dec.{eqb, leb, ltb, lit≤}
 use lib.ListN.{length, getD, length-take, length-drop}
 use borrow.Author.Tests.{ltb-true, ltb-false, leb-true, eqb-true, eqb-false, lt-ltb, le-ltb, le-leb, eq-eqb, ne-eqb, not-true}
-use Rattle.kinds.specs.Layout.{modeOffset, objectLength, nameRecordLength}
+use Rattle.kinds.specs.Layout.{blocksHead, modeOffset, objectLength, nameRecordLength}
 use Rattle.kinds.specs.Layout.{generationOffset, uidOffset, gidOffset, sizeOffset, atimeOffset, mtimeOffset, ctimeOffset}
-use Rattle.kinds.specs.Layout.{blocksOffset, nanosecondsOffset, textOffset}
+use Rattle.kinds.specs.Layout.{blocksOffset, verifierOffset, exclusiveOffset, nanosecondsOffset, textOffset}
 use Rattle.kinds.specs.Numbers.{REGULAR, DIRECTORY}
-use Rattle.kinds.specs.Numbers.{nanosecondsEnd, mostObjects, mostNameRecords, mostBlocks, fileBlocks, unusedBlock, mostFileBytes}
+use Rattle.kinds.specs.Numbers.{nanosecondsEnd, mostObjects, mostNameRecords, mostBlocks, fileBlocks, unusedBlock, keptFlag, mostFileBytes}
 use Rattle.kinds.specs.Numbers.{spentGeneration, mostMode, mostNameBytes}
 use Rattle.kinds.specs.Objects.{freeObject}
 use Rattle.kinds.specs.declared.object.Object.{Object}
@@ -23,8 +23,8 @@ use Rattle.spec.specs.Image.{Store, volumes, objects, names, blocks, objectStar
 use Rattle.spec.specs.Image.{nameLength, freeName}
 use Rattle.spec.specs.Room.{isLive, isRegular, isDirectory, need, uses, isUsedName, namings, isNamed, above}
 use Rattle.spec.specs.Names.{isDot, isDotDot, isDots, goodByte, goodBytes, goodName}
-use Rattle.spec.specs.Check.{mostNames, isZero, goodCounts, imageLength, goodShape, goodTime, goodBlock, goodSize, goodLive, goodFree, goodObject}
-use Rattle.spec.specs.Check.{goodRoot, goodUsed, goodNameRecord, isDistinct, isNamedOnce, isUsedOnce, leadsToRoot, passes}
+use Rattle.spec.specs.Check.{mostNames, isZero, goodCounts, imageLength, goodShape, goodTime, goodBlock, goodSize, goodVerifier, goodLive, goodFree}
+use Rattle.spec.specs.Check.{goodObject, goodRoot, goodUsed, goodNameRecord, isDistinct, isNamedOnce, isUsedOnce, leadsToRoot, passes}
 use Rattle.laws.proofs.Bytes.{part-length, same-yes, same-no}
 use Rattle.laws.proofs.Count.{true-false, by-bool, and-both, every-at, every-all}
 use Rattle.laws.proofs.Demands.{demands, passes-by}
@@ -34,7 +34,7 @@ use Rattle.laws.proofs.Zeros.{isZero-zeros, zeros-isZero, zero-within, 
 
 -- ---- THE DEMANDS
 
--- "volume: count 1"; "P, 1 to 64"; "Q, 0 to 128"; "R, 0 to 1,024"; "Length exactly 20 + 80P + 44Q + 512R"
+-- "volume: count 1"; "P, 1 to 64"; "Q, 0 to 128"; "R, 0 to 1,024"; "the image [grows] to 20 + 92P + 44Q + 512R"
 pub record Shaped (s : Store) : Type 0 where
   pub volume : volumes s ≡ 1
   pub some-object : 1 ≤ objects s
@@ -43,9 +43,31 @@ pub record Shaped (s : Store) : Type 0 where
   pub few-blocks : blocks s ≤ mostBlocks
   pub exact : length s ≡ imageLength (objects s) (names s) (blocks s)
 
+-- the counts are in range, and the records lie within the bytes: what reading them takes
+pub record Framed (s : Store) : Type 0 where
+  pub some-object : 1 ≤ objects s
+  pub few-objects : objects s ≤ mostObjects
+  pub few-names : names s ≤ mostNameRecords
+  pub few-blocks : blocks s ≤ mostBlocks
+  pub inside : blocksHead + objectLength * objects s + nameRecordLength * names s ≤ length s
+
+pub shaped-framed : (s : Store) → Shaped s → Framed s
+shaped-framed s h =
+    record {
+      some-object = h .some-object;
+      few-objects = h .few-objects;
+      few-names = h .few-names;
+      few-blocks = h .few-blocks;
+      inside = omega (arith, h .exact);
+    }
+
 -- "a file's size at most 8,192"; "a directory's size 0 with no blocks"
 abbrev pub GoodSize : Object → Type 0
 GoodSize v = ((v .kind ≡ REGULAR) × (v .size ≤ mostFileBytes)) ⊎ ((v .kind ≡ DIRECTORY) × (v .size ≡ 0))
+
+-- "a flag word: 1 on a regular file that keeps one, else both zero"
+abbrev pub GoodVerifier : Object → Type 0
+GoodVerifier v = ((v .exclusive ≡ keptFlag) × (v .kind ≡ REGULAR)) ⊎ ((v .exclusive ≡ 0) × (v .verifier ≡ 0))
 
 -- a live object's record, in a store with r blocks
 pub record LiveObject (r : ℕ) (v : Object) : Type 0 where
@@ -55,6 +77,7 @@ pub record LiveObject (r : ℕ) (v : Object) : Type 0 where
   pub mtime : v .mtime .nanoseconds < nanosecondsEnd
   pub ctime : v .ctime .nanoseconds < nanosecondsEnd
   pub size : GoodSize v
+  pub verifier : GoodVerifier v
   -- "its first ceil(size/512) block numbers in range and the rest 65535"
   pub held : (k : ℕ) → k < need (v .size) → getD (v .blocks) k 0 < r
   pub rest : (k : ℕ) → need (v .size) ≤ k → k < fileBlocks → getD (v .blocks) k 0 ≡ unusedBlock
@@ -191,24 +214,29 @@ true-directory s o h = eq-eqb (objectAt s o .kind) 2 h
 
 -- ---- THE SHAPE
 
+pub counts-by : (p q r : ℕ) → goodCounts p q r ≡ true → (1 ≤ p) × (p ≤ mostObjects) × (q ≤ mostNameRecords) × (r ≤ mostBlocks)
+unfolding goodCounts
+counts-by p q r e =
+    let a = and-both (leb 1 p && leb p mostObjects && leb q mostNameRecords) (leb r mostBlocks) e in
+    let b = and-both (leb 1 p && leb p mostObjects) (leb q mostNameRecords) (a .0) in
+    let c = and-both (leb 1 p) (leb p mostObjects) (b .0) in
+    (leb-true 1 p (c .0), leb-true p mostObjects (c .1), leb-true q mostNameRecords (b .1), leb-true r mostBlocks (a .1))
+
 pub shaped : (s : Store) → goodShape s ≡ true → Shaped s
-unfolding goodShape goodCounts
+unfolding goodShape
 shaped s e =
     let p = objects s in
     let q = names s in
     let r = blocks s in
-    let a = and-both (eqb (volumes s) 1 && (leb 1 p && leb p mostObjects && leb q mostNameRecords && leb r mostBlocks))
-    (eqb (length s) (imageLength p q r)) e in
-    let b = and-both (eqb (volumes s) 1) (leb 1 p && leb p mostObjects && leb q mostNameRecords && leb r mostBlocks) (a .0) in
-    let c = and-both (leb 1 p && leb p mostObjects && leb q mostNameRecords) (leb r mostBlocks) (b .1) in
-    let d = and-both (leb 1 p && leb p mostObjects) (leb q mostNameRecords) (c .0) in
-    let f = and-both (leb 1 p) (leb p mostObjects) (d .0) in
+    let a = and-both (eqb (volumes s) 1 && goodCounts p q r) (eqb (length s) (imageLength p q r)) e in
+    let b = and-both (eqb (volumes s) 1) (goodCounts p q r) (a .0) in
+    let k = counts-by p q r (b .1) in
     record {
       volume = eqb-true (volumes s) 1 (b .0);
-      some-object = leb-true 1 p (f .0);
-      few-objects = leb-true p mostObjects (f .1);
-      few-names = leb-true q mostNameRecords (d .1);
-      few-blocks = leb-true r mostBlocks (c .1);
+      some-object = k .0;
+      few-objects = k .1;
+      few-names = k .2;
+      few-blocks = k .3;
       exact = eqb-true (length s) (imageLength p q r) (a .1);
     }
 
@@ -250,6 +278,22 @@ good-size v (_⊎_.inl a) = rw (eq-eqb (v .kind) 1 (a .0), le-leb (v .size) most
 good-size v (_⊎_.inr a) =
     rw (ne-eqb (v .kind) 1 (λ e. omega (arith, a .0)), eq-eqb (v .kind) 2 (a .0), eq-eqb (v .size) 0 (a .1))
 
+verifier-good : (v : Object) → goodVerifier v ≡ true → GoodVerifier v
+unfolding goodVerifier
+verifier-good v e =
+    ⊎-elim
+    (λ (a : eqb (v .exclusive) keptFlag && eqb (v .kind) 1 ≡ true). let p = and-both (eqb (v .exclusive) keptFlag) (eqb (v .kind) 1) a in
+    _⊎_.inl (eqb-true (v .exclusive) keptFlag (p .0), eqb-true (v .kind) 1 (p .1)))
+    (λ (a : eqb (v .exclusive) 0 && eqb (v .verifier) 0 ≡ true). let p = and-both (eqb (v .exclusive) 0) (eqb (v .verifier) 0) a in
+    _⊎_.inr (eqb-true (v .exclusive) 0 (p .0), eqb-true (v .verifier) 0 (p .1)))
+    (or-one (eqb (v .exclusive) keptFlag && eqb (v .kind) 1) (eqb (v .exclusive) 0 && eqb (v .verifier) 0) e)
+
+good-verifier : (v : Object) → GoodVerifier v → goodVerifier v ≡ true
+unfolding goodVerifier
+good-verifier v (_⊎_.inl a) = rw (eq-eqb (v .exclusive) keptFlag (a .0), eq-eqb (v .kind) 1 (a .1))
+good-verifier v (_⊎_.inr a) =
+    rw (ne-eqb (v .exclusive) keptFlag (λ e. omega (arith, a .0)), eq-eqb (v .exclusive) 0 (a .0), eq-eqb (v .verifier) 0 (a .1))
+
 block-held : (r : ℕ) (v : Object) (k : ℕ) → goodBlock r v k ≡ true → k < need (v .size) → getD (v .blocks) k 0 < r
 unfolding goodBlock
 block-held r v k e h = ltb-true (getD (v .blocks) k 0) r (rw (lt-ltb k (need (v .size)) h) at e)
@@ -273,8 +317,9 @@ live-object r v e =
     let x = ltb (v .atime .nanoseconds) nanosecondsEnd in
     let y = ltb (v .mtime .nanoseconds) nanosecondsEnd in
     let z = ltb (v .ctime .nanoseconds) nanosecondsEnd in
-    let a = and-both (g && m && x && y && z && goodSize v) (every fileBlocks (goodBlock r v)) e in
-    let b = and-both (g && m && x && y && z) (goodSize v) (a .0) in
+    let a = and-both (g && m && x && y && z && goodSize v && goodVerifier v) (every fileBlocks (goodBlock r v)) e in
+    let u = and-both (g && m && x && y && z && goodSize v) (goodVerifier v) (a .0) in
+    let b = and-both (g && m && x && y && z) (goodSize v) (u .0) in
     let c = and-both (g && m && x && y) z (b .0) in
     let d = and-both (g && m && x) y (c .0) in
     let f = and-both (g && m) x (d .0) in
@@ -288,6 +333,7 @@ live-object r v e =
       mtime = ltb-true (v .mtime .nanoseconds) nanosecondsEnd (d .1);
       ctime = ltb-true (v .ctime .nanoseconds) nanosecondsEnd (c .1);
       size = w;
+      verifier = verifier-good v (u .1);
       held = λ k (h : k < need (v .size)). block-held r v k (every-at (goodBlock r v) fileBlocks k (a .1) (omega arith)) h;
       rest = λ k h l. block-rest r v k (every-at (goodBlock r v) fileBlocks k (a .1) l) h;
     }
@@ -302,6 +348,7 @@ live-good r v h =
       lt-ltb (v .mtime .nanoseconds) nanosecondsEnd (h .mtime),
       lt-ltb (v .ctime .nanoseconds) nanosecondsEnd (h .ctime),
       good-size v (h .size),
+      good-verifier v (h .verifier),
     )
     (every-all (goodBlock r v) fileBlocks (λ k l. block-good r v k h l))
 
@@ -325,6 +372,8 @@ free-from s at e z =
       mtime = record { seconds = number mtimeOffset (lit≤ tt) (lit≤ tt) i; nanoseconds = nano mtimeOffset (lit≤ tt) (lit≤ tt) i };
       ctime = record { seconds = number ctimeOffset (lit≤ tt) (lit≤ tt) i; nanoseconds = nano ctimeOffset (lit≤ tt) (lit≤ tt) i };
       blocks = halves-zero s (at + blocksOffset) fileBlocks (within blocksOffset (2 * fileBlocks) (lit≤ tt) (lit≤ tt)) i;
+      verifier = be-zero s (at + verifierOffset) 8 (within verifierOffset 8 (lit≤ tt) (lit≤ tt)) i;
+      exclusive = number exclusiveOffset (lit≤ tt) (lit≤ tt) i;
     }
   where
     within : (k w : ℕ) → modeOffset ≤ k → k + w ≤ objectLength → part s (at + k) w ≡ zeros w
@@ -362,7 +411,10 @@ free-zero s at g h e =
     let i = time atimeOffset (lit≤ tt) (lit≤ tt) d (f (λ v. v .atime .seconds)) (f (λ v. v .atime .nanoseconds)) in
     let j = time mtimeOffset (lit≤ tt) (lit≤ tt) i (f (λ v. v .mtime .seconds)) (f (λ v. v .mtime .nanoseconds)) in
     let k = time ctimeOffset (lit≤ tt) (lit≤ tt) j (f (λ v. v .ctime .seconds)) (f (λ v. v .ctime .nanoseconds)) in
-    join blocksOffset (2 * fileBlocks) (lit≤ tt) k (zero-halves s (at + blocksOffset) fileBlocks (omega arith) (ap (λ (v : Object). v .blocks) e))
+    let m = join blocksOffset (2 * fileBlocks) (lit≤ tt) k
+    (zero-halves s (at + blocksOffset) fileBlocks (omega arith) (ap (λ (v : Object). v .blocks) e)) in
+    let n = join verifierOffset 8 (lit≤ tt) m (zero-part s (at + verifierOffset) 8 (omega arith) (f (λ v. v .verifier))) in
+    word exclusiveOffset (lit≤ tt) (lit≤ tt) n (f (λ v. v .exclusive))
   where
     -- zeros from the mode up to k
     ZeroTo : ℕ → Type 0
@@ -618,8 +670,9 @@ leading s h =
 pub valid : (s : Store) → passes s ≡ true → Valid s
 unfolding goodRoot
 valid s e =
-    let d = demands s e in
-    let w = shaped s (d .shape) in
+    let a = demands s e in
+    let d = a .on-records in
+    let w = shaped s (a .shape) in
     record {
       shaped = w;
       root = directory-true s 0 (d .root);
@@ -638,11 +691,13 @@ passes-valid s v =
     let w = v .shaped in
     passes-by s (record {
       shape = shape-true s w;
-      root = true-directory s 0 (v .root);
-      good-objects = every-all (goodObject s) (objects s) (λ o (l : o < objects s). good-object s o (omega arith) (v .good-objects o l));
-      good-names = every-all (goodNameRecord s) (names s) (λ n (l : n < names s). record-good s n (omega arith) (v .good-names n l));
-      distinct = names-distinct s (v .distinct);
-      named = once-named s (v .named);
-      used-once = once-blocks s (v .used-once);
-      leads = leading s (v .leads);
+      on-records = record {
+        root = true-directory s 0 (v .root);
+        good-objects = every-all (goodObject s) (objects s) (λ o (l : o < objects s). good-object s o (omega arith) (v .good-objects o l));
+        good-names = every-all (goodNameRecord s) (names s) (λ n (l : n < names s). record-good s n (omega arith) (v .good-names n l));
+        distinct = names-distinct s (v .distinct);
+        named = once-named s (v .named);
+        used-once = once-blocks s (v .used-once);
+        leads = leading s (v .leads);
+      };
     })

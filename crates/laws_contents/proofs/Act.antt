@@ -21,17 +21,18 @@ use Rattle.spec.specs.Image.{Store, objects, objectAt}
 use Rattle.spec.specs.Procedures.{cut, act}
 use Rattle.spec.specs.Procedures.Attributes.{checkSetattr, setattrEdit, edited, setattr}
 use Rattle.spec.specs.Procedures.Data.{checkWrite, writeDone, write}
-use Rattle.spec.specs.Procedures.Names.{touchDirectory, newEdit, createdIn, Target, new, existing}
-use Rattle.spec.specs.Procedures.Names.{settableIn, createEdit, checkCreate, create, checkMkdir, mkdir}
+use Rattle.spec.specs.Procedures.Names.{newObject, touchDirectory, newEdit, createdIn, Target, new, existing}
+use Rattle.spec.specs.Procedures.Names.{settableIn, newFile, createEdit, checkCreate, create, checkMkdir, mkdir}
 use Rattle.spec.specs.Procedures.Removal.{checkRemove, checkRmdir, removeFrom, remove, rmdir, checkRename, renameEdit, failRenaming, renamedTo, rename}
 use Rattle.spec.specs.Results.{Result, Done, failChanging, settle}
 use Rattle.spec.specs.Serve.{serve}
-use Rattle.laws.proofs.ActGood.{how-settable, not-given}
+use Rattle.laws.proofs.ActGood.{not-given}
 use Rattle.laws.proofs.ArgumentRange.{FitsHow, FitsArguments, arguments-fit}
 use Rattle.laws.proofs.Count.{true-false}
 use Rattle.laws.proofs.Error.{getattr-store, lookup-store, access-store, read-store, readdir-store, fsstat-store, fsinfo-store, pathconf-store, commit-store}
 use Rattle.laws.proofs.GoodRecords.{GoodRecords, GoodClock, used-at}
 use Rattle.laws.proofs.Handles.{reached-passes, directory-passes}
+use Rattle.laws.proofs.NewObject.{new-fresh, file-kind, file-fresh}
 use Rattle.laws.proofs.Passed.{setattr-passed, write-passed, CreatePassed, create-passed, mkdir-passed}
 use Rattle.laws.proofs.Passed.{remove-passed, rmdir-passed, rename-passed, found-record}
 use Rattle.laws.proofs.Range.{Below}
@@ -93,10 +94,11 @@ module _ (s : Store) (g : GoodRecords s) (c : Context) (k : GoodClock (c .clock)
   not-new o e q = omega (arith, ap (λ (i : ℕ). objectAt s i .kind) q)
 
   create-target : (h text : List ℕ) (manner : How) (d : ℕ) (t : Target) → Below 256 text → FitsHow manner → ¬ Named s h text p
-      → CreatePassed s h text manner d t → contents (createEdit s c d text (settableIn manner) t .store) p ≡ contents s p
+      → CreatePassed s h text manner d t → contents (createEdit s c d text manner t .store) p ≡ contents s p
   create-target h text manner d (new o n) w f z q =
-      new-others s g c k REGULAR o n d text (settableIn manner) (_⊎_.inl refl) (λ _. refl) (q .target .1) (q .reached .below) (q .directory) (q .good) w
-      (how-settable manner f) (q .allowed) p l (not-new o (q .target .1 .object-free))
+      new-others s g c k (newFile (c .clock) manner) (settableIn manner .size) o n d text (file-fresh (c .clock) manner k f (q .allowed))
+      (λ _. file-kind (c .clock) manner) (q .allowed .size) (q .target .1) (q .reached .below) (q .directory) (q .good) w p l
+      (not-new o (q .target .1 .object-free))
   create-target h text manner d (existing o) w f z q =
       let (n, e, i, x) = q .target in
       let y = found-record s d text n e in
@@ -114,17 +116,18 @@ module _ (s : Store) (g : GoodRecords s) (c : Context) (k : GoodClock (c .clock)
       → contents (create s c h text manner .store) p ≡ contents s p
   unfolding create
   create-frame h text manner w f z =
-      settled (failChanging s h) (checkCreate s h text manner) (λ x. createEdit s c (x .0) text (settableIn manner) (x .1)) (λ x e.
+      settled (failChanging s h) (checkCreate s h text manner) (λ x. createEdit s c (x .0) text manner (x .1)) (λ x e.
       create-target h text manner (x .0) (x .1) w f z (create-passed s h text manner x e))
 
   mkdir-frame : (h text : List ℕ) (a : Settable) → Below 256 text → FitsSettable a → contents (mkdir s c h text a .store) p ≡ contents s p
   unfolding mkdir
   mkdir-frame h text a w f =
-      settled (failChanging s h) (checkMkdir s h text a) (λ x. createdIn s (newEdit s c DIRECTORY (x .1) (x .2) (x .0) text a) (x .0) (x .1)) (λ x e.
+      let v = newObject (c .clock) DIRECTORY a in
+      settled (failChanging s h) (checkMkdir s h text a) (λ x. createdIn s (newEdit s c v (a .size) (x .1) (x .2) (x .0) text) (x .0) (x .1)) (λ x e.
       let q = mkdir-passed s h text a x e in
-      new-others s g c k DIRECTORY (x .1) (x .2) (x .0) text a (_⊎_.inr refl) (λ given. true-false (sym given ∙ q .no-size))
-      (rw (not-given (a .size) (q .no-size)) (q .room)) (q .reached .below) (q .directory) (q .good) w f (q .allowed) p l
-      (not-new (x .1) (q .room .object-free)))
+      new-others s g c k v (a .size) (x .1) (x .2) (x .0) text (new-fresh (c .clock) DIRECTORY a k (_⊎_.inr refl) f (q .allowed))
+      (λ given. true-false (sym given ∙ q .no-size)) (q .allowed .size) (rw (not-given (a .size) (q .no-size)) (q .room)) (q .reached .below)
+      (q .directory) (q .good) w p l (not-new (x .1) (q .room .object-free)))
 
   remove-frame : (h text : List ℕ) → ¬ Named s h text p → contents (remove s c h text .store) p ≡ contents s p
   unfolding remove removeFrom

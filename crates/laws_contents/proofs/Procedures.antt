@@ -1,24 +1,24 @@
 -- The edits of SETATTR, WRITE, CREATE, MKDIR, REMOVE, RMDIR and RENAME, as the contents of files show them. Assumes nothing.
 use mathlib.Core.Path.{_≡_, refl, ap, _∙_}
-use mathlib.Core.Logic.{_≢_, _⊎_, ⊎-elim}
+use mathlib.Core.Logic.{_≢_}
 use mathlib.Core.Bool.{true}
 use mathlib.Core.List.{List, []}
-use Prim.Native.Nat.{ℕ, _^_, _<_, min}
+use Prim.Native.Nat.{ℕ, _^_, _≤_, _<_, min}
 use native.Mathlib.Omega.{arith}
 use lib.Dec.{lit<}
 use lib.ListN.{length, take, length-take}
-use Rattle.kinds.specs.Numbers.{REGULAR, DIRECTORY, mostTransferBytes}
+use Rattle.kinds.specs.Numbers.{REGULAR, DIRECTORY, mostFileBytes, mostTransferBytes}
 use Rattle.kinds.specs.declared.object.Object.{Object}
 use Rattle.kinds.specs.declared.object.Context.{Context}
 use Rattle.kinds.specs.declared.call.SetSize.{SetSize}
 use Rattle.kinds.specs.declared.call.SetSize.the-variants as SetSize
 use Rattle.kinds.specs.declared.call.Settable.{Settable}
 use Rattle.kinds.specs.declared.call.Guard.{Guard}
-use Rattle.spec.specs.Edits.{withAttributes, setAttributes, onlyCtime, mtimeAndCtime, resize, withGeneration, createObject, removeObject, moveName}
+use Rattle.spec.specs.Edits.{setAttributes, onlyCtime, mtimeAndCtime, resize, withGeneration, createObject, removeObject, moveName}
 use Rattle.spec.specs.Image.{Store, objects, names, blocks, objectAt, nameAt}
 use Rattle.spec.specs.Procedures.Attributes.{isGiven, sizeSet, sizeTouches, resizeTo, setattrEdit}
 use Rattle.spec.specs.Procedures.Data.{writeStore}
-use Rattle.spec.specs.Procedures.Names.{newObject, touchDirectory, newEdit, existingEdit}
+use Rattle.spec.specs.Procedures.Names.{touchDirectory, newEdit, existingEdit}
 use Rattle.spec.specs.Procedures.Removal.{renameEdit}
 use Rattle.spec.specs.Room.{sizeOf, freeBlockCount}
 use Rattle.laws.proofs.ActGood.{regular-of}
@@ -27,15 +27,17 @@ use Rattle.laws.proofs.CreateObject.{create-object, create-object-uses}
 use Rattle.laws.proofs.GoodRecords.{GoodRecords, GoodClock, StillGood, clock-fits, live-at, free-size, used-at, create-object-still}
 use Rattle.laws.proofs.Kept.{Sound}
 use Rattle.laws.proofs.MoveName.{move-name}
+use Rattle.laws.proofs.NewObject.{FreshObject}
 use Rattle.laws.proofs.Passed.{SetattrPassed, WritePassed, NewRoom, RenamePassed, found-record}
 use Rattle.laws.proofs.Range.{Below, below-take}
 use Rattle.laws.proofs.RemoveObject.{remove-object}
 use Rattle.laws.proofs.SameReads.{freeBlockCount-reads}
-use Rattle.laws.proofs.SetAttributes.{FitsSettable, Allowed, set-attributes, only-ctime-fits, mtime-and-ctime-fits, size-touches-fits, new-fits, new-live}
+use Rattle.laws.proofs.SetAttributes.{FitsSettable, set-attributes, only-ctime-fits, mtime-and-ctime-fits, size-touches-fits}
 use Rattle.laws.proofs.Valid.{GoodName, Used}
 use Rattle.laws_contents.specs.Contents.{contents}
 use Rattle.laws_contents.specs.Written.{written, sizedTo}
-use Rattle.laws_contents.proofs.RecordEdits.{set-attributes-contents, move-name-contents, create-object-others, create-object-none}
+use Rattle.laws_contents.proofs.RecordEdits.{set-attributes-contents, forget-verifier-contents, move-name-contents, create-object-others}
+use Rattle.laws_contents.proofs.RecordEdits.{create-object-none}
 use Rattle.laws_contents.proofs.RemoveObject.{remove-object-others}
 use Rattle.laws_contents.proofs.SizeSet.{MaySize, resize-to-still, resize-to-contents, resize-to-others}
 use Rattle.laws_contents.proofs.WriteEdit.{write-store-written, write-store-others}
@@ -52,14 +54,20 @@ module _ (s : Store) (g : GoodRecords s) (c : Context) (k : GoodClock (c .clock)
         room = q .room;
       }
 
-  -- attributes are in no file's contents
+  -- attributes and the verifier are in no file's contents
   attributes-set : (a : Settable) (o : ℕ) → FitsSettable a → MaySize s o (a .size) → (p : ℕ) → p < objects s
       → contents (setattrEdit s c o a) p ≡ contents (resizeTo s o (a .size)) p
   unfolding setattrEdit
   attributes-set a o f m p l =
+      let t = resizeTo s o (a .size) in
       let r = resize-to-still s g o (a .size) m in
-      set-attributes-contents (resizeTo s o (a .size)) (c .clock) o (sizeTouches a) (r .good .sound) (rw (r .shape .objects) (m .below))
-      (clock-fits (c .clock) k) (size-touches-fits a f) p (rw (r .shape .objects) l)
+      let below : o < objects t = rw (r .shape .objects) (m .below) in
+      let beside : p < objects t = rw (r .shape .objects) l in
+      let clock = clock-fits (c .clock) k in
+      let fits = size-touches-fits a f in
+      let e = set-attributes t (c .clock) o (sizeTouches a) (r .good .sound) below clock fits in
+      forget-verifier-contents (setAttributes t (c .clock) o (sizeTouches a)) o (e .sound) (rw (e .shape .objects) below) p (rw (e .shape .objects) beside)
+      ∙ set-attributes-contents t (c .clock) o (sizeTouches a) (r .good .sound) below clock fits p beside
 
   -- SETATTR cuts or pads the contents where it sets a size
   pub setattr-contents : (h : List ℕ) (a : Settable) (w : Guard) (o : ℕ) → FitsSettable a → SetattrPassed s h a w o
@@ -117,67 +125,58 @@ module _ (s : Store) (g : GoodRecords s) (c : Context) (k : GoodClock (c .clock)
       ∙ resize-to-others s g o (SetSize.To n) m p l d
 
   -- ---- CREATE and MKDIR of a new name
-  module _ (kind o n d : ℕ) (text : List ℕ) (a : Settable) (either : (kind ≡ REGULAR) ⊎ (kind ≡ DIRECTORY)) (sized : isGiven (a .size) ≡ true → kind ≡ REGULAR)
-      (room : NewRoom s (sizeSet (a .size) 0) o n) (below : d < objects s) (dir : objectAt s d .kind ≡ DIRECTORY) (good : GoodName text) (w : Below 256 text)
-      (f : FitsSettable a) (allow : Allowed a) where
+  module _ (v : Object) (x : SetSize) (o n d : ℕ) (text : List ℕ) (fresh : FreshObject v) (sized : isGiven x ≡ true → v .kind ≡ REGULAR)
+      (small : sizeSet x 0 ≤ mostFileBytes) (room : NewRoom s (sizeSet x 0) o n) (below : d < objects s) (dir : objectAt s d .kind ≡ DIRECTORY)
+      (good : GoodName text) (w : Below 256 text) where
     -- the store with the new object, and its size to be set
     abbrev born : Store
-    born = createObject s o n (newObject (c .clock) kind a) d text
-
-    word : kind < 2 ^ 32
-    word = ⊎-elim (λ (e : kind ≡ 1). omega arith) (λ (e : kind ≡ 2). omega arith) either
+    born = createObject s o n v d text
 
     directory-word : d < 2 ^ 32
     directory-word = let z = g .sound .shaped in omega arith
 
     born-still : StillGood s born
-    unfolding newObject withAttributes
     born-still =
-        create-object-still s g o n (newObject (c .clock) kind a) d text (room .object-below) (room .object-free) (room .generation-low) (room .name-below)
-        (new-fits (c .clock) kind a (clock-fits (c .clock) k) word f) (new-live (blocks s) (c .clock) kind a (k .nanoseconds) allow either) refl
-        below dir good w
+        create-object-still s g o n v d text (room .object-below) (room .object-free) (room .generation-low) (room .name-below) (fresh .fits)
+        (fresh .live (blocks s)) (fresh .empty) below dir good w
 
-    born-size : MaySize born o (a .size)
-    unfolding newObject withAttributes withGeneration sizeOf
+    born-size : MaySize born o x
+    unfolding withGeneration sizeOf
     born-size =
-        let x = newObject (c .clock) kind a in
         let h = g .sound in
         let l = room .object-below in
-        let fits = new-fits (c .clock) kind a (clock-fits (c .clock) k) word f in
-        let e = create-object s o n x d text h l (room .name-below) fits directory-word (good .short) w in
+        let e = create-object s o n v d text h l (room .name-below) (fresh .fits) directory-word (good .short) w in
         let free : freeBlockCount born ≡ freeBlockCount s = freeBlockCount-reads s born (e .shape .blocks)
-        (λ q _. create-object-uses s o n x d text h l (room .name-below) fits directory-word (good .short) w (free-size s g o l (room .object-free)) refl q) in
-        let size : objectAt born o .size ≡ 0 = ap (λ (y : Object). y .size) (e .object) in
+        (λ q _. create-object-uses s o n v d text h l (room .name-below) (fresh .fits) directory-word (good .short) w
+        (free-size s g o l (room .object-free)) (fresh .empty) q) in
+        let size : objectAt born o .size ≡ 0 = ap (λ (y : Object). y .size) (e .object) ∙ fresh .empty in
         record {
           below = rw (e .shape .objects) l;
           regular = λ given. ap (λ (y : Object). y .kind) (e .object) ∙ sized given;
-          small = allow .size;
+          small = small;
           room = rw (size, free) (omega (arith, room .room));
         }
 
     -- the times of the directory are set last
-    new-touched : (p : ℕ) → p < objects s → contents (newEdit s c kind o n d text a) p ≡ contents (resizeTo born o (a .size)) p
+    new-touched : (p : ℕ) → p < objects s → contents (newEdit s c v x o n d text) p ≡ contents (resizeTo born o x) p
     unfolding newEdit
     new-touched p l =
-        let r = resize-to-still born (born-still .good) o (a .size) born-size in
+        let r = resize-to-still born (born-still .good) o x born-size in
         let e = born-still .shape in
-        touched (resizeTo born o (a .size)) (r .good .sound) d p (rw (r .shape .objects, e .objects) below) (rw (r .shape .objects, e .objects) l)
+        touched (resizeTo born o x) (r .good .sound) d p (rw (r .shape .objects, e .objects) below) (rw (r .shape .objects, e .objects) l)
 
     -- a new file's contents are zeros up to its size
-    pub new-contents : contents (newEdit s c kind o n d text a) o ≡ sizedTo [] (a .size)
-    unfolding newObject withAttributes
+    pub new-contents : contents (newEdit s c v x o n d text) o ≡ sizedTo [] x
     new-contents =
-        new-touched o (room .object-below) ∙ resize-to-contents born (born-still .good) o (a .size) born-size
-        ∙ ap (λ (z : List ℕ). sizedTo z (a .size))
-        (create-object-none s o n (newObject (c .clock) kind a) d text (g .sound) (room .object-below) (room .name-below)
-        (new-fits (c .clock) kind a (clock-fits (c .clock) k) word f) directory-word (good .short) w refl)
+        new-touched o (room .object-below) ∙ resize-to-contents born (born-still .good) o x born-size
+        ∙ ap (λ (z : List ℕ). sizedTo z x)
+        (create-object-none s o n v d text (g .sound) (room .object-below) (room .name-below) (fresh .fits) directory-word (good .short) w (fresh .empty))
 
     -- every other file keeps its contents
-    pub new-others : (p : ℕ) → p < objects s → p ≢ o → contents (newEdit s c kind o n d text a) p ≡ contents s p
+    pub new-others : (p : ℕ) → p < objects s → p ≢ o → contents (newEdit s c v x o n d text) p ≡ contents s p
     new-others p l q =
-        new-touched p l ∙ resize-to-others born (born-still .good) o (a .size) born-size p (rw (born-still .shape .objects) l) q
-        ∙ create-object-others s o n (newObject (c .clock) kind a) d text (g .sound) (room .object-below) (room .name-below)
-        (new-fits (c .clock) kind a (clock-fits (c .clock) k) word f) directory-word (good .short) w p l q
+        new-touched p l ∙ resize-to-others born (born-still .good) o x born-size p (rw (born-still .shape .objects) l) q
+        ∙ create-object-others s o n v d text (g .sound) (room .object-below) (room .name-below) (fresh .fits) directory-word (good .short) w p l q
 
   -- ---- REMOVE and RMDIR: every other file keeps its contents
   pub removed-others : (d n : ℕ) → n < names s → Used s n → d < objects s → (p : ℕ) → p < objects s → p ≢ nameAt s n .child

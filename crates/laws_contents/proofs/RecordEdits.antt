@@ -9,7 +9,7 @@ use Rattle.kinds.specs.declared.object.Time.{Time}
 use Rattle.kinds.specs.declared.object.Object.{Object}
 use Rattle.kinds.specs.declared.call.Settable.{Settable}
 use Rattle.spec.specs.Bytes.{part}
-use Rattle.spec.specs.Edits.{setAttributes, createObject, moveName, withGeneration}
+use Rattle.spec.specs.Edits.{setAttributes, forgetVerifier, createObject, moveName, withGeneration}
 use Rattle.spec.specs.Image.{Store, objects, names, blockStart, objectAt}
 use Rattle.spec.specs.Room.{sizeOf, byteAt}
 use Rattle.laws.proofs.CreateObject.{create-object, create-object-data}
@@ -19,7 +19,7 @@ use Rattle.laws.proofs.MoveName.{move-name, move-name-data}
 use Rattle.laws.proofs.Range.{Below}
 use Rattle.laws.proofs.Records.{FitsTime, FitsObject}
 use Rattle.laws.proofs.SameReads.{sizeOf-reads, byteAt-reads}
-use Rattle.laws.proofs.SetAttributes.{FitsSettable, set-attributes-structure, set-attributes-data}
+use Rattle.laws.proofs.SetAttributes.{FitsSettable, set-attributes-structure, set-attributes-data, forget-verifier-structure, forget-verifier-data}
 use Rattle.laws.proofs.Shape.{SameShape}
 use Rattle.laws_contents.specs.Contents.{contents}
 use Rattle.laws_contents.proofs.Laid.{byte-same}
@@ -51,7 +51,13 @@ set-attributes-contents s clock o a h l c f p m =
     let e = set-attributes-structure s clock o a h l c f in
     contents-data s t (e .tree .shape) p (e .size p m) (e .blocks p m) (set-attributes-data s clock o a h l)
 
--- FIFTH EDIT: a name is in no file's contents
+-- SECOND EDIT: a verifier is in no file's contents
+pub forget-verifier-contents : (s : Store) (o : ℕ) → Sound s → o < objects s → (p : ℕ) → p < objects s → contents (forgetVerifier s o) p ≡ contents s p
+forget-verifier-contents s o h l p m =
+    let e = forget-verifier-structure s o h l in
+    contents-data s (forgetVerifier s o) (e .tree .shape) p (e .size p m) (e .blocks p m) (forget-verifier-data s o h l)
+
+-- SIXTH EDIT: a name is in no file's contents
 pub move-name-contents : (s : Store) (n d : ℕ) (text : List ℕ) → Sound s → n < names s → d < 2 ^ 32 → length text ≤ mostNameBytes → Below 256 text
     → (p : ℕ) → p < objects s → contents (moveName s n d text) p ≡ contents s p
 move-name-contents s n d text h l c f b p m =
@@ -62,7 +68,7 @@ move-name-contents s n d text h l c f b p m =
 
 module _ (s : Store) (o n : ℕ) (v : Object) (d : ℕ) (text : List ℕ) (h : Sound s) (l : o < objects s) (k : n < names s)
     (f : FitsObject v) (c : d < 2 ^ 32) (g : length text ≤ mostNameBytes) (b : Below 256 text) where
-  -- THIRD EDIT: every other file keeps its contents
+  -- FOURTH EDIT: every other file keeps its contents
   pub create-object-others : (p : ℕ) → p < objects s → p ≢ o → contents (createObject s o n v d text) p ≡ contents s p
   create-object-others p m q =
       let t = createObject s o n v d text in

@@ -1,4 +1,4 @@
--- The second edit: a file's contents are cut, or padded with zeros, and every other file keeps its contents. Assumes nothing.
+-- The third edit: a file's contents are cut, or padded with zeros, and every other file keeps its contents. Assumes nothing.
 use mathlib.Core.Path.{_≡_, sym, ap, _∙_}
 use mathlib.Core.Logic.{_≢_, ⊎-elim, by-cases, _⊎_}
 use mathlib.Core.List.{List, _++_}
@@ -214,7 +214,7 @@ module _ (s : Store) (g : GoodRecords s) (o size : ℕ) (l : o < objects s) (k :
       let w = times-at r 0 (addedBlocks s o size) n (omega (arith, added-length s o size (g .sound) l live small room)) q in
       resize-zero r (i % blockLength) (mod-lt i (lit< tt)) (omega (arith, times-append r (freedBlocks s o size) (addedBlocks s o size)))
 
-  -- SECOND EDIT: the contents are the old ones, cut to the new size or padded with zeros up to it
+  -- THIRD EDIT: the contents are the old ones, cut to the new size or padded with zeros up to it
   pub resize-contents : contents (resize s o size) o ≡ atSize (contents s o) size
   unfolding byteAt
   resize-contents =
