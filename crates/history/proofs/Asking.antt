@@ -1,6 +1,5 @@
 -- That a request asks for room, in the words of the checks themselves. `Conditions` has that these are the words of the book. Assumes nothing.
 use mathlib.Core.Path.{_≡_}
-use mathlib.Core.Logic.{_⊎_}
 use mathlib.Core.Bool.{true, false, _&&_, _||_}
 use mathlib.Core.Option.{some, none}
 use Prim.Native.Nat.{ℕ, _+_, _≤_, _<_, min}
@@ -19,7 +18,7 @@ use Rattle.spec.specs.Image.{Store, objectAt, nameAt}
 use Rattle.spec.specs.Procedures.{cut}
 use Rattle.spec.specs.Procedures.Attributes.{isGiven, sizeSet, badAttributes, differs}
 use Rattle.spec.specs.Procedures.Data.{reachRegular, grown}
-use Rattle.spec.specs.Procedures.Names.{checkNew}
+use Rattle.spec.specs.Procedures.Names.{settableIn, checkNew}
 use Rattle.spec.specs.Room.{isRegular, isDirectory, sizeOf, findName}
 use Rattle.history.specs.Run.{Request}
 use Rattle.history.specs.Statement.{Asks, Room, growth, newObject}
@@ -36,13 +35,12 @@ pub data AsksStore (s : Store) (x : Request) : Room → Type 0 where
       → reachRegular s (cut (x .call) h) ≡ passed o → n ≡ length (cut (x .call) bytes)
       → 0 < n → offset + min n mostTransferBytes ≤ mostFileBytes
       → AsksStore s x (growth (sizeOf s o) (grown s o offset (min n mostTransferBytes)))
-  -- CREATE of a new file, UNCHECKED or GUARDED
-  byCreate : (target : NameIn) (manner : How) (a : Settable) (d : ℕ) → Asks x (Call.Create target manner)
-      → (manner ≡ How.Unchecked a) ⊎ (manner ≡ How.Guarded a)
+  -- CREATE of a new file, in any manner
+  byCreate : (target : NameIn) (manner : How) (d : ℕ) → Asks x (Call.Create target manner)
       → reachDirectory s (cut (x .call) (target .directory)) ≡ passed d
-      → checkNew (cut (x .call) (target .name)) (badAttributes a) ≡ passed tt
+      → checkNew (cut (x .call) (target .name)) (badAttributes (settableIn manner)) ≡ passed tt
       → findName s d (cut (x .call) (target .name)) ≡ none
-      → AsksStore s x (newObject (sizeSet (a .size) 0))
+      → AsksStore s x (newObject (sizeSet (settableIn manner .size) 0))
   -- CREATE, UNCHECKED, of an existing regular file
   byRecreate : (target : NameIn) (a : Settable) (d n : ℕ) → Asks x (Call.Create target (How.Unchecked a))
       → reachDirectory s (cut (x .call) (target .directory)) ≡ passed d

@@ -7,6 +7,8 @@ use mathlib.Core.List.{List}
 use Prim.Native.Nat.{ℕ}
 use native.Mathlib.Omega.{arith}
 use Rattle.kinds.specs.declared.call.NameIn.{NameIn}
+use Rattle.kinds.specs.declared.call.Settable.{Settable}
+use Rattle.kinds.specs.declared.call.How.{How}
 use Rattle.kinds.specs.declared.call.Arguments.{Arguments}
 use Rattle.kinds.specs.declared.call.Arguments.the-variants as Call
 use Rattle.spec.specs.Checked.{Checked, refused, passed}
@@ -22,7 +24,7 @@ use Rattle.history.proofs.Sum.{holds, holds-true}
 use Rattle.laws.proofs.Error.{lookup-store}
 use Rattle.laws.proofs.Passed.{lookup-passed, look-found}
 use Rattle.laws.proofs.Valid.{passes-valid}
-use Rattle.history.specs.Book.{Ledger, asked, foundHandle, madeHandle, isOk}
+use Rattle.history.specs.Book.{Ledger, asked, foundHandle, madeHandle, isOk, note}
 use Rattle.history.specs.Run.{Request, Lent, outcomeOf, replyTo}
 use Rattle.history.specs.Statement.{Asks, Carries, lookup, create, mkdir}
 use Rattle.history.proofs.View.{LiveIn, names?}
@@ -38,7 +40,8 @@ use Rattle.history.proofs.Asked.{acted, Idle, served}
 use Rattle.history.proofs.Ranges.{asked-fits}
 use Rattle.history.proofs.Noted.{Answer, showing-says, not-ok}
 use Rattle.history.proofs.Making.{handle-seen}
-use Rattle.history.proofs.Create.{create-made, mkdir-made}
+use Rattle.history.proofs.Create.{Made, create-made, mkdir-made}
+use Rattle.history.proofs.Lines.{lined-current}
 use Rattle.history.proofs.Next.{answer-to, clocked}
 
 module _ (σ p q r : ℕ) (s : Store) (L : Ledger) (I : Inv σ p q r s L) where
@@ -110,6 +113,33 @@ module _ (σ p q r : ℕ) (s : Store) (L : Ledger) (I : Inv σ p q r s L) where
         let k = asks-of x a t e in
         subst (λ (u : Store). Current σ (view u) h) (sym (acted s x a k (passes-valid s (I .valid)) .store)) (f k)
 
+    -- what an OK reply to CREATE and to MKDIR owes: their handle has a line
+    pub file-made : (place : NameIn) (manner : How) → asked (x .call) ≡ some (Call.Create place manner)
+        → Made σ p q r s (act s (x .context) (x .call) (Call.Create place manner) .store) (note (x .call) (replyTo s x) L)
+        (cut (x .call) (place .directory)) (cut (x .call) (place .name)) (replyTo s x)
+    unfolding act
+    file-made place manner e =
+        let a = Call.Create place manner in
+        let k = asks-of x a t e in
+        create-made σ p q r s L I (x .context) (clocked σ p q r s L I x a l k) (x .call) (replyTo s x) (l .bytes) place manner
+        (asked-fits (x .call) (l .bytes) a e) (answer-to σ p q r s L I x a k)
+
+    directory-made : (place : NameIn) (b : Settable) → asked (x .call) ≡ some (Call.Mkdir place b)
+        → Made σ p q r s (act s (x .context) (x .call) (Call.Mkdir place b) .store) (note (x .call) (replyTo s x) L)
+        (cut (x .call) (place .directory)) (cut (x .call) (place .name)) (replyTo s x)
+    unfolding act
+    directory-made place b e =
+        let a = Call.Mkdir place b in
+        let k = asks-of x a t e in
+        mkdir-made σ p q r s L I (x .context) (clocked σ p q r s L I x a l k) (x .call) (replyTo s x) (l .bytes) place b
+        (asked-fits (x .call) (l .bytes) a e) (answer-to σ p q r s L I x a k)
+
+    made-current : {u : Store} {M : Ledger} {d text : List ℕ} → Made σ p q r s u M d text (replyTo s x) → Current σ (view u) (madeHandle (replyTo s x))
+    made-current {u} {M} made =
+        let (line, m, e, _) = made .named t in
+        let (o, v, g, _) = lined-current σ p q r u M (made .owes .inv) (madeHandle (replyTo s x)) (line .kind) (line, m, e, refl) in
+        (o, v, g)
+
     pub carried : (h : List ℕ) → Carries x (replyTo s x) h → Current σ (view (outcomeOf s x .store)) h
     unfolding act
     carried h (lookup place e) =
@@ -117,11 +147,5 @@ module _ (σ p q r : ℕ) (s : Store) (L : Ledger) (I : Inv σ p q r s L) where
         subst (λ (u : Store). Current σ (view u) (foundHandle (replyTo s x)))
         (sym (lookup-store s (cut (x .call) (place .directory)) (cut (x .call) (place .name))))
         (lookup-shown (x .call) (replyTo s x) place (answer-to σ p q r s L I x (Call.Lookup place) k) t))
-    carried h (create place manner e) =
-        carried-by (Call.Create place manner) (madeHandle (replyTo s x)) e (λ k.
-        create-made σ p q r s L I (x .context) (clocked σ p q r s L I x (Call.Create place manner) l k) (x .call) (replyTo s x) (l .bytes) place manner
-        (asked-fits (x .call) (l .bytes) (Call.Create place manner) e) (answer-to σ p q r s L I x (Call.Create place manner) k) .shown t)
-    carried h (mkdir place a e) =
-        carried-by (Call.Mkdir place a) (madeHandle (replyTo s x)) e (λ k.
-        mkdir-made σ p q r s L I (x .context) (clocked σ p q r s L I x (Call.Mkdir place a) l k) (x .call) (replyTo s x) (l .bytes) place a
-        (asked-fits (x .call) (l .bytes) (Call.Mkdir place a) e) (answer-to σ p q r s L I x (Call.Mkdir place a) k) .shown t)
+    carried h (create place manner e) = carried-by (Call.Create place manner) (madeHandle (replyTo s x)) e (λ _. made-current (file-made place manner e))
+    carried h (mkdir place a e) = carried-by (Call.Mkdir place a) (madeHandle (replyTo s x)) e (λ _. made-current (directory-made place a e))

@@ -3,7 +3,7 @@
 use mathlib.Core.Path.{_≡_, refl, sym, ap, _∙_, subst}
 use mathlib.Core.Bool.{Bool, true, false, _&&_, _||_}
 use mathlib.Core.Option.{Option, some, none}
-use mathlib.Core.Logic.{⊎-elim}
+use mathlib.Core.Logic.{inl, inr, ⊎-elim}
 use mathlib.Core.List.{List, [], _∷_, List·Memᴰ, List·Memᴰ·cases-cons, List·Memᴰ·not-nil}
 use Prim.Native.Nat.{ℕ, _+_, _<_, min, max}
 use native.Mathlib.Omega.{arith}
@@ -11,38 +11,43 @@ use lib.Dec.{eqb, lit<}
 use Rattle.kinds.specs.Numbers.{mostTransferBytes}
 use Rattle.kinds.specs.declared.call.Part.{Part}
 use Rattle.kinds.specs.declared.call.NameIn.{NameIn}
+use Rattle.kinds.specs.declared.call.Settable.{Settable}
+use Rattle.kinds.specs.declared.call.How.{How}
+use Rattle.kinds.specs.declared.call.How.the-variants as How
+use Rattle.kinds.specs.declared.call.Arguments.the-variants as Call
 use Rattle.spec.specs.Checked.{Checked, refused, passed, bind, refuseIf}
+use Rattle.spec.specs.Edits.{onlyCtime}
 use Rattle.spec.specs.Handles.{handleOf, reach, reachDirectory, checkName}
-use Rattle.spec.specs.Image.{Store, stamp, objects, objectAt, nameAt}
+use Rattle.spec.specs.Image.{Store, objects, objectAt, nameAt}
 use Rattle.spec.specs.Names.{isDots}
 use Rattle.spec.specs.Procedures.{cut}
 use Rattle.spec.specs.Procedures.Attributes.{isGiven, sizeSet, badAttributes, differs}
 use Rattle.spec.specs.Procedures.Data.{reachRegular}
-use Rattle.spec.specs.Procedures.Names.{checkNew}
+use Rattle.spec.specs.Procedures.Names.{settableIn, isMadeBy, checkNew}
 use Rattle.spec.specs.Room.{isDirectory, sizeOf, findName}
 use Rattle.laws.proofs.Count.{true-false}
 use Rattle.laws.proofs.Passed.{Reached, reach-passed, directory-passed, regular-passed}
 use Rattle.laws.proofs.Range.{Below}
 use Rattle.laws.proofs.RecordRange.{below-part}
 use Rattle.laws.proofs.Valid.{true-live, regular-true, true-regular, true-directory}
-use Rattle.history.specs.Book.{under, Line, Book, Ledger, isAt, someAt}
-use Rattle.history.specs.Run.{Request, Lent, State}
-use Rattle.history.specs.Statement.{In, HasLine, HasName, StandApart, objectIn, Room, growth}
+use Rattle.history.specs.Book.{under, Line, Book, Ledger, isAt, someAt, isOk}
+use Rattle.history.specs.Run.{Request, Lent, outcomeOf, replyTo, State}
+use Rattle.history.specs.Statement.{In, HasLine, HasName, StandApart, Asks, objectIn, Room, growth, newObject}
 use Rattle.history.specs.Statement.{directoryIn, nameAsked, MayMake, AsksRoom}
 use Rattle.history.proofs.Asking.{AsksStore}
 use Rattle.history.proofs.Sum.{or-right}
-use Rattle.history.proofs.Handles.{handle-object}
 use Rattle.history.proofs.View.{entriesAt}
 use Rattle.history.proofs.Agree.{handleIn, at-yes, none-at, some-at}
-use Rattle.history.proofs.Seen.{view, kind-at, dir-at, child-at, text-at, live-in, used-of}
+use Rattle.history.proofs.Seen.{view, kind-at, child-at, live-in}
 use Rattle.history.proofs.Inv.{Inv, tree}
 use Rattle.history.proofs.Checks.{handle-reached, found-name, no-name}
-use Rattle.history.proofs.Lines.{object-lines, name-lines, lined-current, stand-apart}
-use Rattle.history.proofs.Making.{handle-seen}
+use Rattle.history.proofs.Lines.{object-lines, found-line, lined-current, stand-apart}
+use Rattle.history.proofs.Making.{handle-seen, object-seen}
 use Rattle.history.proofs.Answers.{names-at}
+use Rattle.history.proofs.Nospc.{made-before}
 
 -- two lines that stand alike are one
-one-standing : (b : Book) → StandApart b → (k l : Line) → In k b → In l b → k .standing ≡ l .standing → k ≡ l
+pub one-standing : (b : Book) → StandApart b → (k l : Line) → In k b → In l b → k .standing ≡ l .standing → k ≡ l
 one-standing [] h k l m n e = absurd (List·Memᴰ·not-nil m)
 one-standing (x ∷ b) h k l m n e = ⊎-elim
     (λ (u : k ≡ x). ⊎-elim
@@ -74,7 +79,7 @@ new-each text invalid e = go (checkName text) (isDots text) invalid e
     go (passed _) false false e = (refl, refl, refl)
 
 -- a line that stands there is met by the book's own test
-met : (b : Book) (d text : List ℕ) (l : Line) → In l b → l .standing ≡ under d text → someAt d text b ≡ true
+pub met : (b : Book) (d text : List ℕ) (l : Line) → In l b → l .standing ≡ under d text → someAt d text b ≡ true
 unfolding someAt
 met [] d text l m e = absurd (List·Memᴰ·not-nil m)
 met (x ∷ b) d text l m e = ⊎-elim
@@ -117,10 +122,6 @@ module _ (σ P Q R : ℕ) (s : Store) (L : Ledger) (I : Inv σ P Q R s L) where
   pub line-regular : (h : List ℕ) → HasLine (L .book) h 1 → (o : ℕ) × (reachRegular s h ≡ passed o)
   line-regular h x = let (o, z) = lined h 1 x in (o, regular-reached h o z)
 
-  child-object : (o : ℕ) → o < objects s → objectIn (handleOf s o) ≡ o
-  unfolding handleOf
-  child-object o l = handle-object (stamp s) o (objectAt s o .generation) (omega (arith, tree σ P Q R s L I .flat .few, I .objs))
-
   -- ---- a name in directory d, whose handle is h
   module _ (h text : List ℕ) (d : ℕ) (below : d < objects s) (type : objectAt s d .kind ≡ 2) (own : h ≡ handleIn σ (view s) d) where
     seen-type : view s .kind d ≡ 2
@@ -142,36 +143,23 @@ module _ (σ P Q R : ℕ) (s : Store) (L : Ledger) (I : Inv σ P Q R s L) where
             true-false (sym (ap (λ (x : List ℕ). someAt x text (L .book)) own
             ∙ some-at P Q σ (view s) (tree σ P Q R s L I) (L .book) (I .agrees) d text seen-type n (found-name s (I .valid .good-names) d text n f .1)) ∙ e)
 
-    -- what is found has a line there
+    -- what is found there
     found-below : (n : ℕ) → findName s d text ≡ some n → nameAt s n .child < objects s
     found-below n e =
         let (k, at) = found-name s (I .valid .good-names) d text n e in
         let T = tree σ P Q R s L I in
         live-in s (nameAt s n .child) (omega (arith, T .flat .ends n (at .0), ap (view s .kind) (child-at s n k)))
 
-    found-line : (n : ℕ) → findName s d text ≡ some n → HasName (L .book) h (handleOf s (nameAt s n .child)) text
-    found-line n e =
-        let N = I .valid .good-names in
-        let (k, at) = found-name s N d text n e in
-        name-lines σ P Q R s L I h (handleOf s (nameAt s n .child)) text .0 (
-          n,
-          k,
-          used-of s N n k (at .0),
-          ap (handleOf s) (sym (dir-at s n k) ∙ at .1) ∙ handle-seen σ P Q R s L I d below ∙ sym own,
-          refl,
-          sym (text-at s n k) ∙ at .2,
-        )
-
-    -- a line that stands there is found
-    line-found : (g : List ℕ) → HasName (L .book) h g text → (n : ℕ) × (findName s d text ≡ some n) × (g ≡ handleOf s (nameAt s n .child))
+    -- a line that stands there is found, with its object
+    line-found : (g : List ℕ) → HasName (L .book) h g text → (n : ℕ) × (findName s d text ≡ some n) × (objectIn g ≡ nameAt s n .child)
     line-found g (l, m, a, b) = go (findName s d text) refl
       where
-        go : (x : Option ℕ) → findName s d text ≡ x → (n : ℕ) × (findName s d text ≡ some n) × (g ≡ handleOf s (nameAt s n .child))
+        go : (x : Option ℕ) → findName s d text ≡ x → (n : ℕ) × (findName s d text ≡ some n) × (objectIn g ≡ nameAt s n .child)
         go none f = true-false (sym (met (L .book) h text l m b) ∙ none-there f)
         go (some n) f =
-            let (k, i, c, e) = found-line n f in
+            let (k, i, c, e) = found-line σ P Q R s L I h text d below own n f in
             let z = one-standing (L .book) (stand-apart σ P Q R s L I) l k m i (b ∙ sym e) in
-            (n, f, sym a ∙ ap (λ (y : Line). y .handle) z ∙ c)
+            (n, f, ap objectIn (sym a ∙ ap (λ (y : Line). y .handle) z ∙ c) ∙ object-seen σ P Q R s L I (nameAt s n .child) (found-below n f))
 
   -- ---- every request that asks for room
   module _ (x : Request) where
@@ -194,6 +182,14 @@ module _ (σ P Q R : ℕ) (s : Store) (L : Ledger) (I : Inv σ P Q R s L) where
             valid = c;
           }
 
+      -- CREATE of a new file, by its manner
+      in-manner : (p : NameIn) (manner : How) → Asks x (Call.Create p manner) → MayMake (L .book) x p (badAttributes (settableIn manner))
+          → someAt (directoryIn x p) (nameAsked x p) (L .book) ≡ false → AsksRoom state x (newObject (sizeSet (settableIn manner .size) 0))
+      unfolding badAttributes
+      in-manner p (How.Unchecked a) k m e = AsksRoom.byCreate p (How.Unchecked a) a k (inl refl) m e
+      in-manner p (How.Guarded a) k m e = AsksRoom.byCreate p (How.Guarded a) a k (inr refl) m e
+      in-manner p (How.Exclusive verifier) k m e = AsksRoom.byExclusive p verifier k m e
+
       pub by-book : {m : Room} → AsksStore s x m → AsksRoom state x m
       unfolding isDirectory
       by-book (AsksStore.bySetattr h a g o k e₁ e₂ e₃ e₄) =
@@ -206,9 +202,9 @@ module _ (σ P Q R : ℕ) (s : Store) (L : Ledger) (I : Inv σ P Q R s L) where
           let (w, y) = regular-passed s (cut (x .call) h) o e₁ in
           subst (λ (i : ℕ). AsksRoom state x (growth (sizeOf s i) (max (sizeOf s i) (offset + min n mostTransferBytes)))) (w .is-object)
           (AsksRoom.byWrite h offset n bytes k (subst (HasLine (L .book) (cut (x .call) h)) y (reached-line (cut (x .call) h) (part-below h) o w)) e₂ l m)
-      by-book (AsksStore.byCreate p manner a d k which e₁ e₂ e₃) =
+      by-book (AsksStore.byCreate p manner d k e₁ e₂ e₃) =
           let (w, y) = directory-passed s (directoryIn x p) d e₁ in
-          AsksRoom.byCreate p manner a k which (may-make p d (badAttributes a) (w, y) e₂)
+          in-manner p manner k (may-make p d (badAttributes (settableIn manner)) (w, y) e₂)
           (none-there (directoryIn x p) (nameAsked x p) d (w .below) y (reached-own (directoryIn x p) (part-below (p .directory)) d w) e₃)
       by-book (AsksStore.byRecreate p a d n k e₁ e₂ e₃ e₄) =
           let (w, y) = directory-passed s (directoryIn x p) d e₁ in
@@ -216,9 +212,9 @@ module _ (σ P Q R : ℕ) (s : Store) (L : Ledger) (I : Inv σ P Q R s L) where
           let o = nameAt s n .child in
           let below = found-below (directoryIn x p) (nameAsked x p) d (w .below) y own n e₃ in
           let kind = regular-true s o e₄ in
-          subst (λ (i : ℕ). AsksRoom state x (growth (sizeOf s i) (sizeSet (a .size) (sizeOf s i)))) (child-object o below)
+          subst (λ (i : ℕ). AsksRoom state x (growth (sizeOf s i) (sizeSet (a .size) (sizeOf s i)))) (object-seen σ P Q R s L I o below)
           (AsksRoom.byRecreate p a (handleOf s o) k (may-make p d (badAttributes a) (w, y) e₂)
-          (found-line (directoryIn x p) (nameAsked x p) d (w .below) y own n e₃)
+          (found-line σ P Q R s L I (directoryIn x p) (nameAsked x p) d (w .below) own n e₃)
           (object-lines σ P Q R s L I (handleOf s o) 1 .0 (o, below, true-live s o (omega (arith, kind)), refl, kind)))
       by-book (AsksStore.byMkdir p a d k e₁ e₂ e₃) =
           let (w, y) = directory-passed s (directoryIn x p) d e₁ in
@@ -229,8 +225,27 @@ module _ (σ P Q R : ℕ) (s : Store) (L : Ledger) (I : Inv σ P Q R s L) where
     new-checks : (p : NameIn) (invalid : Bool) → MayMake (L .book) x p invalid → checkNew (nameAsked x p) invalid ≡ passed tt
     new-checks p invalid m = new-all (nameAsked x p) invalid (m .goodName) (m .noDots) (m .valid)
 
+    -- EXCLUSIVE CREATE of a file that keeps its verifier, by the book
+    pub line-made : (p : NameIn) (verifier : ℕ) (h : List ℕ) → Asks x (Call.Create p (How.Exclusive verifier)) → MayMake (L .book) x p false
+        → HasName (L .book) (directoryIn x p) h (nameAsked x p) → isMadeBy s verifier (objectIn h) ≡ true
+        → (isOk (replyTo s x) ≡ true) × (outcomeOf s x .store ≡ s)
+    unfolding badAttributes
+    line-made p verifier h k m y t =
+        let (d, z) = lined (directoryIn x p) 2 (m .inDirectory) in
+        let (n, e, f) = line-found (directoryIn x p) (nameAsked x p) d (z .below) (z .type) (z .own) h y in
+        made-before σ P Q R s L I x p verifier d n k (directory-reached (directoryIn x p) d z) (new-checks p (badAttributes onlyCtime) m) e
+        (subst (λ (i : ℕ). isMadeBy s verifier i ≡ true) f t)
+
+    -- CREATE of a new file, in any manner
+    new-file : (p : NameIn) (manner : How) → Asks x (Call.Create p manner) → MayMake (L .book) x p (badAttributes (settableIn manner))
+        → someAt (directoryIn x p) (nameAsked x p) (L .book) ≡ false → AsksStore s x (newObject (sizeSet (settableIn manner .size) 0))
+    new-file p manner k m e =
+        let (d, z) = lined (directoryIn x p) 2 (m .inDirectory) in
+        AsksStore.byCreate p manner d k (directory-reached (directoryIn x p) d z) (new-checks p (badAttributes (settableIn manner)) m)
+        (there-none (directoryIn x p) (nameAsked x p) d (z .below) (z .type) (z .own) e)
+
     pub by-store : {m : Room} → AsksRoom state x m → AsksStore s x m
-    unfolding isDirectory
+    unfolding isDirectory badAttributes
     by-store (AsksRoom.bySetattr h a g kind k y e₂ e₃ e₄) =
         let (o, z) = lined (cut (x .call) h) kind y in
         subst (λ (i : ℕ). AsksStore s x (growth (sizeOf s i) (sizeSet (a .size) (sizeOf s i)))) (sym (z .is-object))
@@ -241,18 +256,17 @@ module _ (σ P Q R : ℕ) (s : Store) (L : Ledger) (I : Inv σ P Q R s L) where
         subst (λ (i : ℕ). AsksStore s x (growth (sizeOf s i) (max (sizeOf s i) (offset + min n mostTransferBytes)))) (sym (z .is-object))
         (AsksStore.byWrite h offset n bytes o k (regular-reached (cut (x .call) h) o z) e₂ l m)
     by-store (AsksRoom.byCreate p manner a k which m e) =
-        let (d, z) = lined (directoryIn x p) 2 (m .inDirectory) in
-        AsksStore.byCreate p manner a d k which (directory-reached (directoryIn x p) d z) (new-checks p (badAttributes a) m)
-        (there-none (directoryIn x p) (nameAsked x p) d (z .below) (z .type) (z .own) e)
+        let set : settableIn manner ≡ a = ⊎-elim (λ (u : manner ≡ How.Unchecked a). ap settableIn u) (λ (u : manner ≡ How.Guarded a). ap settableIn u) which in
+        subst (λ (b : Settable). AsksStore s x (newObject (sizeSet (b .size) 0))) set
+        (new-file p manner k (subst (λ (b : Settable). MayMake (L .book) x p (badAttributes b)) (sym set) m) e)
+    by-store (AsksRoom.byExclusive p verifier k m e) = new-file p (How.Exclusive verifier) k m e
     by-store (AsksRoom.byRecreate p a g k m y u) =
         let (d, z) = lined (directoryIn x p) 2 (m .inDirectory) in
-        let (n, e, f) = line-found (directoryIn x p) (nameAsked x p) d (z .below) (z .type) (z .own) g y in
+        let (n, e, c) = line-found (directoryIn x p) (nameAsked x p) d (z .below) (z .type) (z .own) g y in
         let (o, v) = lined g 1 u in
-        let c : nameAt s n .child ≡ objectIn g =
-        sym (child-object (nameAt s n .child) (found-below (directoryIn x p) (nameAsked x p) d (z .below) (z .type) (z .own) n e)) ∙ ap objectIn (sym f) in
-        subst (λ (i : ℕ). AsksStore s x (growth (sizeOf s i) (sizeSet (a .size) (sizeOf s i)))) c
+        subst (λ (i : ℕ). AsksStore s x (growth (sizeOf s i) (sizeSet (a .size) (sizeOf s i)))) (sym c)
         (AsksStore.byRecreate p a d n k (directory-reached (directoryIn x p) d z) (new-checks p (badAttributes a) m) e
-        (true-regular s (nameAt s n .child) (ap (λ (i : ℕ). objectAt s i .kind) (c ∙ v .is-object) ∙ v .type)))
+        (true-regular s (nameAt s n .child) (ap (λ (i : ℕ). objectAt s i .kind) (sym c ∙ v .is-object) ∙ v .type)))
     by-store (AsksRoom.byMkdir p a k m e) =
         let (d, z) = lined (directoryIn x p) 2 (m .inDirectory) in
         AsksStore.byMkdir p a d k (directory-reached (directoryIn x p) d z) (new-checks p (badAttributes a || isGiven (a .size)) m)

@@ -11,6 +11,7 @@ use borrow.Author.Tests.{leb-true, ltb-true}
 use Rattle.kinds.specs.Layout.{blockLength}
 use Rattle.kinds.specs.Numbers.{nanosecondsEnd, mostObjects, mostNameRecords, mostBlocks}
 use Rattle.kinds.specs.declared.object.Time.{Time}
+use Rattle.kinds.specs.declared.call.How.the-variants as How
 use Rattle.spec.specs.Check.{goodTime, goodCounts, imageLength}
 use Rattle.spec.specs.Image.{Store}
 use Rattle.spec.specs.Procedures.{cut}
@@ -32,7 +33,8 @@ use Rattle.history.proofs.Answers.{names-at, getattr-live, getattr-size
 use Rattle.history.proofs.Carried.{carried}
 use Rattle.history.proofs.Nospc.{blocks-left, names-left, objects-left, write-nothing, room}
 use Rattle.history.proofs.Only.{only-room}
-use Rattle.history.proofs.Conditions.{by-book, by-store, line-regular}
+use Rattle.history.proofs.Conditions.{by-book, by-store, line-regular, line-made}
+use Rattle.history.proofs.Again.{found-again, sent-twice}
 
 -- the statement holds of every state that the invariant holds of
 pub kept : (σ p q r : ℕ) (w : State) → Inv σ p q r (w .store) (w .ledger) → Kept σ p q r w
@@ -102,6 +104,14 @@ kept σ p q r w I =
       room = λ x m a. room σ p q r s L I x (by-store σ p q r s L I x a);
       onlyRoom = λ x l e. let (m, a, b) = only-room σ p q r s L I x e in (m, by-book σ p q r s L I x l a, b);
       writeNothing = λ x h offset bytes k y e. write-nothing σ p q r s L I x h offset bytes _ k (line-regular σ p q r s L I (cut (x .call) h) y .1) e;
+      lineFound = λ x l a manner h e y t. found-again σ p q r s L I x l a manner h e y t;
+      madeBefore = λ x l a verifier h k m y t.
+          let (ok, store) = line-made σ p q r s L I x a verifier h k m y t in
+          let (_, ledger) = found-again σ p q r s L I x l a (How.Exclusive verifier) h (k .reads) y ok in
+          (ok, λ i. record { store = store i; ledger = ledger i });
+      sentTwice = λ x y l m e a verifier k j t.
+          let (ok, same, store, ledger) = sent-twice σ p q r s L I x y l m e a verifier k j t in
+          (ok, same, λ i. record { store = store i; ledger = ledger i });
     }
 
 -- what a successful format was asked for, and what it made

@@ -1,12 +1,13 @@
 -- The book over bytes, by computation: a file is made, a request is refused, the file is renamed and removed, and its handle is stale; its record
--- is counted once, and there is no room for a second file while it is there.
+-- is counted once, and there is no room for a second file while it is there. EXCLUSIVE CREATE that is sent twice has one line and one handle, also
+-- where the first one took the last room.
 use Prim.Native.Nat.{ℕ}
 use mathlib.Core.Path.{_≡_, refl}
 use mathlib.Core.Bool.{true}
 use mathlib.Core.List.{List, [], _∷_}
-use Rattle.spec.proofs.Setting.{context, space, fresh, getattrCall, createCall, removeCall, renameCall, nameA, nameB, computing}
+use Rattle.spec.proofs.Setting.{context, space, fresh, getattrCall, createCall, removeCall, renameCall, exclusiveCall, nameA, nameB, computing}
 use Rattle.history.specs.Book.{Line, asRoot, under, handleBytes, firstLedger, someAt, add, strikeLines, strike, moveLine, moveLines, move}
-use Rattle.history.specs.Book.{asked, statusIn, isStatus, isOk, noted, note}
+use Rattle.history.specs.Book.{asked, statusIn, isStatus, isOk, madeHandle, noted, note}
 use Rattle.history.specs.Run.{Request, State, replyTo, step, run}
 use Rattle.history.specs.Statement.{someLine, linedObjects}
 
@@ -36,6 +37,13 @@ fileLine name = record { handle = file; kind = 1; standing = under root name }
 abbrev removed : State
 removed = run start (request (createCall nameA) ∷ request (removeCall nameA) ∷ [])
 
+-- the file is made EXCLUSIVE with verifier 1 2, which takes the last room
+abbrev exclusive : Request
+exclusive = request (exclusiveCall nameA 1 2)
+
+abbrev filled : State
+filled = run start (exclusive ∷ [])
+
 pub record Examples : Type 0 where
   pub made : run start (refusedRequest ∷ request (createCall nameA) ∷ []) .ledger .book ≡ fileLine nameA ∷ rootLine ∷ []
   pub renamed : run start (request (createCall nameA) ∷ request (renameCall 0 nameA 0 nameB) ∷ []) .ledger .book ≡ fileLine nameB ∷ rootLine ∷ []
@@ -44,7 +52,24 @@ pub record Examples : Type 0 where
   pub counted : linedObjects 2 (fileLine nameA ∷ fileLine nameB ∷ rootLine ∷ []) ≡ 2
   pub full : isStatus 28 (replyTo (run start (request (createCall nameA) ∷ []) .store) (request (createCall nameB))) ≡ true
   pub roomAgain : isStatus 0 (replyTo (removed .store) (request (createCall nameB))) ≡ true
+  pub oneLine : run start (exclusive ∷ exclusive ∷ []) .ledger .book ≡ fileLine nameA ∷ rootLine ∷ []
+  pub oneHandle : madeHandle (replyTo (filled .store) exclusive) ≡ file
+  pub noRoomAsked : isStatus 0 (replyTo (filled .store) exclusive) ≡ true
+  pub roomAsked : isStatus 28 (replyTo (filled .store) (request (exclusiveCall nameB 1 2))) ≡ true
 
 pub examples : Examples
 unfolding computing someAt add strikeLines strike moveLine moveLines move asked isStatus isOk noted note replyTo step run someLine linedObjects
-examples = record { made = refl; renamed = refl; struck = refl; stale = refl; counted = refl; full = refl; roomAgain = refl }
+examples =
+    record {
+      made = refl;
+      renamed = refl;
+      struck = refl;
+      stale = refl;
+      counted = refl;
+      full = refl;
+      roomAgain = refl;
+      oneLine = refl;
+      oneHandle = refl;
+      noRoomAsked = refl;
+      roomAsked = refl;
+    }

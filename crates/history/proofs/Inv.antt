@@ -10,21 +10,21 @@ use Rattle.kinds.specs.Numbers.{mostFileBytes, spentGeneration}
 use Rattle.kinds.specs.declared.object.Time.{Time}
 use Rattle.kinds.specs.declared.object.Object.{Object}
 use Rattle.kinds.specs.declared.call.Settable.{Settable}
-use Rattle.spec.specs.Edits.{setAttributes, resize, withGeneration, createObject, removeObject, moveName, writeFile}
+use Rattle.spec.specs.Edits.{setAttributes, forgetVerifier, resize, withGeneration, createObject, removeObject, moveName, writeFile}
 use Rattle.spec.specs.Image.{Store, stamp, objects, names, blocks, objectAt, nameAt, nameLength, freeName}
 use Rattle.spec.specs.Room.{sizeOf, need, freeBlockCount}
 use Rattle.kinds.specs.Objects.{freeObject}
 use Rattle.laws.proofs.BlockLists.{held-range}
 use Rattle.laws.proofs.BlockWrites.{write-file}
 use Rattle.laws.proofs.CreateObject.{newName, create-object}
-use Rattle.laws.proofs.GoodRecords.{GoodRecords, GoodClock, clock-fits, valid-records, live-at, set-attributes-still, resize-still, write-file-still}
-use Rattle.laws.proofs.GoodRecords.{create-object-still, remove-object-still, move-name-still}
+use Rattle.laws.proofs.GoodRecords.{GoodRecords, GoodClock, clock-fits, valid-records, live-at, set-attributes-still, forget-verifier-still, resize-still}
+use Rattle.laws.proofs.GoodRecords.{write-file-still, create-object-still, remove-object-still, move-name-still}
 use Rattle.laws.proofs.Kept.{NameSet, BothSet}
 use Rattle.laws.proofs.MoveName.{movedName, move-name}
 use Rattle.laws.proofs.Range.{Below}
 use Rattle.laws.proofs.Records.{FitsObject}
 use Rattle.laws.proofs.RemoveObject.{remove-object}
-use Rattle.laws.proofs.SetAttributes.{FitsSettable, Allowed, set-attributes-structure}
+use Rattle.laws.proofs.SetAttributes.{FitsSettable, Allowed, set-attributes-structure, forget-verifier-structure}
 use Rattle.laws.proofs.Shape.{SameShape}
 use Rattle.laws.proofs.Structure.{SameTree, kept-structure, tree-distinct, tree-named, tree-leads}
 use Rattle.laws.proofs.Resize.{resize-tree}
@@ -168,7 +168,15 @@ touch-inv σ p q r s L I clock o a l c f w =
     same-keeps s (setAttributes s clock o a) (set-attributes-structure s clock o a (g .sound) k (clock-fits clock c) f .tree)
     (set-attributes-still s g clock o a k (live-seen σ p q r s L I o l) c f w .good) σ p q r L I
 
--- ---- the second edit: a file's size
+-- ---- the second edit: a verifier is forgotten
+pub forget-inv : (σ p q r : ℕ) (s : Store) (L : Ledger) → Inv σ p q r s L → (o : ℕ) → LiveIn (view s) o → Keeps σ p q r s (forgetVerifier s o) L
+forget-inv σ p q r s L I o l =
+    let g = good σ p q r s L I in
+    let k = live-in s o l in
+    same-keeps s (forgetVerifier s o) (forget-verifier-structure s o (g .sound) k .tree) (forget-verifier-still s g o k (live-seen σ p q r s L I o l) .good)
+    σ p q r L I
+
+-- ---- the third edit: a file's size
 pub resize-inv : (σ p q r : ℕ) (s : Store) (L : Ledger) → Inv σ p q r s L → (o size : ℕ) → view s .kind o ≡ 1 → size ≤ mostFileBytes
     → need size - need (sizeOf s o) ≤ freeBlockCount s → Keeps σ p q r s (resize s o size) L
 resize-inv σ p q r s L I o size k small room =
@@ -189,7 +197,7 @@ write-inv σ p q r s L I o offset xs l b n =
     same-keeps s t (kept-structure s t (write-file s o offset xs (g .sound) (live-at s g o k v) b n) .tree)
     (write-file-still s g o offset xs k v b n .good) σ p q r L I
 
--- ---- the third edit: an object and its name
+-- ---- the fourth edit: an object and its name
 module _ (σ p q r : ℕ) (s : Store) (L : Ledger) (I : Inv σ p q r s L) (o n : ℕ) (v : Object) (d : ℕ) (text : List ℕ)
     (in-objs : o < objects s) (in-names : n < names s) (was-free : objectAt s o .kind ≡ 0) (low : objectAt s o .generation < spentGeneration)
     (was-blank : nameLength s n ≡ 0) (fits : FitsObject v) (live : LiveObject (blocks s) v) (empty : v .size ≡ 0) (name : GoodName text)
@@ -272,7 +280,7 @@ module _ (σ p q r : ℕ) (s : Store) (L : Ledger) (I : Inv σ p q r s L) (o n :
         gens = λ i. by-cases (ℕ-discrete i o) (λ y. rw y (created-of .obj .gen)) (λ y. created-of .obj .other i y .1);
       }
 
--- ---- the fourth edit: an object and its name are removed
+-- ---- the fifth edit: an object and its name are removed
 module _ (σ p q r : ℕ) (s : Store) (L : Ledger) (I : Inv σ p q r s L) (n : ℕ) (used : UsedIn (view s) n)
     (empty : (m : ℕ) → UsedIn (view s) m → view s .dir m ≢ nameAt s n .child) where
   o : ℕ
@@ -351,7 +359,7 @@ module _ (σ p q r : ℕ) (s : Store) (L : Ledger) (I : Inv σ p q r s L) (n : �
         };
       }
 
--- ---- the fifth edit: a name is moved
+-- ---- the sixth edit: a name is moved
 module _ (σ p q r : ℕ) (s : Store) (L : Ledger) (I : Inv σ p q r s L) (n d : ℕ) (text : List ℕ) (used : UsedIn (view s) n)
     (name : GoodName text) (below : Below 256 text) (parent : view s .kind d ≡ 2) (absent : entriesAt (names s) (view s) d text ≡ 0)
     (clear : (qs : List ℕ) → Path (view s) d qs → Avoids (view s) (nameAt s n .child) d qs) where

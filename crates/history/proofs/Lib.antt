@@ -26,14 +26,14 @@ pub mod Ranges
 pub mod Noted
 pub mod Checks
 pub mod Statuses
--- The procedures, every request, and any list of them.
+-- The procedures, every request, and any list of them; the lines of the book, one of which CREATE may find.
 pub mod Sizes
 pub mod Making
+pub mod Lines
 pub mod Create
 pub mod Removing
 pub mod Next
 -- The fields of the statement, and demand 3.
-pub mod Lines
 pub mod Counts
 pub mod Paths
 pub mod Later
@@ -43,6 +43,7 @@ pub mod Asking
 pub mod Nospc
 pub mod Only
 pub mod Conditions
+pub mod Again
 pub mod Demand
 -- The book over bytes, by computation.
 pub mod Examples

@@ -1,6 +1,7 @@
 -- What the invariant says of the book's lines: they are the store's objects and names, one each. Assumes nothing.
 use mathlib.Core.Path.{_≡_, refl, sym, ap, _∙_, subst}
 use mathlib.Core.Logic.{_↔_, _⊎_, inl, inr, by-cases, ⊎-elim}
+use mathlib.Core.Option.{some}
 use mathlib.Core.List.{List, [], _∷_, _++_, map, List·Memᴰ, List·Memᴰ·head, List·Memᴰ·tail, List·Memᴰ·cases-cons, List·Memᴰ·not-nil}
 use mathlib.Core.List.{List·Memᴰ·append-cases, List·Memᴰ·eq-of-singleton, Memᴰ·append-left, Memᴰ·append-right, Memᴰ·map, Memᴰ·of-map, Memᴰ·cast}
 use Prim.Native.Nat.{ℕ, zero, suc, _+_, _*_, _≤_, _<_}
@@ -11,7 +12,8 @@ use lib.Dec.{eqb}
 use borrow.Author.Tests.{eq-eqb, ne-eqb}
 use Rattle.spec.specs.Count.{bit, sum, times}
 use Rattle.spec.specs.Handles.{handleOf}
-use Rattle.spec.specs.Image.{Store, nameAt}
+use Rattle.spec.specs.Image.{Store, objects, nameAt}
+use Rattle.spec.specs.Room.{findName}
 use Rattle.laws.proofs.Count.{sum-ext, sum-zero, sum-add}
 use Rattle.laws.proofs.Valid.{true-live}
 use Rattle.history.specs.Book.{asRoot, under, Line, Book, Ledger}
@@ -24,6 +26,7 @@ use Rattle.history.proofs.Handles.{same-object}
 use Rattle.history.proofs.Agree.{Agrees, handleIn, lineOf, rootLine, used?, all-used, own, not-root}
 use Rattle.history.proofs.Seen.{view, kind-at, dir-at, child-at, text-at, live-in, used-in, used-of, of-used}
 use Rattle.history.proofs.Inv.{Inv, tree}
+use Rattle.history.proofs.Checks.{found-name}
 use Rattle.history.proofs.Making.{handle-seen}
 use Rattle.history.proofs.Sizes.{seen-live}
 
@@ -183,6 +186,21 @@ module _ (σ p q r : ℕ) (s : Store) (L : Ledger) (I : Inv σ p q r s L) where
           let a : handleIn σ (view s) (view s .dir n) ≡ d = cc in
           let b : view s .text n ≡ text = cc in
           (n, k, used-of s (I .valid .good-names) n k u, dir-handle n u ∙ a, child-handle n u ∙ ap (λ (z : Line). z .handle) x ∙ e, sym (text-at s n k) ∙ b)
+
+  -- a name that is found in a directory has a line there
+  pub found-line : (h text : List ℕ) (d : ℕ) → d < objects s → h ≡ handleIn σ (view s) d → (n : ℕ) → findName s d text ≡ some n
+      → HasName (L .book) h (handleOf s (nameAt s n .child)) text
+  found-line h text d below own n e =
+      let N = I .valid .good-names in
+      let (k, at) = found-name s N d text n e in
+      name-lines h (handleOf s (nameAt s n .child)) text .0 (
+        n,
+        k,
+        used-of s N n k (at .0),
+        ap (handleOf s) (sym (dir-at s n k) ∙ at .1) ∙ handle-seen σ p q r s L I d below ∙ sym own,
+        refl,
+        sym (text-at s n k) ∙ at .2,
+      )
 
   -- no line stands twice
   apart : (ks : List ℕ) → All (UsedIn (view s)) ks → ((n : ℕ) → times n ks ≤ 1) → StandApart (map (lineOf σ (view s)) ks ++ (rootLine σ (view s) ∷ []))

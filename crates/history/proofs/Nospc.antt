@@ -11,6 +11,7 @@ use lib.Dec.{eqb, ltb, lit<}
 use lib.ListN.{length, take}
 use borrow.Author.Tests.{eq-eqb, ne-eqb, lt-ltb, le-ltb, ltb-true}
 use Rattle.kinds.specs.Numbers.{NOSPC, mostTransferBytes, mostFileBytes}
+use Rattle.kinds.specs.declared.object.Context.{Context}
 use Rattle.kinds.specs.declared.call.Part.{Part}
 use Rattle.kinds.specs.declared.call.NameIn.{NameIn}
 use Rattle.kinds.specs.declared.call.Settable.{Settable}
@@ -21,27 +22,31 @@ use Rattle.kinds.specs.declared.call.Arguments.{Arguments}
 use Rattle.kinds.specs.declared.call.Arguments.the-variants as Call
 use Rattle.spec.specs.Checked.{Checked, refused, passed, bind, refuseIf, present}
 use Rattle.spec.specs.Count.{bit, count, lowest}
+use Rattle.spec.specs.Edits.{onlyCtime}
 use Rattle.spec.specs.Handles.{reach, reachDirectory}
 use Rattle.spec.specs.Image.{Store, objects, names, objectAt, nameAt}
 use Rattle.spec.specs.Procedures.{cut, act}
 use Rattle.spec.specs.Procedures.Attributes.{isGiven, sizeSet, badAttributes, lacksRoom, differs, checkSetattr, setattrEdit, edited, setattr}
 use Rattle.spec.specs.Procedures.Data.{reachRegular, grown, checkWrite, writeDone, write}
-use Rattle.spec.specs.Procedures.Names.{Target, existing, isNew, roomForNew, checkNew, checkExisting, checkAttributed, checkCreate, createEdit}
-use Rattle.spec.specs.Procedures.Names.{settableIn, create, checkMkdir, mkdir, createdIn, newEdit}
-use Rattle.spec.specs.Results.{Result, failChanging, settle}
+use Rattle.spec.specs.Procedures.Names.{Target, new, existing, isNew, roomForNew, settableIn, isMadeBy, checkNew, checkExisting, checkHow, checkCreate}
+use Rattle.spec.specs.Procedures.Names.{createEdit, create, checkMkdir, mkdir, createdIn, newObject, newEdit}
+use Rattle.spec.specs.Results.{Result, Done, failChanging, settle}
 use Rattle.spec.specs.Room.{isRegular, isDirectory, isAvailable, isUsedName, sizeOf, need, freeBlockCount, availableCount, availableObject}
 use Rattle.spec.specs.Room.{freeNameCount, availableName, findName}
 use Rattle.laws.proofs.Count.{by-bool, sum-at, lowest-passes, lowest-none, true-false}
 use Rattle.laws.proofs.Error.{statusOf}
+use Rattle.laws.proofs.Resent.{same-size}
 use Rattle.laws.proofs.Searches.{count-nothing}
+use Rattle.laws.proofs.Valid.{passes-valid}
 use Rattle.history.specs.Book.{Ledger, isStatus, isOk}
-use Rattle.history.specs.Run.{Request, replyTo}
+use Rattle.history.specs.Run.{Request, outcomeOf, replyTo}
 use Rattle.history.specs.Statement.{Asks, Room, Missing, AnswersRoom, blocksLeft, namesLeft, objectsLeft}
 use Rattle.history.proofs.Asking.{AsksStore}
 use Rattle.history.proofs.Inv.{Inv}
 use Rattle.history.proofs.Replies.{answered-is, answered-ok}
 use Rattle.history.proofs.Counts.{free-blocks, free-names, available-objects}
 use Rattle.history.proofs.Noted.{Answer, Says, changing-says, changed-says, wrote-says, created-says}
+use Rattle.history.proofs.Asked.{acted}
 use Rattle.history.proofs.Next.{answer-to}
 
 -- ---- an answer by a test
@@ -90,6 +95,11 @@ RoomMissing σ p q r s L size = (objectsLeft σ p L ≡ 0) ⊎ ((namesLeft q L �
 -- the checks of room for a new object, by what is found
 abbrev roomBy : Option ℕ → Option ℕ → Bool → Checked (ℕ × ℕ)
 roomBy x y t = bind (present NOSPC x) (λ o. bind (present NOSPC y) (λ n. bind (refuseIf t NOSPC) (λ _. passed (o, n))))
+
+-- a CREATE that passes its checks is answered OK
+pub created-so : (s : Store) (c : Context) (d : ℕ) (text : List ℕ) (manner : How) (t : Target) → Says (createEdit s c d text manner t .result) 0
+created-so s c d text manner (new o n) = created-says _ _ _
+created-so s c d text manner (existing o) = created-says _ _ _
 
 module _ (σ p q r : ℕ) (s : Store) (L : Ledger) (I : Inv σ p q r s L) where
   -- the room that is left, by the book and in the store
@@ -207,31 +217,25 @@ module _ (σ p q r : ℕ) (s : Store) (L : Ledger) (I : Inv σ p q r s L) where
       some-of a b e n = by-cases (ℕ-discrete a 0) (λ z. absurd (n z)) (λ z. omega arith)
 
   -- ---- CREATE of a new file
-  create-room : (x : Request) (place : NameIn) (manner : How) (a : Settable) (d : ℕ) → Asks x (Call.Create place manner)
-      → (manner ≡ How.Unchecked a) ⊎ (manner ≡ How.Guarded a) → reachDirectory s (cut (x .call) (place .directory)) ≡ passed d
-      → checkNew (cut (x .call) (place .name)) (badAttributes a) ≡ passed tt → findName s d (cut (x .call) (place .name)) ≡ none
-      → AnswersRoom (replyTo s x) (RoomMissing σ p q r s L (sizeSet (a .size) 0))
-  unfolding act create checkCreate checkAttributed statusOf
-  create-room x place manner a d k which e₁ e₂ e₃ =
+  create-room : (x : Request) (place : NameIn) (manner : How) (d : ℕ) → Asks x (Call.Create place manner)
+      → reachDirectory s (cut (x .call) (place .directory)) ≡ passed d
+      → checkNew (cut (x .call) (place .name)) (badAttributes (settableIn manner)) ≡ passed tt → findName s d (cut (x .call) (place .name)) ≡ none
+      → AnswersRoom (replyTo s x) (RoomMissing σ p q r s L (sizeSet (settableIn manner .size) 0))
+  unfolding act create checkCreate checkHow statusOf
+  create-room x place manner d k e₁ e₂ e₃ =
       let h = cut (x .call) (place .directory) in
       let text = cut (x .call) (place .name) in
       let c = x .context in
-      let size = sizeSet (a .size) 0 in
-      let checks : checkCreate s h text manner ≡ bind (isNew (roomForNew s size)) (λ t. passed (d, t)) = either which in
-      let result : Checked (ℕ × Target) → Result = λ y. settle s (failChanging s h) y (λ p. createEdit s c (p .0) text (settableIn manner) (p .1)) .result in
+      let size = sizeSet (settableIn manner .size) 0 in
+      let checks : checkCreate s h text manner ≡ bind (isNew (roomForNew s size)) (λ t. passed (d, t)) = rw (e₁, e₂, e₃) in
+      let result : Checked (ℕ × Target) → Result = λ y. settle s (failChanging s h) y (λ p. createEdit s c (p .0) text manner (p .1)) .result in
       let A = answer-to σ p q r s L I x (Call.Create place manner) k in
       by-room (x .call) (replyTo s x) (Call.Create place manner) _ A (RoomMissing σ p q r s L size) (room? size)
       (λ m. subst (λ (y : Checked (ℕ × Target)). Says (result y) NOSPC)
       (sym (checks ∙ ap (λ (t : Checked (ℕ × ℕ)). bind (isNew t) (λ t. passed (d, t))) (room-full size m))) (changing-says s h NOSPC))
       (λ m. let (y, e) = room-there size m in
       subst (λ (y : Checked (ℕ × Target)). Says (result y) 0) (sym (checks ∙ ap (λ (t : Checked (ℕ × ℕ)). bind (isNew t) (λ t. passed (d, t))) e))
-      (created-says _ _ _))
-    where
-      either : (manner ≡ How.Unchecked a) ⊎ (manner ≡ How.Guarded a)
-          → checkCreate s (cut (x .call) (place .directory)) (cut (x .call) (place .name)) manner ≡ bind (isNew (roomForNew s (sizeSet (a .size) 0)))
-          (λ t. passed (d, t))
-      either (_⊎_.inl e) = rw (e₁, e, e₂, e₃)
-      either (_⊎_.inr e) = rw (e₁, e, e₂, e₃)
+      (created-so s c d text manner (new (y .0) (y .1))))
 
   -- ---- CREATE of an existing file
   recreate-room : (x : Request) (place : NameIn) (a : Settable) (d n : ℕ) → Asks x (Call.Create place (How.Unchecked a))
@@ -239,7 +243,7 @@ module _ (σ p q r : ℕ) (s : Store) (L : Ledger) (I : Inv σ p q r s L) where
       → checkNew (cut (x .call) (place .name)) (badAttributes a) ≡ passed tt → findName s d (cut (x .call) (place .name)) ≡ some n
       → isRegular s (nameAt s n .child) ≡ true
       → AnswersRoom (replyTo s x) (BlocksMissing p r s L (sizeOf s (nameAt s n .child)) (sizeSet (a .size) (sizeOf s (nameAt s n .child))))
-  unfolding act create checkCreate checkAttributed checkExisting statusOf
+  unfolding act create checkCreate checkHow checkExisting statusOf
   recreate-room x place a d n k e₁ e₂ e₃ e₄ =
       let h = cut (x .call) (place .directory) in
       let text = cut (x .call) (place .name) in
@@ -249,12 +253,31 @@ module _ (σ p q r : ℕ) (s : Store) (L : Ledger) (I : Inv σ p q r s L) where
       let size = sizeSet (a .size) (sizeOf s o) in
       let rest : Bool → Checked (ℕ × Target) = λ t. bind (bind (refuseIf t NOSPC) (λ _. passed (existing o))) (λ t. passed (d, t)) in
       let checks : checkCreate s h text (How.Unchecked a) ≡ rest (lacksRoom s old size) = rw (e₁, e₂, e₃, e₄) in
-      let result : Checked (ℕ × Target) → Result = λ y. settle s (failChanging s h) y (λ p. createEdit s c (p .0) text a (p .1)) .result in
+      let result : Checked (ℕ × Target) → Result = λ y. settle s (failChanging s h) y (λ p. createEdit s c (p .0) text (How.Unchecked a) (p .1)) .result in
       let A = answer-to σ p q r s L I x (Call.Create place (How.Unchecked a)) k in
       by-room (x .call) (replyTo s x) (Call.Create place (How.Unchecked a)) _ A (BlocksMissing p r s L old size) (missing? old size)
       (λ m. subst (λ (y : Checked (ℕ × Target)). Says (result y) NOSPC) (sym (checks ∙ ap rest (missing-yes old size m))) (changing-says s h NOSPC))
       (λ m. subst (λ (y : Checked (ℕ × Target)). Says (result y) 0) (sym (checks ∙ ap rest (missing-no old size m)))
-      (created-says _ _ _))
+      (created-so s c d text (How.Unchecked a) (existing o)))
+
+  -- of a file that was made EXCLUSIVE with this verifier
+  pub made-before : (x : Request) (place : NameIn) (verifier d n : ℕ) → Asks x (Call.Create place (How.Exclusive verifier))
+      → reachDirectory s (cut (x .call) (place .directory)) ≡ passed d
+      → checkNew (cut (x .call) (place .name)) (badAttributes onlyCtime) ≡ passed tt → findName s d (cut (x .call) (place .name)) ≡ some n
+      → isMadeBy s verifier (nameAt s n .child) ≡ true → (isOk (replyTo s x) ≡ true) × (outcomeOf s x .store ≡ s)
+  unfolding act create checkCreate checkHow checkExisting statusOf
+  made-before x place verifier d n k e₁ e₂ e₃ e₄ =
+      let h = cut (x .call) (place .directory) in
+      let text = cut (x .call) (place .name) in
+      let o = nameAt s n .child in
+      let manner = How.Exclusive verifier in
+      let checks : checkCreate s h text manner ≡ passed (d, existing o) = rw (e₁, e₂, e₃, e₄, same-size s (sizeOf s o)) in
+      let done : Checked (ℕ × Target) → Done = λ y. settle s (failChanging s h) y (λ p. createEdit s (x .context) (p .0) text manner (p .1)) in
+      let A = answer-to σ p q r s L I x (Call.Create place manner) k in (
+        ok-of (x .call) (replyTo s x) (Call.Create place manner) _ A
+            (subst (λ (y : Checked (ℕ × Target)). Says (done y .result) 0) (sym checks) (created-so s (x .context) d text manner (existing o))),
+        acted s x (Call.Create place manner) k (passes-valid s (I .valid)) .store ∙ ap (λ (y : Checked (ℕ × Target)). done y .store) checks,
+      )
 
   -- ---- MKDIR
   mkdir-room : (x : Request) (place : NameIn) (a : Settable) (d : ℕ) → Asks x (Call.Mkdir place a)
@@ -269,7 +292,7 @@ module _ (σ p q r : ℕ) (s : Store) (L : Ledger) (I : Inv σ p q r s L) where
       let rest : Checked (ℕ × ℕ) → Checked (ℕ × ℕ × ℕ) = λ y. bind y (λ p. passed (d, p .0, p .1)) in
       let checks : checkMkdir s h text a ≡ rest (roomForNew s 0) = rw (e₁, e₂, e₃) in
       let result : Checked (ℕ × ℕ × ℕ) → Result = λ y. settle s (failChanging s h) y
-      (λ p. createdIn s (newEdit s c 2 (p .1) (p .2) (p .0) text a) (p .0) (p .1)) .result in
+      (λ p. createdIn s (newEdit s c (newObject (c .clock) 2 a) (a .size) (p .1) (p .2) (p .0) text) (p .0) (p .1)) .result in
       let A = answer-to σ p q r s L I x (Call.Mkdir place a) k in
       by-room (x .call) (replyTo s x) (Call.Mkdir place a) _ A (RoomMissing σ p q r s L 0) (room? 0)
       (λ m. subst (λ (y : Checked (ℕ × ℕ × ℕ)). Says (result y) NOSPC) (sym (checks ∙ ap rest (room-full 0 m))) (changing-says s h NOSPC))
@@ -281,6 +304,6 @@ module _ (σ p q r : ℕ) (s : Store) (L : Ledger) (I : Inv σ p q r s L) where
   pub room : (x : Request) {m : Room} → AsksStore s x m → AnswersRoom (replyTo s x) (Missing σ p q r (record { store = s; ledger = L }) m)
   room x (AsksStore.bySetattr h a g o k e₁ e₂ e₃ e₄) = setattr-room x h a g o k e₁ e₂ e₃ e₄
   room x (AsksStore.byWrite h offset n bytes o k e₁ e₂ l m) = write-room x h offset n bytes o k e₁ e₂ (omega arith) m
-  room x (AsksStore.byCreate place manner a d k which e₁ e₂ e₃) = create-room x place manner a d k which e₁ e₂ e₃
+  room x (AsksStore.byCreate place manner d k e₁ e₂ e₃) = create-room x place manner d k e₁ e₂ e₃
   room x (AsksStore.byRecreate place a d n k e₁ e₂ e₃ e₄) = recreate-room x place a d n k e₁ e₂ e₃ e₄
   room x (AsksStore.byMkdir place a d k e₁ e₂ e₃) = mkdir-room x place a d k e₁ e₂ e₃

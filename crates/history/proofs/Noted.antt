@@ -111,10 +111,8 @@ note-quiet call reply a L e f = go (isOk reply)
 pub add-new : (h : List ℕ) (kind : ℕ) (d text : List ℕ) (L : Ledger) → someAt d text (L .book) ≡ false
     → add h kind d text L ≡ record { book = record { handle = h; kind = kind; standing = under d text } ∷ L .book; given = h ∷ L .given }
 unfolding add
-add-new h kind d text L e =
-    ap (λ (t : Bool). cond t L (record { book = record { handle = h; kind = kind; standing = under d text } ∷ L .book; given = h ∷ L .given })) e
+add-new h kind d text L e = rw e
 
 pub add-old : (h : List ℕ) (kind : ℕ) (d text : List ℕ) (L : Ledger) → someAt d text (L .book) ≡ true → add h kind d text L ≡ L
 unfolding add
-add-old h kind d text L e =
-    ap (λ (t : Bool). cond t L (record { book = record { handle = h; kind = kind; standing = under d text } ∷ L .book; given = h ∷ L .given })) e
+add-old h kind d text L e = rw e

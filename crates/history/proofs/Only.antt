@@ -10,9 +10,7 @@ use lib.Dec.{lit<}
 use lib.ListN.{length}
 use borrow.Author.Tests.{eqb-true}
 use Rattle.kinds.specs.Numbers.{NOSPC, NOTSUPP}
-use Rattle.kinds.specs.declared.object.Context.{Context}
 use Rattle.kinds.specs.declared.call.Part.{Part}
-use Rattle.kinds.specs.declared.call.Settable.{Settable}
 use Rattle.kinds.specs.declared.call.How.{How}
 use Rattle.kinds.specs.declared.call.Arguments.{Arguments}
 use Rattle.kinds.specs.declared.call.Arguments.the-variants as Call
@@ -24,8 +22,7 @@ use Rattle.spec.specs.Procedures.{cut, act}
 use Rattle.spec.specs.Procedures.Attributes.{getattr, setattr, access}
 use Rattle.spec.specs.Procedures.Data.{read, readResult, writeDone, write, commit}
 use Rattle.spec.specs.Procedures.Listing.{readdir}
-use Rattle.spec.specs.Procedures.Names.{lookup, Target, new, existing}
-use Rattle.spec.specs.Procedures.Names.{createEdit, create, mkdir}
+use Rattle.spec.specs.Procedures.Names.{lookup, create, mkdir}
 use Rattle.spec.specs.Procedures.Removal.{removeFrom, remove, rmdir, checkRename, failRenaming, rename}
 use Rattle.spec.specs.Procedures.Volume.{fsstat, fsinfo, pathconf}
 use Rattle.spec.specs.Results.{Result, null, dead, failed, changed, renamed, gotAttributes, found, granted, gotBytes, wrote, created, listed, gotRoom}
@@ -48,7 +45,7 @@ use Rattle.history.proofs.Noted.{showing-says, changing-says, renaming-
 use Rattle.history.proofs.Statuses.{Tells, Plain, reach-tells, regular-tells, lookup-tells, remove-tells, rmdir-tells, rename-tells, readdir-tells}
 use Rattle.history.proofs.Statuses.{setattr-tells, write-tells, create-tells, mkdir-tells}
 use Rattle.history.proofs.Next.{answer-to}
-use Rattle.history.proofs.Nospc.{status-of, room}
+use Rattle.history.proofs.Nospc.{status-of, created-so, room}
 
 -- ---- a result that shows a status
 abbrev Shows : Result → Type 0
@@ -109,10 +106,6 @@ module _ (s : Store) (x : Request) where
       → Answer (x .call) (replyTo s x) a (settle s (failChanging s h) c go .result) → ((y : A) → Says (go y .result) 0) → Found
   changing {c} h go = by-checks (failChanging s h) c go (changing-says s h)
 
-  created-so : (c : Context) (d : ℕ) (text : List ℕ) (a : Settable) (t : Target) → Says (createEdit s c d text a t .result) 0
-  created-so c d text a (new o n) = created-says _ _ _
-  created-so c d text a (existing o) = created-says _ _ _
-
   at : Part → List ℕ
   at p = cut (x .call) p
 
@@ -137,9 +130,9 @@ module _ (s : Store) (x : Request) where
   asks-room (Call.Create p manner) k A e =
       changing (at (p .directory)) _
       (create-tells Q plain s (at (p .directory)) (at (p .name)) manner
-      (λ d a w e₁ e₂ e₃. asks _ (AsksStore.byCreate p manner a d k w e₁ e₂ e₃))
+      (λ d e₁ e₂ e₃. asks _ (AsksStore.byCreate p manner d k e₁ e₂ e₃))
       (λ d n a w e₁ e₂ e₃ e₄. asks _ (AsksStore.byRecreate p a d n (subst (λ (m : How). Asks x (Call.Create p m)) w k) e₁ e₂ e₃ e₄)))
-      A (λ y. created-so (x .context) (y .0) _ _ (y .1)) e
+      A (λ y. created-so s (x .context) (y .0) _ _ (y .1)) e
   asks-room (Call.Mkdir p a) k A e =
       changing (at (p .directory)) _
       (mkdir-tells Q plain s (at (p .directory)) (at (p .name)) a (λ d e₁ e₂ e₃. asks _ (AsksStore.byMkdir p a d k e₁ e₂ e₃)))

@@ -14,7 +14,7 @@ use Rattle.kinds.specs.declared.call.SetSize.the-variants as SetSize
 use Rattle.kinds.specs.declared.call.Settable.{Settable}
 use Rattle.kinds.specs.declared.call.Guard.{Guard}
 use Rattle.spec.specs.Checked.{Checked, refused, passed}
-use Rattle.spec.specs.Edits.{resize, mtimeAndCtime, writeFile}
+use Rattle.spec.specs.Edits.{setAttributes, resize, mtimeAndCtime, writeFile}
 use Rattle.spec.specs.Image.{Store, objects, blocks, objectAt}
 use Rattle.spec.specs.Procedures.Attributes.{isGiven, sizeSet, resizeTo, checkSetattr, setattrEdit, sizeTouches, edited, setattr}
 use Rattle.spec.specs.Procedures.Data.{grown, checkWrite, writeEdit, writeStore, writeDone, write}
@@ -32,7 +32,7 @@ use Rattle.history.specs.Book.{Ledger}
 use Rattle.history.proofs.View.{LiveIn}
 use Rattle.history.proofs.Seen.{view, kind-at, live-in}
 use Rattle.laws.proofs.FreeRoom.{good-size-small}
-use Rattle.history.proofs.Inv.{Inv, Keeps, keeps-refl, keeps-trans, good, touch-inv, resize-inv, write-inv}
+use Rattle.history.proofs.Inv.{Inv, Keeps, keeps-refl, keeps-trans, good, touch-inv, forget-inv, resize-inv, write-inv}
 
 pub seen-live : (s : Store) (o : ℕ) → o < objects s → isLive s o ≡ true → LiveIn (view s) o
 seen-live s o l e = omega (arith, kind-at s o l, live-true s o e)
@@ -53,9 +53,13 @@ module _ (σ p q r : ℕ) (s : Store) (L : Ledger) (I : Inv σ p q r s L) (c : C
       let first = resize-to σ p q r s L I o (a .size)
       (λ t. k ∙ regular-of (blocks s) (objectAt s o) (live-at s (good σ p q r s L I) o (w .reached .below) (w .reached .live)) (w .not-directory t))
       (w .allowed .size) (w .room) in
-      keeps-trans σ p q r s (resizeTo s o (a .size)) _ L L first
-      (touch-inv σ p q r (resizeTo s o (a .size)) L (first .owes .inv) (c .clock) o (sizeTouches a) (omega (arith, first .kinds o l)) clock
-      (size-touches-fits a f) (size-touches-allowed a (w .allowed)))
+      let t = resizeTo s o (a .size) in
+      let m : LiveIn (view t) o = omega (arith, first .kinds o l) in
+      let second = touch-inv σ p q r t L (first .owes .inv) (c .clock) o (sizeTouches a) m clock (size-touches-fits a f)
+      (size-touches-allowed a (w .allowed)) in
+      let u = setAttributes t (c .clock) o (sizeTouches a) in
+      let third = forget-inv σ p q r u L (second .owes .inv) o (omega (arith, second .kinds o m)) in
+      keeps-trans σ p q r s t _ L L first (keeps-trans σ p q r t u _ L L second third)
 
   pub setattr-keeps : (h : List ℕ) (a : Settable) (g : Guard) → FitsSettable a → Keeps σ p q r s (setattr s c h a g .store) L
   unfolding setattr

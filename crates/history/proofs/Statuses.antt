@@ -1,7 +1,7 @@
 -- The statuses of checks that refuse. What holds of every error but NOSPC, and of NOSPC where room is asked for, holds of the status with which the
 -- checks of each procedure refuse. Assumes nothing.
 use mathlib.Core.Path.{_≡_, refl, sym, ap, _∙_, subst}
-use mathlib.Core.Logic.{_≢_, _⊎_, inl, inr}
+use mathlib.Core.Logic.{_≢_}
 use mathlib.Core.Bool.{Bool, true, false, _&&_, _||_, not, cond}
 use mathlib.Core.Option.{Option, some, none}
 use mathlib.Core.List.{List}
@@ -11,7 +11,7 @@ use lib.Dec.{eqb, leb, ltb, lit<}
 use lib.ListN.{length}
 use borrow.Author.Tests.{eqb-true, eqb-false, ltb-false, not-true, not-false}
 use Rattle.kinds.specs.Numbers.{NOENT, ACCES, EXIST, NOTDIR, INVAL, FBIG, NOSPC, NAMETOOLONG, NOTEMPTY, STALE, BADHANDLE}
-use Rattle.kinds.specs.Numbers.{NOT-SYNC, BAD-COOKIE, NOTSUPP, TOOSMALL, mostNameBytes}
+use Rattle.kinds.specs.Numbers.{NOT-SYNC, BAD-COOKIE, TOOSMALL, mostNameBytes}
 use Rattle.kinds.specs.Numbers.{mostTransferBytes, listingCost, entryFixedCost, mostFileBytes, handleLength}
 use Rattle.kinds.specs.declared.call.Settable.{Settable}
 use Rattle.kinds.specs.declared.call.Guard.{Guard}
@@ -25,12 +25,13 @@ use Rattle.spec.specs.Names.{goodBytes, isDot, isDotDot, isDots}
 use Rattle.spec.specs.Procedures.Attributes.{isGiven, sizeSet, badAttributes, differs, lacksRoom, checkSetattr}
 use Rattle.spec.specs.Procedures.Data.{reachRegular, grown, checkWrite}
 use Rattle.spec.specs.Procedures.Listing.{entries, entriesAbove, isNothing, fitting, checkListing, checkReaddirIn, checkReaddir}
-use Rattle.spec.specs.Procedures.Names.{childOf, lookIn, checkIn, checkLookup, roomForNew, isNew, checkExisting, targetOf, checkNew, checkAttributed}
+use Rattle.spec.specs.Procedures.Names.{childOf, lookIn, checkIn, checkLookup, roomForNew, isNew, settableIn, isTaken, checkExisting, targetOf, checkNew}
 use Rattle.spec.specs.Procedures.Names.{checkHow, checkCreate, checkMkdir}
 use Rattle.spec.specs.Procedures.Removal.{checkEntry, checkRemove, hasEntries, checkRmdir, isWithin, checkMove, checkRename}
 use Rattle.spec.specs.Results.{Entry}
 use Rattle.spec.specs.Room.{isLive, isRegular, isDirectory, sizeOf, availableObject, availableName, findName, parent}
 use Rattle.laws.proofs.Count.{and-both, true-false}
+use Rattle.laws.proofs.Resent.{same-size}
 
 -- P holds of the status, where the checks refuse
 abbrev pub Tells : {A : Type 0} → (ℕ → Type 0) → Checked A → Type 0
@@ -231,39 +232,44 @@ module _ (P : ℕ → Type 0) (plain : (n : ℕ) → Plain n → P n) (s : Store
       tells-bind P (present NOSPC (availableName s)) _ (tells-present P NOSPC (availableName s) full) (λ n _.
       tells-if P (lacksRoom s 0 size) NOSPC _ (λ _. full) (λ _. tells-passed P _)))
 
-  target-tells : (unchecked : Bool) (a : Settable) (f : Option ℕ) → (f ≡ none → P NOSPC)
-      → ((n : ℕ) → f ≡ some n → unchecked && isRegular s (nameAt s n .child) ≡ true → P NOSPC) → Tells P (targetOf s unchecked a f)
+  target-tells : (manner : How) (f : Option ℕ) → (f ≡ none → P NOSPC)
+      → ((n : ℕ) → f ≡ some n → isTaken s manner (nameAt s n .child) ≡ true
+      → lacksRoom s (sizeOf s (nameAt s n .child)) (sizeSet (settableIn manner .size) (sizeOf s (nameAt s n .child))) ≡ true → P NOSPC)
+      → Tells P (targetOf s manner f)
   unfolding checkExisting
-  target-tells unchecked a none fresh old = new (roomForNew s (sizeSet (a .size) 0)) (room-tells (sizeSet (a .size) 0) (fresh refl))
+  target-tells manner none fresh old =
+      let size = sizeSet (settableIn manner .size) 0 in
+      new (roomForNew s size) (room-tells size (fresh refl))
     where
       new : (c : Checked (ℕ × ℕ)) → Tells P c → Tells P (isNew c)
       new (refused n) h = tells-refused P n (h n refl)
       new (passed y) h = tells-passed P _
-  target-tells unchecked a (some n) fresh old =
+  target-tells manner (some n) fresh old =
       let o = nameAt s n .child in
-      tells-if P (not (unchecked && isRegular s o)) EXIST _ (λ _. exist) (λ e.
-      tells-if P (lacksRoom s (sizeOf s o) (sizeSet (a .size) (sizeOf s o))) NOSPC _ (λ _. old n refl (not-false (unchecked && isRegular s o) e)) (λ _.
+      tells-if P (not (isTaken s manner o)) EXIST _ (λ _. exist) (λ e.
+      tells-if P (lacksRoom s (sizeOf s o) (sizeSet (settableIn manner .size) (sizeOf s o))) NOSPC _ (old n refl (not-false (isTaken s manner o) e)) (λ _.
       tells-passed P _))
 
   pub create-tells : (h text : List ℕ) (manner : How)
-      → ((d : ℕ) (a : Settable) → (manner ≡ How.Unchecked a) ⊎ (manner ≡ How.Guarded a) → reachDirectory s h ≡ passed d
-      → checkNew text (badAttributes a) ≡ passed tt → findName s d text ≡ none → P NOSPC)
+      → ((d : ℕ) → reachDirectory s h ≡ passed d → checkNew text (badAttributes (settableIn manner)) ≡ passed tt → findName s d text ≡ none → P NOSPC)
       → ((d n : ℕ) (a : Settable) → manner ≡ How.Unchecked a → reachDirectory s h ≡ passed d
       → checkNew text (badAttributes a) ≡ passed tt → findName s d text ≡ some n → isRegular s (nameAt s n .child) ≡ true → P NOSPC)
       → Tells P (checkCreate s h text manner)
-  unfolding checkCreate checkAttributed
+  unfolding checkCreate checkHow
   create-tells h text manner fresh old =
+      let invalid = badAttributes (settableIn manner) in
       tells-bind P (reachDirectory s h) _ (directory-tells h) (λ d e.
-      tells-bind P (checkHow s d text manner) _ (how d e manner refl) (λ t _. tells-passed P _))
+      tells-bind P (checkHow s d text manner) _
+      (tells-bind P (checkNew text invalid) _ (new-tells text invalid) (λ _ f.
+      target-tells manner (findName s d text) (fresh d e f) (λ n. there d n manner refl e f)))
+      (λ t _. tells-passed P _))
     where
-      how : (d : ℕ) → reachDirectory s h ≡ passed d → (m : How) → manner ≡ m → Tells P (checkHow s d text m)
-      how d e (How.Unchecked a) w =
-          tells-bind P (checkNew text (badAttributes a)) _ (new-tells text (badAttributes a)) (λ _ f.
-          target-tells true a (findName s d text) (fresh d a (inl w) e f) (λ n. old d n a w e f))
-      how d e (How.Guarded a) w =
-          tells-bind P (checkNew text (badAttributes a)) _ (new-tells text (badAttributes a)) (λ _ f.
-          target-tells false a (findName s d text) (fresh d a (inr w) e f) (λ n x y. true-false (sym y)))
-      how d e (How.Exclusive verifier) w = tells-refused P NOTSUPP (plain NOTSUPP (lit< tt, lit< tt, omega arith))
+      there : (d n : ℕ) (m : How) → manner ≡ m → reachDirectory s h ≡ passed d → checkNew text (badAttributes (settableIn m)) ≡ passed tt
+          → findName s d text ≡ some n → isTaken s m (nameAt s n .child) ≡ true
+          → lacksRoom s (sizeOf s (nameAt s n .child)) (sizeSet (settableIn m .size) (sizeOf s (nameAt s n .child))) ≡ true → P NOSPC
+      there d n (How.Unchecked a) w e f g i full = old d n a w e f g i
+      there d n (How.Guarded a) w e f g i full = true-false (sym i)
+      there d n (How.Exclusive verifier) w e f g i full = true-false (sym full ∙ same-size s (sizeOf s (nameAt s n .child)))
 
   pub mkdir-tells : (h text : List ℕ) (a : Settable)
       → ((d : ℕ) → reachDirectory s h ≡ passed d → checkNew text (badAttributes a || isGiven (a .size)) ≡ passed tt → findName s d text ≡ none → P NOSPC)
@@ -298,7 +304,7 @@ module _ (s : Store) (h text : List ℕ) where
   sure-lookup = lookup-tells Failing plainly s h text
 
   pub sure-create : (manner : How) → Sure (checkCreate s h text manner)
-  sure-create manner = create-tells Failing plainly s h text manner (λ d a w e f g. full) (λ d n a w e f g i. full)
+  sure-create manner = create-tells Failing plainly s h text manner (λ d e f g. full) (λ d n a w e f g i. full)
 
   pub sure-mkdir : (a : Settable) → Sure (checkMkdir s h text a)
   sure-mkdir a = mkdir-tells Failing plainly s h text a (λ d e f g. full)

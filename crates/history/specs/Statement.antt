@@ -1,5 +1,5 @@
 -- DEMAND 3: what holds of the store and of the book after any list of requests from any successful format. `Kept` is the statement; the
--- definitions above it are its words. Each field quotes the sentence of document 01, or of demand 3 as it was asked, that it says.
+-- definitions above it are its words. Each field quotes the sentence of document 01 or 02, or of demand 3 as it was asked, that it says.
 use Prim.Native.Nat.{ℕ, suc, _+_, _*_, _-_, _≤_, _<_, min, max}
 use mathlib.Core.Path.{_≡_}
 use mathlib.Core.Logic.{_⊎_, _↔_}
@@ -29,6 +29,7 @@ use Rattle.spec.specs.Names.{isDots}
 use Rattle.spec.specs.Checked.{passed}
 use Rattle.spec.specs.Procedures.{cut}
 use Rattle.spec.specs.Procedures.Attributes.{isGiven, sizeSet, badAttributes, differs}
+use Rattle.spec.specs.Procedures.Names.{isMadeBy}
 use Rattle.spec.specs.Serve.{format}
 use Rattle.history.specs.Book.{Standing, asRoot, under, Line, Book, Ledger, handleBytes, firstLedger, someAt, asked, isStatus, isOk}
 use Rattle.history.specs.Book.{foundHandle, madeHandle}
@@ -237,6 +238,10 @@ pub data AsksRoom (w : State) (x : Request) : Room → Type 0 where
       → (manner ≡ How.Unchecked a) ⊎ (manner ≡ How.Guarded a)
       → MayMake (w .ledger .book) x p (badAttributes a) → someAt (directoryIn x p) (nameAsked x p) (w .ledger .book) ≡ false
       → AsksRoom w x (newObject (sizeSet (a .size) 0))
+  -- CREATE, EXCLUSIVE, where no line has them: "an absent name is made with unset attributes", so an object and a name, and no block
+  byExclusive : (p : NameIn) (verifier : ℕ) → Asks x (Call.Create p (How.Exclusive verifier))
+      → MayMake (w .ledger .book) x p false → someAt (directoryIn x p) (nameAsked x p) (w .ledger .book) ≡ false
+      → AsksRoom w x (newObject 0)
   -- CREATE, UNCHECKED, where a file's line has them: the size that it gives, or the old one
   byRecreate : (p : NameIn) (a : Settable) (h : List ℕ) → Asks x (Call.Create p (How.Unchecked a))
       → MayMake (w .ledger .book) x p (badAttributes a) → HasName (w .ledger .book) (directoryIn x p) h (nameAsked x p) → HasLine (w .ledger .book) h REGULAR
@@ -336,6 +341,24 @@ pub record Kept (σ p q r : ℕ) (w : State) : Type 0 where
   -- WRITE of 0 bytes to a live file asks for no room
   pub writeNothing : (x : Request) (h : Part) (offset : ℕ) (bytes : Part) → Asks x (Call.Write h offset 0 bytes)
       → HasLine (w .ledger .book) (cut (x .call) h) REGULAR → 0 ≡ length (cut (x .call) bytes) → isOk (replyTo (w .store) x) ≡ true
+  -- ---- 7. A CREATE THAT IS SENT AGAIN
+  -- "where no line has that directory handle and name, one is added": a CREATE answered OK whose name has a line finds that line and adds none, in
+  -- every manner, and the handle in its reply is the line's
+  pub lineFound : (x : Request) → Lent x → (p : NameIn) (manner : How) (h : List ℕ) → asked (x .call) ≡ some (Call.Create p manner)
+      → HasName (w .ledger .book) (directoryIn x p) h (nameAsked x p) → isOk (replyTo (w .store) x) ≡ true
+      → (madeHandle (replyTo (w .store) x) ≡ h) × (step w x .ledger ≡ w .ledger)
+  -- "an existing regular file made that way with the same verifier is success": EXCLUSIVE CREATE of a name whose file keeps this verifier asks for
+  -- no room, is answered OK, and changes neither store nor book
+  pub madeBefore : (x : Request) → Lent x → (p : NameIn) (verifier : ℕ) (h : List ℕ) → Asks x (Call.Create p (How.Exclusive verifier))
+      → MayMake (w .ledger .book) x p false → HasName (w .ledger .book) (directoryIn x p) h (nameAsked x p)
+      → isMadeBy (w .store) verifier (objectIn h) ≡ true
+      → (isOk (replyTo (w .store) x) ≡ true) × (step w x ≡ w)
+  -- "Hosts resend CREATE when a reply is lost": an EXCLUSIVE CREATE that was answered OK, sent again with the same bytes before any other call, is
+  -- answered OK with the same handle, and changes neither store nor book
+  pub sentTwice : (x y : Request) → Lent x → Lent y → y .call ≡ x .call → (p : NameIn) (verifier : ℕ)
+      → Asks x (Call.Create p (How.Exclusive verifier)) → Asks y (Call.Create p (How.Exclusive verifier)) → isOk (replyTo (w .store) x) ≡ true
+      → (isOk (replyTo (step w x .store) y) ≡ true) × (madeHandle (replyTo (step w x .store) y) ≡ madeHandle (replyTo (w .store) x))
+      × (step (step w x) y ≡ step w x)
 
 -- the state that a format leaves: its store, and the book with the root's line
 abbrev pub formattedState : Store → ℕ → ℕ → ℕ → ℕ → Time → State
