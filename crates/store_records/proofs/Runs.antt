@@ -5,13 +5,13 @@ use Prim.Native.Nat.{ℕ, _+_, _-_, _*_, _≤_}
 use native.Mathlib.Omega.{arith}
 use native.Mathlib.Nat.{add-assoc}
 use lib.ListN.{length, replicate, length-append}
-use Rattle.kinds.specs.Layout.{generationOffset, modeOffset, uidOffset, gidOffset, sizeOffset, atimeOffset, blocksOffset, objectLength, timeLength}
-use Rattle.kinds.specs.Layout.{childOffset, lengthOffset, textOffset, nameRecordLength}
+use Rattle.kinds.specs.Layout.{generationOffset, modeOffset, uidOffset, gidOffset, sizeOffset, atimeOffset, blocksOffset, verifierOffset}
+use Rattle.kinds.specs.Layout.{objectLength, timeLength, childOffset, lengthOffset, textOffset, nameRecordLength}
 use Rattle.kinds.specs.Numbers.{fileBlocks, mostNameBytes}
 use Rattle.kinds.specs.declared.object.Object.{Object}
 use Rattle.kinds.specs.declared.object.Time.{Time}
 use Rattle.spec.specs.Bytes.{overlay, bytesOf}
-use Rattle.spec.specs.Image.{objectStart, timeBytes, headBytes, timesBytes, halvesBytes, objectBytes, putObject, nameBytes}
+use Rattle.spec.specs.Image.{objectStart, timeBytes, headBytes, timesBytes, halvesBytes, verifierBytes, objectBytes, putObject, nameBytes}
 use Rattle.store_records.specs.Text.{nameOf}
 use Rattle.laws.proofs.Bytes.{bytes-length, overlay-more}
 
@@ -35,12 +35,13 @@ times-run b at t u v h =
     overlay-more b at _ _ _ _ (2 * timeLength) (omega arith) refl (overlay-more b at _ _ _ _ timeLength (omega arith) refl refl refl) refl
 
 pub object-run : (b : List ℕ) (o : ℕ) (v : Object) → objectStart o + objectLength ≤ length b
-    → overlay (overlay (overlay b (objectStart o) (headBytes v)) (objectStart o + atimeOffset) (timesBytes v)) (objectStart o + blocksOffset)
-    (halvesBytes fileBlocks (v .blocks)) ≡ putObject b o v
-unfolding putObject objectBytes headBytes timesBytes timeBytes bytesOf
+    → overlay (overlay (overlay (overlay b (objectStart o) (headBytes v)) (objectStart o + atimeOffset) (timesBytes v)) (objectStart o + blocksOffset)
+    (halvesBytes fileBlocks (v .blocks))) (objectStart o + verifierOffset) (verifierBytes v) ≡ putObject b o v
+unfolding putObject objectBytes headBytes timesBytes timeBytes halvesBytes bytesOf
 object-run b o v h =
-    overlay-more b (objectStart o) _ _ _ _ blocksOffset (omega arith) refl
-    (overlay-more b (objectStart o) _ _ _ _ atimeOffset (omega arith) refl refl refl) refl
+    overlay-more b (objectStart o) _ _ _ _ verifierOffset (omega arith) refl
+    (overlay-more b (objectStart o) _ _ _ _ blocksOffset (omega arith) refl
+    (overlay-more b (objectStart o) _ _ _ _ atimeOffset (omega arith) refl refl refl) refl) refl
 
 pub name-run : (b : List ℕ) (at d c len : ℕ) (t : List ℕ) → length t ≡ len → at + nameRecordLength ≤ length b → len ≤ mostNameBytes
     → (s₁ s₂ s₃ s₄ s₅ : List ℕ)

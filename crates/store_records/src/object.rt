@@ -4,9 +4,9 @@ ghost use mathlib.Core.List.{_++_};
 ghost use Prim.Native.Nat.{_+_, _-_, _*_, _<_, _≤_};
 ghost use lib.ListN.{length, getD};
 ghost use Rattle.kinds.specs.BlockNumbers.{numbersOf};
-ghost use Rattle.kinds.specs.Layout.{atimeOffset, blocksOffset, objectLength, timeLength};
+ghost use Rattle.kinds.specs.Layout.{atimeOffset, blocksOffset, verifierOffset, objectLength, timeLength};
 ghost use Rattle.kinds.specs.Numbers.{fileBlocks};
-ghost use Rattle.spec.specs.Bytes.{overlay};
+ghost use Rattle.spec.specs.Bytes.{overlay, bytesOf};
 ghost use Rattle.spec.specs.Image.{objectStart, timeAt, timeBytes, halvesBytes, headBytes, objectAt, putObject};
 ghost use Rattle.spec.specs.Room.{isLive, isRegular, isDirectory, sizeOf};
 use crate::counts::object_start;
@@ -55,7 +55,7 @@ fn block_numbers(numbers: [u16; 16]) -> [BlockNumber; 16]
 
 // Writes the block numbers of a record.
 pub fn save_blocks(store: &mut [u8], at: usize, blocks: [BlockNumber; 16])
-    requires { ⌜ at + (objectLength - blocksOffset) ≤ length (now store) ⌝ }
+    requires { ⌜ at + (verifierOffset - blocksOffset) ≤ length (now store) ⌝ }
     ensures { λ _. ⌜ now (store .exit) ≡ overlay (now (store .entry)) at (halvesBytes fileBlocks (numbersOf blocks)) ⌝ }
 {
     let mut k = 0;
@@ -89,6 +89,18 @@ pub fn save_times(store: &mut [u8], at: usize, atime: Time, mtime: Time, ctime: 
     save_time(store, at + 2 * TimeField::BYTES, ctime);
 }
 
+// Where the flag stands after the verifier.
+const FLAG_AFTER_VERIFIER: usize = ObjectRecord::EXCLUSIVE - ObjectRecord::VERIFIER;
+
+// Writes an object's verifier and flag.
+pub fn save_verifier(store: &mut [u8], at: usize, verifier: u64, flag: u32)
+    requires { ⌜ at + (objectLength - verifierOffset) ≤ length (now store) ⌝ }
+    ensures { λ _. ⌜ now (store .exit) ≡ overlay (now (store .entry)) at (bytesOf 8 verifier ++ bytesOf 4 flag) ⌝ }
+{
+    wire::put_u64(store, at, verifier);
+    wire::put_u32(store, at + FLAG_AFTER_VERIFIER, flag);
+}
+
 pub fn save_object(store: &mut [u8], o: ObjectNumber, v: Object)
     requires { ⌜ objectStart (o .0) + objectLength ≤ length (now store) ⌝ }
     ensures { λ _. ⌜ now (store .exit) ≡ putObject (now (store .entry)) (o .0) v ⌝ }
@@ -101,6 +113,7 @@ pub fn save_object(store: &mut [u8], o: ObjectNumber, v: Object)
     save_times(store, at + ObjectRecord::ATIME, atime, mtime, ctime);
     let blocks = v.blocks;
     save_blocks(store, at + ObjectRecord::BLOCKS, block_numbers(blocks));
+    save_verifier(store, at + ObjectRecord::VERIFIER, v.verifier, v.exclusive);
 }
 
 // Single fields of a record.
@@ -174,6 +187,22 @@ pub fn ctime_of(store: &[u8], o: ObjectNumber) -> Time
 {
     let at = object_start(store, o);
     load_time(store, at + ObjectRecord::CTIME)
+}
+
+pub fn verifier_of(store: &[u8], o: ObjectNumber) -> u64
+    requires { ⌜ objectStart (o .0) + objectLength ≤ length (now store) ⌝ }
+    ensures { λ r. ⌜ r ≡ objectAt (now (store .entry)) (o .0) .verifier ⌝ }
+{
+    let at = object_start(store, o);
+    wire::get_u64(store, at + ObjectRecord::VERIFIER)
+}
+
+pub fn exclusive_of(store: &[u8], o: ObjectNumber) -> u32
+    requires { ⌜ objectStart (o .0) + objectLength ≤ length (now store) ⌝ }
+    ensures { λ r. ⌜ r ≡ objectAt (now (store .entry)) (o .0) .exclusive ⌝ }
+{
+    let at = object_start(store, o);
+    wire::get_u32(store, at + ObjectRecord::EXCLUSIVE)
 }
 
 // The k-th of the block numbers of a record.

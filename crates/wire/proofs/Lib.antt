@@ -2,3 +2,4 @@
 pub mod Copies
 pub mod LowFirst
 pub mod Dots
+pub mod TwoWords

@@ -99,6 +99,15 @@ pub fn get_u64(s: &[u8], at: usize) -> u64
     high * 4294967296 + low
 }
 
+// Writes v into the eight bytes from `at`.
+pub fn put_u64(s: &mut [u8], at: usize, v: u64)
+    requires { ⌜ at + 8 ≤ length (now s) ⌝ }
+    ensures { λ _. ⌜ now (s .exit) ≡ overlay (now (s .entry)) at (bytesOf 8 v) ⌝ }
+{
+    put_u32(s, at, (v / 4294967296) as u32);
+    put_u32(s, at + 4, (v % 4294967296) as u32);
+}
+
 // Copies 16 bytes of src from `from` into dst from `at`: all are read before the first is written, so that the compiler may move them at once.
 fn copy_sixteen(dst: &mut [u8], at: usize, src: &[u8], from: usize)
     requires { ⌜ at + 16 ≤ length (now dst) ⌝ }

@@ -1,4 +1,4 @@
-use Rattle.spec.specs.Image.{timesBytes}
+use Rattle.spec.specs.Image.{timesBytes, verifierBytes}
 use Rattle.store_records.proofs.Runs.{object-run}
 use borrow.Author.Needs.{needs}
 use Rattle.store_records.proofs.object.save_object.Statement.{statement}
@@ -25,19 +25,27 @@ block-numbers-requires c κs = search needs
 save-blocks-requires : tie.Need-save-blocks-requires
 save-blocks-requires c κs = search needs
 
+add-save-verifier : tie.Need-add-save-verifier
+add-save-verifier c = search needs
+
+save-verifier-requires : tie.Need-save-verifier-requires
+save-verifier-requires c κs = search needs
+
 same-length : tie.Need-same-length
 same-length c = search needs
 
 returns : tie.Need-returns
-unfolding timesBytes
+unfolding timesBytes verifierBytes
 returns c =
-    let numbers = c .before .before .before in
+    let after-save-blocks = c .before .before .before .before .before .before in
+    let numbers = after-save-blocks .before in
     let times = numbers .before .before .before .before .before in
     let head = times .before .before .before .before .before .before .before in
     let start = head .before .before in
     let st = start .before .before .before in
     rw (
-      c .before .before .save-blocks .ensures,
+      c .before .before .save-verifier .ensures,
+      after-save-blocks .save-blocks .ensures,
       numbers .block-numbers .ensures,
       times .save-times .ensures,
       head .save-head .ensures,
@@ -56,5 +64,7 @@ save-object-spec =
     add-save-blocks
     block-numbers-requires
     save-blocks-requires
+    add-save-verifier
+    save-verifier-requires
     same-length
     returns)

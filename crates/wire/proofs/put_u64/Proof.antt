@@ -1,0 +1,46 @@
+use borrow.Author.Needs.{needs}
+use native.Mathlib.Omega.{arith}
+use mathlib.Core.Path.{_∙_, ap}
+use Rattle.spec.specs.Bytes.{overlay}
+use Rattle.laws.proofs.Bytes.{overlay-more, bytes-length}
+use Rattle.wire.proofs.TwoWords.{two-words}
+use Rattle.wire.proofs.put_u64.Statement.{statement}
+use Rattle.wire.proofs.put_u64.Tie as tie
+
+cast-put-u32 : tie.Need-cast-put-u32
+cast-put-u32 c = search needs
+
+put-u32-requires : tie.Need-put-u32-requires
+put-u32-requires c κs = search needs
+
+add-put-u32 : tie.Need-add-put-u32
+add-put-u32 c = search needs
+
+cast-put-u32-2 : tie.Need-cast-put-u32-2
+cast-put-u32-2 c = search needs
+
+put-u32-requires-2 : tie.Need-put-u32-requires-2
+put-u32-requires-2 c κs = search needs
+
+same-length : tie.Need-same-length
+same-length c = search needs
+
+returns : tie.Need-returns
+returns c =
+    let second = c .before .before in
+    let first = second .before .before .before .before in
+    let a = first .before .before .before .args in
+    overlay-more (a .s .now) (a .at) _ _ _ _ 4 (omega arith) (bytes-length 4 _) (first .put-u32 .ensures) (second .put-u322 .ensures)
+    ∙ ap (overlay (a .s .now) (a .at)) (two-words (a .v))
+
+pub put-u64-spec : {M : Type 1} → statement M
+put-u64-spec =
+    tie.close
+    (tie.spec
+    cast-put-u32
+    put-u32-requires
+    add-put-u32
+    cast-put-u32-2
+    put-u32-requires-2
+    same-length
+    returns)
