@@ -1,9 +1,12 @@
-// The attributes that a call may set, and the ctime that it may ask for.
+// The attributes that a call may set, those that CREATE gives, and the ctime that a call may ask for.
 ghost use mathlib.Core.Path.{_≡_};
 ghost use mathlib.Core.Bool.{_&&_};
 ghost use lib.Dec.{eqb};
+ghost use Rattle.spec.specs.Edits.{onlyCtime};
 ghost use Rattle.spec.specs.Procedures.Attributes.{isGiven, sizeSet, numberOver, badTime, badAttributes, differs};
+ghost use Rattle.spec.specs.Procedures.Names.{settableIn};
 use kinds::call::Guard;
+use kinds::call::How;
 use kinds::call::SetNumber;
 use kinds::call::SetSize;
 use kinds::call::SetTime;
@@ -89,5 +92,30 @@ pub fn differs(guard: Guard, ctime: Time) -> bool
     match guard {
         Guard::Absent => false,
         Guard::Ctime(t) => !same_time(t, ctime),
+    }
+}
+
+// Sets ctime alone.
+pub fn only_ctime() -> Settable
+    ensures { λ r. ⌜ r ≡ onlyCtime ⌝ }
+{
+    Settable {
+        mode: SetNumber::Keep,
+        uid: SetNumber::Keep,
+        gid: SetNumber::Keep,
+        size: SetSize::Keep,
+        atime: SetTime::Keep,
+        mtime: SetTime::Keep,
+    }
+}
+
+// The attributes that CREATE gives; EXCLUSIVE gives none.
+pub fn settable_in(manner: How) -> Settable
+    ensures { λ r. ⌜ r ≡ settableIn manner ⌝ }
+{
+    match manner {
+        How::Unchecked(a) => a,
+        How::Guarded(a) => a,
+        How::Exclusive(_) => only_ctime(),
     }
 }

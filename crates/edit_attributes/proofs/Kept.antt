@@ -1,5 +1,5 @@
--- Numbers that were read from a store, written again in their place, leave it as it was; and attributes written alone are a record written
--- whole. Assumes nothing.
+-- Numbers that were read from a store, written again in their place, leave it as it was; and attributes, or a verifier, written alone are a
+-- record written whole. Assumes nothing.
 use mathlib.Core.Path.{_≡_, refl, sym, ap, ap₂, _∙_}
 use mathlib.Core.List.{List, _++_, append-assoc}
 use Prim.Native.Nat.{ℕ, zero, suc, _+_, _-_, _*_, _≤_}
@@ -7,13 +7,15 @@ use native.Mathlib.Omega.{arith}
 use lib.ListN.{length, take, drop, length-append, take-append-drop}
 use lib.Seq.{drop-drop}
 use Rattle.kinds.specs.Layout.{generationOffset, modeOffset, uidOffset, gidOffset, sizeOffset, atimeOffset, mtimeOffset, ctimeOffset, blocksOffset}
-use Rattle.kinds.specs.Layout.{objectLength, nanosecondsOffset, timeLength}
+use Rattle.kinds.specs.Layout.{verifierOffset, exclusiveOffset, objectLength, nanosecondsOffset, timeLength}
 use Rattle.kinds.specs.Numbers.{fileBlocks}
+use Rattle.kinds.specs.declared.call.Settable.{Settable}
 use Rattle.kinds.specs.declared.object.Object.{Object}
 use Rattle.kinds.specs.declared.object.Time.{Time}
 use Rattle.spec.specs.Bytes.{part, overlay, bytesOf}
-use Rattle.spec.specs.Edits.{withAttributes, setAttributes, mtimeAndCtime}
-use Rattle.spec.specs.Image.{Store, objectStart, halvesAt, halvesBytes, timeAt, timeBytes, headBytes, timesBytes, objectBytes, objectFrom, objectAt, putObject}
+use Rattle.spec.specs.Edits.{withAttributes, setAttributes, mtimeAndCtime, withVerifier}
+use Rattle.spec.specs.Image.{Store, objectStart, halvesAt, halvesBytes, timeAt, timeBytes, headBytes, timesBytes, verifierBytes, objectBytes}
+use Rattle.spec.specs.Image.{objectFrom, objectAt, putObject}
 use Rattle.laws.proofs.Bytes.{part-length, part-add, part-after, overlay-join, overlay-length, bytes-length}
 use Rattle.laws.proofs.Range.{Below, bytes-kept}
 use Rattle.laws.proofs.Records.{half-read}
@@ -44,7 +46,11 @@ skip s p n xs ys e h =
     let l : length xs ≡ n = ap length e ∙ part-length s p n h in
     sym (overlay-join s p xs (omega (arith, l)) ys) ∙ ap₂ (λ (z : List ℕ) (k : ℕ). overlay z (p + k) ys) (overlay-kept s p n xs e h) l
 
--- the bytes of mode, uid and gid, of the three times, and of the block numbers
+-- two parts, one after the other
+joined : (s : List ℕ) (p q n m : ℕ) (xs ys : List ℕ) → q ≡ p + n → xs ≡ part s p n → ys ≡ part s q m → xs ++ ys ≡ part s p (n + m)
+joined s p q n m xs ys e a b = ap₂ (λ (x y : List ℕ). x ++ y) a (b ∙ ap (λ (k : ℕ). part s k m) e) ∙ sym (part-add s p n m)
+
+-- the bytes of mode, uid and gid, of the three times, of the block numbers, of the verifier and its flag, and of these last two
 abbrev pub ownerLength : ℕ
 ownerLength = sizeOffset - modeOffset
 
@@ -52,7 +58,13 @@ abbrev pub timesLength : ℕ
 timesLength = blocksOffset - atimeOffset
 
 abbrev pub blocksLength : ℕ
-blocksLength = objectLength - blocksOffset
+blocksLength = verifierOffset - blocksOffset
+
+abbrev pub verifierLength : ℕ
+verifierLength = objectLength - verifierOffset
+
+abbrev restLength : ℕ
+restLength = objectLength - blocksOffset
 
 -- the bytes of a mode, uid and gid, and of a time
 pub owner-size : (mode uid gid : ℕ) → length (bytesOf 4 mode ++ bytesOf 4 uid ++ bytesOf 4 gid) ≡ ownerLength
@@ -62,147 +74,166 @@ pub time-length : (t : Time) → length (timeBytes t) ≡ timeLength
 unfolding timeBytes
 time-length t = simp (length-append, bytes-length)
 
-module _ (s : Store) (o : ℕ) (w : Object) (f : Below 256 s) (h : objectStart o + objectLength ≤ length s)
-    (kind : w .kind ≡ objectAt s o .kind) (generation : w .generation ≡ objectAt s o .generation) (size : w .size ≡ objectAt s o .size)
-    (blocks : w .blocks ≡ objectAt s o .blocks) where
+module _ (s : Store) (o : ℕ) (f : Below 256 s) (h : objectStart o + objectLength ≤ length s) where
   abbrev at : ℕ
   at = objectStart o
 
-  front : bytesOf 4 (w .kind) ++ bytesOf 4 (w .generation) ≡ part s at modeOffset
-  unfolding objectAt objectFrom
-  front =
-      ap₂ (λ (x y : ℕ). bytesOf 4 x ++ bytesOf 4 y) kind generation
-      ∙ ap₂ (λ (x y : List ℕ). x ++ y) (bytes-kept s f 4 at (omega arith)) (bytes-kept s f 4 (at + generationOffset) (omega arith))
-      ∙ sym (part-add s at generationOffset 4)
-
-  middle : bytesOf 4 (w .size) ≡ part s (at + sizeOffset) 4
-  unfolding objectAt objectFrom
-  middle = ap (bytesOf 4) size ∙ bytes-kept s f 4 (at + sizeOffset) (omega arith)
-
-  end : halvesBytes fileBlocks (w .blocks) ≡ part s (at + blocksOffset) blocksLength
-  unfolding objectAt objectFrom
-  end = ap (halvesBytes fileBlocks) blocks ∙ halves-low s f (at + blocksOffset) fileBlocks fileBlocks (omega arith) (omega arith)
-
-  abbrev owner : List ℕ
-  owner = bytesOf 4 (w .mode) ++ bytesOf 4 (w .uid) ++ bytesOf 4 (w .gid)
-
-  owner-length : length owner ≡ ownerLength
-  owner-length = owner-size (w .mode) (w .uid) (w .gid)
-
-  times-length : length (timesBytes w) ≡ timesLength
-  unfolding timesBytes
-  times-length = simp (length-append, time-length)
-
-  abbrev first : Store
-  first = overlay s (at + modeOffset) owner
-
-  abbrev second : Store
-  second = overlay first (at + atimeOffset) (timesBytes w)
-
-  first-length : length first ≡ length s
-  first-length = overlay-length s (at + modeOffset) owner (omega (arith, owner-length))
-
-  second-length : length second ≡ length s
-  second-length = overlay-length first (at + atimeOffset) (timesBytes w) (omega (arith, times-length, first-length)) ∙ first-length
-
-  size-kept : part first (at + sizeOffset) 4 ≡ part s (at + sizeOffset) 4
-  size-kept = part-after s (at + modeOffset) owner (omega (arith, owner-length)) (at + sizeOffset) 4 (omega (arith, owner-length))
-
-  blocks-kept : part second (at + blocksOffset) blocksLength ≡ part s (at + blocksOffset) blocksLength
-  blocks-kept =
-      part-after first (at + atimeOffset) (timesBytes w) (omega (arith, times-length, first-length)) (at + blocksOffset) blocksLength
-      (omega (arith, times-length))
-      ∙ part-after s (at + modeOffset) owner (omega (arith, owner-length)) (at + blocksOffset) blocksLength (omega (arith, owner-length))
-
-  spelt : objectBytes w
-      ≡ (bytesOf 4 (w .kind) ++ bytesOf 4 (w .generation)) ++ (owner ++ (bytesOf 4 (w .size) ++ (timesBytes w ++ halvesBytes fileBlocks (w .blocks))))
-  unfolding objectBytes headBytes
-  spelt = simp append-assoc
-
-  -- the attributes written are the record written
-  pub attributes-written : second ≡ putObject s o w
-  unfolding putObject
-  attributes-written =
-      let past : at + modeOffset + length owner ≡ at + sizeOffset = omega (arith, owner-length) in
-      let behind : at + atimeOffset + length (timesBytes w) ≡ at + blocksOffset = omega (arith, times-length) in
-      let sized : at + sizeOffset + 4 ≡ at + atimeOffset = omega arith in
-      sym (ap (overlay s at) spelt
-      ∙ skip s at modeOffset _ _ front (omega arith)
-      ∙ sym (overlay-join s (at + modeOffset) owner (omega (arith, owner-length)) _)
-      ∙ ap (λ (k : ℕ). overlay first k (bytesOf 4 (w .size) ++ (timesBytes w ++ halvesBytes fileBlocks (w .blocks)))) past
-      ∙ skip first (at + sizeOffset) 4 _ _ (middle ∙ sym size-kept) (omega (arith, first-length))
-      ∙ ap (λ (k : ℕ). overlay first k (timesBytes w ++ halvesBytes fileBlocks (w .blocks))) sized
-      ∙ sym (overlay-join first (at + atimeOffset) (timesBytes w) (omega (arith, times-length, first-length)) _)
-      ∙ ap (λ (k : ℕ). overlay second k (halvesBytes fileBlocks (w .blocks))) behind
-      ∙ overlay-kept second (at + blocksOffset) blocksLength _ (end ∙ sym blocks-kept) (omega (arith, second-length)))
-
--- two parts, one after the other
-joined : (s : List ℕ) (p q n m : ℕ) (xs ys : List ℕ) → q ≡ p + n → xs ≡ part s p n → ys ≡ part s q m → xs ++ ys ≡ part s p (n + m)
-joined s p q n m xs ys e a b = ap₂ (λ (x y : List ℕ). x ++ y) a (b ∙ ap (λ (k : ℕ). part s k m) e) ∙ sym (part-add s p n m)
-
-module _ (s : Store) (o : ℕ) (f : Below 256 s) (h : objectStart o + objectLength ≤ length s) where
   time-kept : (p : ℕ) → p + timeLength ≤ length s → timeBytes (timeAt s p) ≡ part s p timeLength
   unfolding timeBytes timeAt
   time-kept p k =
       joined s p (p + nanosecondsOffset) nanosecondsOffset 4 _ _ refl (bytes-kept s f 4 p (omega arith))
       (bytes-kept s f 4 (p + nanosecondsOffset) (omega arith))
 
+  -- the type and the generation
+  start-kept : bytesOf 4 (objectAt s o .kind) ++ bytesOf 4 (objectAt s o .generation) ≡ part s at modeOffset
+  unfolding objectAt objectFrom
+  start-kept =
+      joined s at (at + generationOffset) generationOffset 4 _ _ refl (bytes-kept s f 4 at (omega arith))
+      (bytes-kept s f 4 (at + generationOffset) (omega arith))
+
   -- the numbers before the size
   pub numbers-kept : bytesOf 4 (objectAt s o .kind) ++ bytesOf 4 (objectAt s o .generation) ++ bytesOf 4 (objectAt s o .mode)
-      ++ bytesOf 4 (objectAt s o .uid) ++ bytesOf 4 (objectAt s o .gid) ≡ part s (objectStart o) sizeOffset
+      ++ bytesOf 4 (objectAt s o .uid) ++ bytesOf 4 (objectAt s o .gid) ≡ part s at sizeOffset
   unfolding objectAt objectFrom
   numbers-kept =
-      joined s (objectStart o) (objectStart o + gidOffset) gidOffset 4 _ _ refl
-      (joined s (objectStart o) (objectStart o + uidOffset) uidOffset 4 _ _ refl
-      (joined s (objectStart o) (objectStart o + modeOffset) modeOffset 4 _ _ refl
-      (joined s (objectStart o) (objectStart o + generationOffset) generationOffset 4 _ _ refl (bytes-kept s f 4 (objectStart o) (omega arith))
-      (bytes-kept s f 4 (objectStart o + generationOffset) (omega arith)))
-      (bytes-kept s f 4 (objectStart o + modeOffset) (omega arith)))
-      (bytes-kept s f 4 (objectStart o + uidOffset) (omega arith)))
-      (bytes-kept s f 4 (objectStart o + gidOffset) (omega arith))
+      joined s at (at + gidOffset) gidOffset 4 _ _ refl
+      (joined s at (at + uidOffset) uidOffset 4 _ _ refl
+      (joined s at (at + modeOffset) modeOffset 4 _ _ refl start-kept (bytes-kept s f 4 (at + modeOffset) (omega arith)))
+      (bytes-kept s f 4 (at + uidOffset) (omega arith)))
+      (bytes-kept s f 4 (at + gidOffset) (omega arith))
 
-  owner-kept : bytesOf 4 (objectAt s o .mode) ++ bytesOf 4 (objectAt s o .uid) ++ bytesOf 4 (objectAt s o .gid)
-      ≡ part s (objectStart o + modeOffset) ownerLength
+  owner-kept : bytesOf 4 (objectAt s o .mode) ++ bytesOf 4 (objectAt s o .uid) ++ bytesOf 4 (objectAt s o .gid) ≡ part s (at + modeOffset) ownerLength
   unfolding objectAt objectFrom
   owner-kept =
-      joined s (objectStart o + modeOffset) (objectStart o + gidOffset) (gidOffset - modeOffset) 4 _ _ (omega arith)
-      (joined s (objectStart o + modeOffset) (objectStart o + uidOffset) (uidOffset - modeOffset) 4 _ _ (omega arith)
-      (bytes-kept s f 4 (objectStart o + modeOffset) (omega arith))
-      (bytes-kept s f 4 (objectStart o + uidOffset) (omega arith)))
-      (bytes-kept s f 4 (objectStart o + gidOffset) (omega arith))
+      joined s (at + modeOffset) (at + gidOffset) (gidOffset - modeOffset) 4 _ _ (omega arith)
+      (joined s (at + modeOffset) (at + uidOffset) (uidOffset - modeOffset) 4 _ _ (omega arith)
+      (bytes-kept s f 4 (at + modeOffset) (omega arith))
+      (bytes-kept s f 4 (at + uidOffset) (omega arith)))
+      (bytes-kept s f 4 (at + gidOffset) (omega arith))
 
-  pub times-kept : timesBytes (objectAt s o) ≡ part s (objectStart o + atimeOffset) timesLength
+  size-kept : bytesOf 4 (objectAt s o .size) ≡ part s (at + sizeOffset) 4
+  unfolding objectAt objectFrom
+  size-kept = bytes-kept s f 4 (at + sizeOffset) (omega arith)
+
+  atime-kept : timeBytes (objectAt s o .atime) ≡ part s (at + atimeOffset) timeLength
+  unfolding objectAt objectFrom
+  atime-kept = time-kept (at + atimeOffset) (omega arith)
+
+  pub times-kept : timesBytes (objectAt s o) ≡ part s (at + atimeOffset) timesLength
   unfolding timesBytes objectAt objectFrom
   times-kept =
-      joined s (objectStart o + atimeOffset) (objectStart o + ctimeOffset) (2 * timeLength) timeLength _ _ (omega arith)
-      (joined s (objectStart o + atimeOffset) (objectStart o + mtimeOffset) timeLength timeLength _ _ (omega arith)
-      (time-kept (objectStart o + atimeOffset) (omega arith))
-      (time-kept (objectStart o + mtimeOffset) (omega arith)))
-      (time-kept (objectStart o + ctimeOffset) (omega arith))
+      joined s (at + atimeOffset) (at + ctimeOffset) (2 * timeLength) timeLength _ _ (omega arith)
+      (joined s (at + atimeOffset) (at + mtimeOffset) timeLength timeLength _ _ (omega arith)
+      (time-kept (at + atimeOffset) (omega arith))
+      (time-kept (at + mtimeOffset) (omega arith)))
+      (time-kept (at + ctimeOffset) (omega arith))
 
-  atime-kept : timeBytes (objectAt s o .atime) ≡ part s (objectStart o + atimeOffset) timeLength
+  blocks-kept : halvesBytes fileBlocks (objectAt s o .blocks) ≡ part s (at + blocksOffset) blocksLength
   unfolding objectAt objectFrom
-  atime-kept = time-kept (objectStart o + atimeOffset) (omega arith)
+  blocks-kept = halves-low s f (at + blocksOffset) fileBlocks fileBlocks (omega arith) (omega arith)
+
+  pub verifier-kept : verifierBytes (objectAt s o) ≡ part s (at + verifierOffset) verifierLength
+  unfolding verifierBytes objectAt objectFrom
+  verifier-kept =
+      joined s (at + verifierOffset) (at + exclusiveOffset) (exclusiveOffset - verifierOffset) 4 _ _ (omega arith)
+      (bytes-kept s f 8 (at + verifierOffset) (omega arith))
+      (bytes-kept s f 4 (at + exclusiveOffset) (omega arith))
+
+  -- the block numbers and all behind them
+  rest-kept : halvesBytes fileBlocks (objectAt s o .blocks) ++ verifierBytes (objectAt s o) ≡ part s (at + blocksOffset) restLength
+  rest-kept = joined s (at + blocksOffset) (at + verifierOffset) blocksLength verifierLength _ _ (omega arith) blocks-kept verifier-kept
+
+  -- all before the verifier
+  front-kept : headBytes (objectAt s o) ++ timesBytes (objectAt s o) ++ halvesBytes fileBlocks (objectAt s o .blocks) ≡ part s at verifierOffset
+  unfolding headBytes
+  front-kept =
+      joined s at (at + blocksOffset) blocksOffset blocksLength _ _ refl
+      (joined s at (at + atimeOffset) atimeOffset timesLength _ _ refl
+      (joined s at (at + sizeOffset) sizeOffset 4 _ _ refl numbers-kept size-kept)
+      times-kept)
+      blocks-kept
 
   -- an object written where it was read
   pub object-kept : putObject s o (objectAt s o) ≡ s
-  object-kept =
-      sym (attributes-written s o (objectAt s o) f h refl refl refl refl)
-      ∙ ap (λ (z : Store). overlay z (objectStart o + atimeOffset) (timesBytes (objectAt s o)))
-      (overlay-kept s (objectStart o + modeOffset) ownerLength _ owner-kept (omega arith))
-      ∙ overlay-kept s (objectStart o + atimeOffset) timesLength _ times-kept (omega arith)
+  unfolding putObject objectBytes
+  object-kept = overlay-kept s at objectLength _ (joined s at (at + verifierOffset) verifierOffset verifierLength _ _ refl front-kept verifier-kept) h
+
+  -- a verifier and its flag written alone
+  pub verifier-written : (verifier flag : ℕ)
+      → overlay s (at + verifierOffset) (bytesOf 8 verifier ++ bytesOf 4 flag) ≡ putObject s o (withVerifier verifier flag (objectAt s o))
+  unfolding putObject objectBytes headBytes timesBytes verifierBytes withVerifier
+  verifier-written verifier flag = sym (skip s at verifierOffset _ _ front-kept (omega arith))
+
+  module _ (clock : Time) (a : Settable) where
+    abbrev w : Object
+    w = withAttributes clock a (objectAt s o)
+
+    abbrev owner : List ℕ
+    owner = bytesOf 4 (w .mode) ++ bytesOf 4 (w .uid) ++ bytesOf 4 (w .gid)
+
+    abbrev rest : List ℕ
+    rest = halvesBytes fileBlocks (objectAt s o .blocks) ++ verifierBytes (objectAt s o)
+
+    owner-length : length owner ≡ ownerLength
+    owner-length = owner-size (w .mode) (w .uid) (w .gid)
+
+    times-length : length (timesBytes w) ≡ timesLength
+    unfolding timesBytes
+    times-length = simp (length-append, time-length)
+
+    abbrev first : Store
+    first = overlay s (at + modeOffset) owner
+
+    abbrev second : Store
+    second = overlay first (at + atimeOffset) (timesBytes w)
+
+    first-length : length first ≡ length s
+    first-length = overlay-length s (at + modeOffset) owner (omega (arith, owner-length))
+
+    second-length : length second ≡ length s
+    second-length = overlay-length first (at + atimeOffset) (timesBytes w) (omega (arith, times-length, first-length)) ∙ first-length
+
+    size-same : part first (at + sizeOffset) 4 ≡ part s (at + sizeOffset) 4
+    size-same = part-after s (at + modeOffset) owner (omega (arith, owner-length)) (at + sizeOffset) 4 (omega (arith, owner-length))
+
+    rest-same : part second (at + blocksOffset) restLength ≡ part s (at + blocksOffset) restLength
+    rest-same =
+        part-after first (at + atimeOffset) (timesBytes w) (omega (arith, times-length, first-length)) (at + blocksOffset) restLength
+        (omega (arith, times-length))
+        ∙ part-after s (at + modeOffset) owner (omega (arith, owner-length)) (at + blocksOffset) restLength (omega (arith, owner-length))
+
+    spelt : objectBytes w
+        ≡ (bytesOf 4 (objectAt s o .kind) ++ bytesOf 4 (objectAt s o .generation))
+        ++ (owner ++ (bytesOf 4 (objectAt s o .size) ++ (timesBytes w ++ rest)))
+    unfolding objectBytes headBytes verifierBytes withAttributes
+    spelt = simp append-assoc
+
+    -- attributes written alone
+    pub attributes-written : second ≡ setAttributes s clock o a
+    unfolding setAttributes putObject
+    attributes-written =
+        let past : at + modeOffset + length owner ≡ at + sizeOffset = omega (arith, owner-length) in
+        let behind : at + atimeOffset + length (timesBytes w) ≡ at + blocksOffset = omega (arith, times-length) in
+        let sized : at + sizeOffset + 4 ≡ at + atimeOffset = omega arith in
+        sym (ap (overlay s at) spelt
+        ∙ skip s at modeOffset _ _ start-kept (omega arith)
+        ∙ sym (overlay-join s (at + modeOffset) owner (omega (arith, owner-length)) _)
+        ∙ ap (λ (k : ℕ). overlay first k (bytesOf 4 (objectAt s o .size) ++ (timesBytes w ++ rest))) past
+        ∙ skip first (at + sizeOffset) 4 _ _ (size-kept ∙ sym size-same) (omega (arith, first-length))
+        ∙ ap (λ (k : ℕ). overlay first k (timesBytes w ++ rest)) sized
+        ∙ sym (overlay-join first (at + atimeOffset) (timesBytes w) (omega (arith, times-length, first-length)) _)
+        ∙ ap (λ (k : ℕ). overlay second k rest) behind
+        ∙ overlay-kept second (at + blocksOffset) restLength _ (rest-kept ∙ sym rest-same) (omega (arith, second-length)))
 
   -- mtime and ctime written alone
-  pub touched : (clock : Time) → overlay s (objectStart o + mtimeOffset) (timeBytes clock ++ timeBytes clock) ≡ setAttributes s clock o mtimeAndCtime
-  unfolding setAttributes withAttributes timesBytes
+  pub touched : (clock : Time) → overlay s (at + mtimeOffset) (timeBytes clock ++ timeBytes clock) ≡ setAttributes s clock o mtimeAndCtime
+  unfolding withAttributes timesBytes
   touched clock =
       let v = objectAt s o in
-      let w = withAttributes clock mtimeAndCtime v in
-      let p : objectStart o + atimeOffset + timeLength ≡ objectStart o + mtimeOffset = omega arith in
-      let atime : timeBytes (v .atime) ≡ part s (objectStart o + atimeOffset) timeLength = atime-kept in
-      sym (sym (attributes-written s o w f h refl refl refl refl)
-      ∙ ap (λ (z : Store). overlay z (objectStart o + atimeOffset) (timeBytes (v .atime) ++ timeBytes clock ++ timeBytes clock))
-      (overlay-kept s (objectStart o + modeOffset) ownerLength _ owner-kept (omega arith))
-      ∙ ap (overlay s (objectStart o + atimeOffset)) (append-assoc (timeBytes (v .atime)) (timeBytes clock) (timeBytes clock))
-      ∙ skip s (objectStart o + atimeOffset) timeLength _ _ atime (omega arith)
+      let p : at + atimeOffset + timeLength ≡ at + mtimeOffset = omega arith in
+      sym (sym (attributes-written clock mtimeAndCtime)
+      ∙ ap (λ (z : Store). overlay z (at + atimeOffset) (timeBytes (v .atime) ++ timeBytes clock ++ timeBytes clock))
+      (overlay-kept s (at + modeOffset) ownerLength _ owner-kept (omega arith))
+      ∙ ap (overlay s (at + atimeOffset)) (append-assoc (timeBytes (v .atime)) (timeBytes clock) (timeBytes clock))
+      ∙ skip s (at + atimeOffset) timeLength _ _ atime-kept (omega arith)
       ∙ ap (λ (k : ℕ). overlay s k (timeBytes clock ++ timeBytes clock)) p)

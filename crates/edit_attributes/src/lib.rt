@@ -1,4 +1,4 @@
-// The first edit of the store: an object's attributes and times.
+// The first two edits of the store: an object's attributes and times, and its verifier forgotten.
 ghost use mathlib.Core.Path.{_≡_};
 ghost use Prim.Native.Nat.{_+_, _-_, _≤_};
 ghost use mathlib.Core.List.{_++_};
@@ -6,9 +6,8 @@ ghost use lib.ListN.{length};
 ghost use Rattle.kinds.specs.Layout.{modeOffset, sizeOffset, objectLength};
 ghost use Rattle.spec.specs.Bytes.{overlay, bytesOf};
 ghost use Rattle.spec.specs.Image.{objectStart};
-ghost use Rattle.spec.specs.Edits.{numberSet, timeSet, withAttributes, setAttributes, onlyCtime, mtimeAndCtime};
+ghost use Rattle.spec.specs.Edits.{numberSet, timeSet, withAttributes, setAttributes, mtimeAndCtime, forgetVerifier};
 use kinds::call::SetNumber;
-use kinds::call::SetSize;
 use kinds::call::SetTime;
 use kinds::call::Settable;
 use kinds::layout::ObjectRecord;
@@ -22,6 +21,7 @@ use store_records::object::mode_of;
 use store_records::object::mtime_of;
 use store_records::object::save_time;
 use store_records::object::save_times;
+use store_records::object::save_verifier;
 use store_records::object::uid_of;
 
 // A number that a call may set.
@@ -68,6 +68,8 @@ pub fn with_attributes(clock: Time, a: Settable, v: Object) -> Object
         mtime: time_set(clock, mtime, old_mtime),
         ctime: clock,
         blocks,
+        verifier: v.verifier,
+        exclusive: v.exclusive,
     }
 }
 
@@ -116,16 +118,11 @@ pub fn touch(store: &mut [u8], clock: Time, o: ObjectNumber)
     save_time(store, at + ObjectRecord::CTIME, clock);
 }
 
-// Sets ctime alone.
-pub fn only_ctime() -> Settable
-    ensures { λ r. ⌜ r ≡ onlyCtime ⌝ }
+// Forgets an object's verifier. The other bytes of the record stay.
+pub fn forget_verifier(store: &mut [u8], o: ObjectNumber)
+    requires { ⌜ objectStart (o .0) + objectLength ≤ length (now store) ⌝ }
+    ensures { λ _. ⌜ now (store .exit) ≡ forgetVerifier (now (store .entry)) (o .0) ⌝ }
 {
-    Settable {
-        mode: SetNumber::Keep,
-        uid: SetNumber::Keep,
-        gid: SetNumber::Keep,
-        size: SetSize::Keep,
-        atime: SetTime::Keep,
-        mtime: SetTime::Keep,
-    }
+    let at = object_start(store, o);
+    save_verifier(store, at + ObjectRecord::VERIFIER, 0, 0);
 }

@@ -10,7 +10,7 @@ ghost use Rattle.spec.specs.Procedures.Names.{touchDirectory};
 ghost use Rattle.spec.specs.Procedures.Removal.{renameEdit};
 ghost use Rattle.laws.proofs.GoodRecords.{GoodRecords};
 ghost use Rattle.edit_entries.specs.Records.{RemovableAt, MovableAt};
-use edit_attributes::only_ctime;
+use check_settable::only_ctime;
 use edit_attributes::set_attributes;
 use edit_attributes::touch;
 use edit_names::move_name;

@@ -10,8 +10,8 @@ use Rattle.kinds.specs.Objects.{freeObject}
 use Rattle.kinds.specs.declared.object.Object.{Object}
 use Rattle.spec.specs.Bytes.{part, bytesOf, zeros}
 use Rattle.spec.specs.Edits.{clearBlocks, removeObject}
-use Rattle.spec.specs.Image.{Store, objects, names, blocks, objectAt, timeBytes, headBytes, timesBytes, halvesBytes, objectBytes, putObject, nameAt}
-use Rattle.spec.specs.Image.{putName, freeName}
+use Rattle.spec.specs.Image.{Store, objects, names, blocks, objectAt, timeBytes, headBytes, timesBytes, halvesBytes, verifierBytes, objectBytes, putObject}
+use Rattle.spec.specs.Image.{nameAt, putName, freeName}
 use Rattle.spec.specs.Room.{sizeOf, need, held}
 use Rattle.laws.proofs.BlockLists.{InRange, held-range}
 use Rattle.laws.proofs.BlockWrites.{clear-blocks}
@@ -66,5 +66,5 @@ module _ {s : Store} {n o : ℕ} (r : Removing s n o) where
 
 -- the bytes of a free object
 pub free-bytes : (g : ℕ) → bytesOf 4 0 ++ bytesOf 4 g ++ zeros (objectLength - modeOffset) ≡ objectBytes (freeObject g)
-unfolding objectBytes headBytes timesBytes timeBytes halvesBytes bytesOf
+unfolding objectBytes headBytes timesBytes timeBytes halvesBytes verifierBytes bytesOf
 free-bytes g = refl

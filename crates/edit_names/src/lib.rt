@@ -1,4 +1,4 @@
-// Objects with their names: the third, fourth and fifth edit of the store.
+// Objects with their names: the fourth, fifth and sixth edit of the store.
 ghost use mathlib.Core.Path.{_≡_};
 ghost use Prim.Native.Nat.{_+_, _≤_, _<_};
 ghost use lib.ListN.{length};

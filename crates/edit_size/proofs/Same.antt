@@ -74,5 +74,7 @@ resize-same s o g l k f =
       mtime = v .mtime;
       ctime = v .ctime;
       blocks = numbers i;
+      verifier = v .verifier;
+      exclusive = v .exclusive;
     })
     ∙ object-kept s o f (omega arith))

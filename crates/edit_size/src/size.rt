@@ -1,4 +1,4 @@
-// The second edit of the store: a file's size and its blocks.
+// The third edit of the store: a file's size and its blocks.
 ghost use mathlib.Core.Path.{_≡_};
 ghost use mathlib.Core.List.{_++_};
 ghost use Prim.Native.Nat.{_+_, _-_, _≤_, _<_};

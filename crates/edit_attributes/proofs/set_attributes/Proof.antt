@@ -1,10 +1,10 @@
-use mathlib.Core.Path.{refl, ap, _∙_}
+use mathlib.Core.Path.{ap, _∙_}
 use Prim.Native.Nat.{_+_, _≤_}
 use native.Mathlib.Omega.{arith}
 use lib.ListN.{length}
 use Rattle.kinds.specs.Layout.{modeOffset}
-use Rattle.spec.specs.Edits.{withAttributes, setAttributes}
-use Rattle.spec.specs.Image.{objectAt, timesBytes}
+use Rattle.spec.specs.Edits.{withAttributes}
+use Rattle.spec.specs.Image.{timesBytes}
 use Rattle.laws.proofs.Bytes.{overlay-length}
 use Rattle.edit_attributes.proofs.Kept.{ownerLength, owner-size, attributes-written}
 use borrow.Author.Needs.{needs}
@@ -77,7 +77,7 @@ same-length : tie.Need-same-length
 same-length c = search needs
 
 returns : tie.Need-returns
-unfolding setAttributes withAttributes timesBytes
+unfolding withAttributes timesBytes
 returns c =
     let after-save-owner = c .before .before .before .before .before .before in
     let after-object-start = after-save-owner .before .before in
@@ -95,7 +95,6 @@ returns c =
     let start = after-slice-known .before in
     let a = start .args in
     let s = a .store .now in
-    let w = withAttributes (a .clock) (a .a) (objectAt s (a .o .0)) in
     rw (
       c .before .before .save-times .ensures,
       after-save-owner .save-owner .ensures,
@@ -111,8 +110,7 @@ returns c =
       after-number-set .number-set .ensures,
       after-mode-of .mode-of .ensures,
     )
-    (attributes-written s (a .o .0) w (λ k. after-slice-known .slice-known .given k .fits) (start .pre) refl
-    refl refl refl)
+    (attributes-written s (a .o .0) (λ k. after-slice-known .slice-known .given k .fits) (start .pre) (a .clock) (a .a))
 
 pub set-attributes-spec : {M : Type 1} → statement M
 set-attributes-spec =

@@ -36,6 +36,8 @@ returns c =
       mtime = c .time-set2 .ensures i;
       ctime = st .args .clock;
       blocks = v .blocks;
+      verifier = v .verifier;
+      exclusive = v .exclusive;
     }
 
 pub with-attributes-spec : {M : Type 1} → statement M
