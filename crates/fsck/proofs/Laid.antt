@@ -1,15 +1,14 @@
 -- The bytes that format writes. Assumes nothing.
 use mathlib.Core.Path.{_≡_, refl, sym, ap, ap₂, _∙_}
-use mathlib.Core.Bool.{true, _&&_}
 use mathlib.Core.List.{List, [], _∷_, _++_, append-assoc, append-nil}
 use Prim.Native.Nat.{ℕ, zero, suc, _+_, _*_, _-_, _≤_}
 use native.Mathlib.Omega.{arith}
-use lib.Dec.{eqb, leb, ltb}
+use lib.Dec.{eqb, ltb}
 use lib.ListN.{length, take, drop, length-append, length-replicate}
 use lib.Seq.{take-append-add, drop-append-add, drop-length}
-use borrow.Author.Tests.{eqb-true, leb-true}
+use borrow.Author.Tests.{eqb-true}
 use Rattle.kinds.specs.Layout.{stampOffset, objectCountOffset, objectsHead, namesHead, objectLength, nameRecordLength, blockLength}
-use Rattle.kinds.specs.Numbers.{nanosecondsEnd, mostObjects, mostNameRecords, mostBlocks}
+use Rattle.kinds.specs.Numbers.{nanosecondsEnd, mostObjects, mostNameRecords}
 use Rattle.kinds.specs.Objects.{rootObject}
 use Rattle.kinds.specs.declared.object.Time.{Time}
 use Rattle.spec.specs.Bytes.{overlay, zeros, bytesOf, words}
@@ -17,8 +16,9 @@ use Rattle.spec.specs.Image.{Store, objectBytes, putObject, objectStart}
 use Rattle.spec.specs.Check.{goodCounts, imageLength, goodTime}
 use Rattle.spec.specs.Serve.{formatted, format}
 use Rattle.laws.proofs.Bytes.{bytes-length, overlay-more}
-use Rattle.laws.proofs.Count.{by-bool, and-both}
+use Rattle.laws.proofs.Count.{by-bool}
 use Rattle.laws.proofs.Records.{object-length}
+use Rattle.laws.proofs.Valid.{counts-by}
 use Rattle.laws.proofs.Words.{words-one}
 use Rattle.fsck.specs.Format.{answerFor, frontOf, Leaves}
 
@@ -124,14 +124,6 @@ pub record Asked (s : Store) (p q r : ℕ) : Type 0 where
   pub few : p ≤ mostObjects
   pub few-names : q ≤ mostNameRecords
   pub long : length s ≡ imageLength p q r
-
-counts-by : (p q r : ℕ) → goodCounts p q r ≡ true → (1 ≤ p) × (p ≤ mostObjects) × (q ≤ mostNameRecords)
-unfolding goodCounts
-counts-by p q r e =
-    let a = and-both (leb 1 p && leb p mostObjects && leb q mostNameRecords) (leb r mostBlocks) e in
-    let b = and-both (leb 1 p && leb p mostObjects) (leb q mostNameRecords) (a .0) in
-    let c = and-both (leb 1 p) (leb p mostObjects) (b .0) in
-    (leb-true 1 p (c .0), leb-true p mostObjects (c .1), leb-true q mostNameRecords (b .1))
 
 module _ (s : Store) (stamp p q r : ℕ) (clock : Time) where
   pub asked : answerFor (length s) p q r (clock .nanoseconds) ≡ 0 → Asked s p q r

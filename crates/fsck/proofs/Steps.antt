@@ -16,7 +16,7 @@ use borrow.Author.Tests.{eq-eqb, ne-eqb}
 use Rattle.spec.specs.Image.{Store, objects, names}
 use Rattle.spec.specs.Room.{isLive, parent, above}
 use Rattle.spec.specs.Check.{leadsToRoot}
-use Rattle.laws.proofs.Valid.{Shaped}
+use Rattle.laws.proofs.Valid.{Framed}
 use Rattle.fsck_objects.specs.Objects.{Blank}
 use Rattle.fsck_names.specs.Named.{NamedBy}
 use Rattle.fsck_names.proofs.Parents.{parent-is}
@@ -209,7 +209,7 @@ module _ (s : Store) (o : ℕ) where
   leads-no e f = rw (e, ne-eqb (above s (objects s) o) 0 f)
 
 -- the map of parents that the pass over the names has made
-pub parents-by : (s : Store) (p : ℕ) (parents : List ℕ) → Shaped s → p ≡ objects s → NamedBy s (names s) parents → Parents s p parents
+pub parents-by : (s : Store) (p : ℕ) (parents : List ℕ) → Framed s → p ≡ objects s → NamedBy s (names s) parents → Parents s p parents
 parents-by s p parents t e n =
     record {
       count = e;

@@ -1,58 +1,48 @@
 -- The verdict of the check, from what its passes tell. Assumes nothing.
-use mathlib.Core.Path.{_≡_, sym, ap, _∙_}
+use mathlib.Core.Path.{_≡_, refl, sym, ap, _∙_}
 use mathlib.Core.Bool.{Bool, true, false, not}
 use mathlib.Core.List.{List}
 use Prim.Native.Nat.{ℕ, _≤_}
 use native.Mathlib.Omega.{arith}
 use lib.Dec.{eqb}
 use borrow.Author.Tests.{eqb-true, eqb-false}
+use Rattle.kinds.specs.Layout.{objectLength}
 use Rattle.spec.specs.Count.{bit}
 use Rattle.spec.specs.Image.{Store, objects, names}
 use Rattle.spec.specs.Room.{isDirectory, uses, isFreeBlock}
-use Rattle.spec.specs.Check.{goodShape, goodRoot, passes}
+use Rattle.spec.specs.Check.{goodShape, goodRoot, recordsPass, passes}
 use Rattle.laws.proofs.Count.{by-bool, true-false}
-use Rattle.laws.proofs.Demands.{passes-by}
-use Rattle.laws.proofs.Valid.{Shaped, shaped, shape-true}
+use Rattle.laws.proofs.Demands.{records-by}
+use Rattle.laws.proofs.Valid.{Framed}
 use Rattle.store_blocks.specs.Blocks.{UsedMap}
+use Rattle.fsck_objects.specs.Told.{Told}
 use Rattle.fsck_objects.specs.Objects.{UsedBy, ObjectsPass}
-use Rattle.fsck_objects.proofs.Passes.{fails-shape, fails-root}
+use Rattle.fsck_objects.proofs.Passes.{fails-root}
 use Rattle.fsck_blocks.proofs.Places.{used-once}
 use Rattle.fsck_names.specs.Names.{NamesPass}
 use Rattle.fsck_names.proofs.Whole.{distinct-all}
 use Rattle.fsck.specs.Found.{countsOf, foundIf, shapeOf}
+use Rattle.fsck.proofs.Shapes.{shape-is, found-no, found-yes}
 use Rattle.fsck.specs.Tree.{TreePasses}
-use Rattle.fsck.specs.Verdict.{NamesAndTreePass, Verdict}
+use Rattle.fsck.specs.Verdict.{NamesAndTreePass, RecordVerdict, Verdict}
 use Rattle.fsck.specs.declared.shape.Counts.{Counts}
 use Rattle.fsck.specs.declared.shape.Found.the-variants.{Bad, Good}
 
 -- ---- the shape
-good-bad : {A : Type 0} (k : Counts) → Good k ≡ Bad → A
-good-bad k e = let z : _≡_ {A = ℕ} 0 1 = cc in absurd (omega arith)
+pub shape-no : (s : Store) → shapeOf objectLength s ≡ Bad → passes s ≡ false
+unfolding passes
+shape-no s e = rw (found-no (goodShape s) (countsOf s) (sym (shape-is s) ∙ e))
 
-pub shape-no : (s : Store) → shapeOf s ≡ Bad → passes s ≡ false
-unfolding shapeOf
-shape-no s e =
-    by-bool (goodShape s) (λ t. good-bad (countsOf s) (sym (ap (λ (x : Bool). foundIf x s) t) ∙ e)) (λ t. fails-shape s t)
-
-pub shape-yes : (s : Store) (k : Counts) → shapeOf s ≡ Good k → (Shaped s) × (k ≡ countsOf s)
-unfolding shapeOf
-shape-yes s k e =
-    by-bool (goodShape s)
-    (λ t. let q : Good (countsOf s) ≡ Good k = sym (ap (λ (x : Bool). foundIf x s) t) ∙ e in (shaped s t, cc))
-    (λ t. good-bad k (sym e ∙ ap (λ (x : Bool). foundIf x s) t))
-
--- ---- the root
-pub root-no : (s : Store) → isDirectory s 0 ≡ false → passes s ≡ false
-unfolding goodRoot
-root-no s e = fails-root s e
+pub shape-yes : (s : Store) (k : Counts) → shapeOf objectLength s ≡ Good k → (goodShape s ≡ true) × (k ≡ countsOf s)
+shape-yes s k e = found-yes (goodShape s) (countsOf s) k (sym (shape-is s) ∙ e)
 
 -- ---- the names and the tree
-pub rest-by : (s : Store) (p : ℕ) (parents head next depths : List ℕ) → Shaped s → p ≡ objects s → NamesPass s (names s) parents head next
+pub rest-by : (s : Store) (p : ℕ) (parents head next depths : List ℕ) → Framed s → p ≡ objects s → NamesPass s (names s) parents head next
     → TreePasses s p p depths → NamesAndTreePass s
 rest-by s p parents head next depths t e a b =
     record { good = a .good; distinct = distinct-all s t parents head next a; named = rw (← e) (b .named); leads = rw (← e) (b .leads) }
 
--- ---- the whole
+-- ---- the records
 used-bit : (u : ℕ) → u ≤ 1 → u ≡ bit (not (eqb u 0))
 used-bit u h =
     by-bool (eqb u 0) (λ t. rw t (eqb-true u 0 t)) (λ t. rw t (let d = eqb-false u 0 t in omega arith))
@@ -61,30 +51,50 @@ used-map : (s : Store) (used : List ℕ) → UsedBy s (objects s) used → UsedM
 unfolding uses isFreeBlock
 used-map s used m = record { used = λ r l. let e = m .uses r l in let o = m .once r l in e ∙ used-bit (uses s r) (omega arith) }
 
-pub checked-bad : (s : Store) (used : List ℕ) → passes s ≡ false → Verdict s Bad used
-checked-bad s used e = record { is = sym (ap (λ (t : Bool). foundIf t s) e); map = λ t. true-false (sym t ∙ e) }
+pub records-bad : (s : Store) (used : List ℕ) → recordsPass s ≡ false → RecordVerdict s false used
+records-bad s used e = record { is = sym e; map = λ t. true-false (sym t ∙ e) }
 
-pub checked-good : (s : Store) (k : Counts) (used : List ℕ) → Shaped s → k ≡ countsOf s → isDirectory s 0 ≡ true → ObjectsPass s (objects s) used
-    → NamesAndTreePass s → Verdict s (Good k) used
+pub root-bad : (s : Store) (used : List ℕ) → isDirectory s 0 ≡ false → RecordVerdict s false used
 unfolding goodRoot
-checked-good s k used t e g a b =
-    let y = passes-by s (record {
-      shape = shape-true s t;
+root-bad s used e = records-bad s used (fails-root s e)
+
+pub records-told : (s : Store) (used : List ℕ) (t : Bool) → isDirectory s 0 ≡ true → ObjectsPass s (objects s) used → Told t s (NamesAndTreePass s)
+    → RecordVerdict s t used
+unfolding goodRoot
+records-told s used true g a b =
+    let f = b .yes refl in
+    let y = records-by s (record {
       root = g;
       good-objects = a .good;
-      good-names = b .good;
-      distinct = b .distinct;
-      named = b .named;
+      good-names = f .good;
+      distinct = f .distinct;
+      named = f .named;
       used-once = used-once s used (a .map);
-      leads = b .leads;
+      leads = f .leads;
     }) in
-    record { is = ap (λ (c : Counts). Good c) e ∙ sym (ap (λ (x : Bool). foundIf x s) y); map = λ q. used-map s used (a .map) }
+    record { is = sym y; map = λ q. used-map s used (a .map) }
+records-told s used false g a b = records-bad s used (b .no refl)
+
+-- ---- the whole
+-- of a good shape, the store passes where the records do
+shape-records : (s : Store) → goodShape s ≡ true → passes s ≡ recordsPass s
+unfolding passes
+shape-records s g = rw g
+
+pub checked-bad : (s : Store) (used : List ℕ) → passes s ≡ false → Verdict s Bad used
+checked-bad s used e = record { is = sym (ap (λ (t : Bool). foundIf t (countsOf s)) e); map = λ t. true-false (sym t ∙ e) }
+
+pub checked-records-bad : (s : Store) (used : List ℕ) → goodShape s ≡ true → recordsPass s ≡ false → Verdict s Bad used
+checked-records-bad s used g e = checked-bad s used (shape-records s g ∙ e)
+
+pub checked-good : (s : Store) (k : Counts) (used : List ℕ) → goodShape s ≡ true → k ≡ countsOf s → recordsPass s ≡ true → UsedMap s used
+    → Verdict s (Good k) used
+checked-good s k used g e y m =
+    record { is = ap (λ (c : Counts). Good c) e ∙ sym (ap (λ (x : Bool). foundIf x (countsOf s)) (shape-records s g ∙ y)); map = λ q. m }
 
 -- ---- what callers read off the verdict
-pub bad-fails : (s : Store) → Bad ≡ foundIf (passes s) s → passes s ≡ false
-bad-fails s e =
-    by-bool (passes s) (λ t. good-bad (countsOf s) (sym (e ∙ ap (λ (x : Bool). foundIf x s) t))) (λ t. t)
+pub bad-fails : (s : Store) → Bad ≡ foundIf (passes s) (countsOf s) → passes s ≡ false
+bad-fails s e = found-no (passes s) (countsOf s) (sym e)
 
-pub good-passes : (s : Store) (k : Counts) → Good k ≡ foundIf (passes s) s → passes s ≡ true
-good-passes s k e =
-    by-bool (passes s) (λ t. t) (λ t. good-bad k (e ∙ ap (λ (x : Bool). foundIf x s) t))
+pub good-passes : (s : Store) (k : Counts) → Good k ≡ foundIf (passes s) (countsOf s) → passes s ≡ true
+good-passes s k e = found-yes (passes s) (countsOf s) k (sym e) .0

@@ -12,7 +12,7 @@ use Rattle.kinds.specs.declared.object.Time.{Time}
 use Rattle.spec.specs.Bytes.{overlay, zeros, bytesOf}
 use Rattle.spec.specs.Image.{Store, putObject, objectStart}
 use Rattle.spec.specs.Check.{goodCounts, imageLength}
-use Rattle.spec.specs.Serve.{Formatted}
+use Rattle.spec.specs.Serve.{Written}
 
 -- 3, then 6, then 0
 unfoldable pub answerFor : ℕ → ℕ → ℕ → ℕ → ℕ → ℕ
@@ -24,7 +24,7 @@ frontOf s stamp p clock =
     overlay (putObject (overlay (overlay (overlay s 0 (bytesOf 4 1)) stampOffset (bytesOf 4 stamp)) objectCountOffset (bytesOf 4 p)) 0
     (rootObject clock)) (objectStart 1) (zeros (length s - objectStart 1))
 
--- a number and a buffer are what format gives
-pub record Leaves (f : Formatted) (number : ℕ) (store : List ℕ) : Type 0 where
-  pub answers : number ≡ f .number
-  pub leaves : store ≡ f .store
+-- a number and a buffer are what an entry that writes a whole store gives
+pub record Leaves (w : Written) (number : ℕ) (store : List ℕ) : Type 0 where
+  pub answers : number ≡ w .number
+  pub leaves : store ≡ w .store

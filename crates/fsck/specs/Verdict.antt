@@ -1,13 +1,13 @@
--- What the check says of a store.
+-- What the check says of the records, and of a store.
 use mathlib.Core.Path.{_≡_}
-use mathlib.Core.Bool.{true}
+use mathlib.Core.Bool.{Bool, true}
 use mathlib.Core.List.{List}
 use Prim.Native.Nat.{ℕ}
 use Rattle.spec.specs.Count.{every}
 use Rattle.spec.specs.Image.{Store, objects, names}
-use Rattle.spec.specs.Check.{goodNameRecord, isDistinct, isNamedOnce, leadsToRoot, passes}
+use Rattle.spec.specs.Check.{goodNameRecord, isDistinct, isNamedOnce, leadsToRoot, recordsPass, passes}
 use Rattle.store_blocks.specs.Blocks.{UsedMap}
-use Rattle.fsck.specs.Found.{foundIf}
+use Rattle.fsck.specs.Found.{countsOf, foundIf}
 use Rattle.fsck.specs.declared.shape.Found.{Found}
 
 -- the demands on names and on the tree hold
@@ -17,7 +17,12 @@ pub record NamesAndTreePass (s : Store) : Type 0 where
   pub named : every (objects s) (isNamedOnce s) ≡ true
   pub leads : every (objects s) (leadsToRoot s) ≡ true
 
+-- whether the demands on the records hold, with the map of the used blocks where they do
+pub record RecordVerdict (s : Store) (t : Bool) (used : List ℕ) : Type 0 where
+  pub is : t ≡ recordsPass s
+  pub map : recordsPass s ≡ true → UsedMap s used
+
 -- the counts of a store that passes, with the map of its used blocks, or Bad
 pub record Verdict (s : Store) (found : Found) (used : List ℕ) : Type 0 where
-  pub is : found ≡ foundIf (passes s) s
+  pub is : found ≡ foundIf (passes s) (countsOf s)
   pub map : passes s ≡ true → UsedMap s used

@@ -1,10 +1,12 @@
-// The counts of a store, and its length.
+// The counts of a store, and its length. An object record has `width` bytes: in the layout of this store ObjectRecord::BYTES, in that of document 01
+// ObjectRecord::OLD_BYTES.
 ghost use mathlib.Core.Path.{_≡_};
+ghost use Prim.Native.Nat.{_≤_};
+ghost use Rattle.kinds.specs.Layout.{objectLength};
 ghost use Rattle.fsck.specs.Found.{shapeOf, First};
 use kinds::layout::Block;
 use kinds::layout::Image;
 use kinds::layout::NameRecord;
-use kinds::layout::ObjectRecord;
 use kinds::numbers::Limit;
 
 // How many objects, name records and blocks a store has.
@@ -21,8 +23,9 @@ pub enum Found {
 }
 
 // The counts of a store of a good shape.
-pub fn shape(store: &[u8]) -> Found
-    ensures { λ r. ⌜ r ≡ shapeOf (now (store .entry)) ⌝ }
+pub fn shape(store: &[u8], width: usize) -> Found
+    requires { ⌜ width ≤ objectLength ⌝ }
+    ensures { λ r. ⌜ r ≡ shapeOf width (now (store .entry)) ⌝ }
 {
     let length = store.len();
     if length < Image::BLOCKS_HEAD {
@@ -38,23 +41,23 @@ pub fn shape(store: &[u8]) -> Found
     if objects > Limit::MOST_OBJECTS {
         return Found::Bad;
     }
-    if length < Image::BLOCKS_HEAD + ObjectRecord::BYTES * objects {
+    if length < Image::BLOCKS_HEAD + width * objects {
         return Found::Bad;
     }
-    rest_of_shape(store, objects)
+    rest_of_shape(store, width, objects)
 }
 
 // The same, with the number of objects, which is in range, and after which the count of names lies.
-fn rest_of_shape(store: &[u8], objects: usize) -> Found
-    requires { ⌜ First (now store) objects ⌝ }
-    ensures { λ r. ⌜ r ≡ shapeOf (now (store .entry)) ⌝ }
+fn rest_of_shape(store: &[u8], width: usize, objects: usize) -> Found
+    requires { ⌜ First (now store) width objects ⌝ }
+    ensures { λ r. ⌜ r ≡ shapeOf width (now (store .entry)) ⌝ }
 {
     let length = store.len();
-    let names = wire::get_u32(store, Image::OBJECTS_HEAD + ObjectRecord::BYTES * objects) as usize;
+    let names = wire::get_u32(store, Image::OBJECTS_HEAD + width * objects) as usize;
     if names > Limit::MOST_NAME_RECORDS {
         return Found::Bad;
     }
-    let start = Image::BLOCKS_HEAD + ObjectRecord::BYTES * objects + NameRecord::BYTES * names;
+    let start = Image::BLOCKS_HEAD + width * objects + NameRecord::BYTES * names;
     if length < start {
         return Found::Bad;
     }

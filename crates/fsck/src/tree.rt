@@ -4,7 +4,7 @@ ghost use Prim.Native.Nat.{_-_, _≤_, _<_};
 ghost use lib.ListN.{getD};
 ghost use Rattle.kinds.specs.Numbers.{mostObjects};
 ghost use Rattle.spec.specs.Image.{objects, names};
-ghost use Rattle.laws.proofs.Valid.{Shaped};
+ghost use Rattle.laws.proofs.Valid.{Framed};
 ghost use Rattle.fsck_objects.specs.Told.{Told};
 ghost use Rattle.fsck_objects.specs.Objects.{Blank};
 ghost use Rattle.fsck_names.specs.Named.{NamedBy};
@@ -86,7 +86,7 @@ fn leads_by_steps(
     depths: &mut [u8; Limit::MOST_OBJECTS],
     o: ObjectNumber,
 ) -> bool
-    requires { ⌜ Shaped (now store) ⌝ }
+    requires { ⌜ Framed (now store) ⌝ }
     requires { ⌜ p ≡ objects (now store) ⌝ }
     requires { ⌜ NamedBy (now store) (names (now store)) (now parents) ⌝ }
     requires { ⌜ Known (now store) p (now depths) ⌝ }
@@ -116,7 +116,7 @@ fn leads(
     depths: &mut [u8; Limit::MOST_OBJECTS],
     o: ObjectNumber,
 ) -> bool
-    requires { ⌜ Shaped (now store) ⌝ }
+    requires { ⌜ Framed (now store) ⌝ }
     requires { ⌜ p ≡ objects (now store) ⌝ }
     requires { ⌜ NamedBy (now store) (names (now store)) (now parents) ⌝ }
     requires { ⌜ Known (now store) p (now depths) ⌝ }
@@ -142,7 +142,7 @@ pub fn tree_passes(
     parents: &[u8; Limit::MOST_OBJECTS],
     depths: &mut [u8; Limit::MOST_OBJECTS],
 ) -> bool
-    requires { ⌜ Shaped (now store) ⌝ }
+    requires { ⌜ Framed (now store) ⌝ }
     requires { ⌜ p ≡ objects (now store) ⌝ }
     requires { ⌜ NamedBy (now store) (names (now store)) (now parents) ⌝ }
     requires { ⌜ Blank mostObjects (now depths) ⌝ }

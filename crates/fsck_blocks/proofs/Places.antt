@@ -14,11 +14,11 @@ use Rattle.kinds.specs.Numbers.{mostBlocks}
 use Rattle.spec.specs.Count.{sum, every, times}
 use Rattle.spec.specs.Image.{Store, objects, blocks}
 use Rattle.spec.specs.Room.{held, uses}
-use Rattle.spec.specs.Check.{goodObject, isUsedOnce, passes}
+use Rattle.spec.specs.Check.{goodObject, isUsedOnce, recordsPass}
 use Rattle.laws.proofs.Count.{by-bool, sum-ext, every-at, every-all}
 use Rattle.laws.proofs.FreeCount.{uses-total}
 use Rattle.laws.proofs.FreeRoom.{good-range}
-use Rattle.laws.proofs.Valid.{Shaped, object-good}
+use Rattle.laws.proofs.Valid.{Framed, object-good}
 use Rattle.fsck_objects.specs.Told.{Told}
 use Rattle.fsck_objects.specs.Objects.{markFor, usesBelow, Blank, UsedBy, MarkedBy, AreMarks, ObjectsPass}
 use Rattle.fsck_objects.proofs.Passes.{fails, told-true, told-false}
@@ -75,7 +75,7 @@ marks-all s used m e =
 
 -- fewer: one is
 pub marks-few : (s : Store) (used : List ℕ) → MarkedBy s (objects s) used → (sum (blocks s) (uses s) ≡ sum (blocks s) (λ r. getD used r 0) → ⊥)
-    → passes s ≡ false
+    → recordsPass s ≡ false
 unfolding isUsedOnce uses
 marks-few s used m f =
     fails s (λ d. f (sum-ext (blocks s) (usesBelow s (objects s)) (λ r. getD used r 0) (λ r h.
@@ -105,12 +105,12 @@ used-once s used m =
     (omega arith))
 
 -- the blocks of all objects are the uses of all blocks
-pub uses-are : (s : Store) → Shaped s → every (objects s) (goodObject s) ≡ true → sum (objects s) (λ o. length (held s o)) ≡ sum (blocks s) (uses s)
+pub uses-are : (s : Store) → Framed s → every (objects s) (goodObject s) ≡ true → sum (objects s) (λ o. length (held s o)) ≡ sum (blocks s) (uses s)
 uses-are s t g =
-    sym (uses-total s (λ o h. good-range s o (object-good s o (omega (arith, t .exact)) (every-at (goodObject s) (objects s) o g h))))
+    sym (uses-total s (λ o h. good-range s o (object-good s o (omega (arith, t .inside)) (every-at (goodObject s) (objects s) o g h))))
 
 -- all objects pass: no block is used twice where as many are marked as there are places
-pub told-all : (s : Store) (used : List ℕ) (total marked count limit : ℕ) → Shaped s → count ≡ objects s → limit ≡ blocks s
+pub told-all : (s : Store) (used : List ℕ) (total marked count limit : ℕ) → Framed s → count ≡ objects s → limit ≡ blocks s
     → total ≡ sum count (λ o. length (held s o)) → MarkedBy s count used → every count (goodObject s) ≡ true → marked ≡ sum limit (λ i. getD used i 0)
     → Told (eqb total marked) s (ObjectsPass s count used)
 told-all s used total marked count limit t e f p m g q =

@@ -5,7 +5,7 @@ ghost use lib.ListN.{getD};
 ghost use Rattle.kinds.specs.Numbers.{mostBlocks};
 ghost use Rattle.spec.specs.Count.{sum};
 ghost use Rattle.spec.specs.Image.{blocks, objects};
-ghost use Rattle.laws.proofs.Valid.{Shaped};
+ghost use Rattle.laws.proofs.Valid.{Framed};
 ghost use Rattle.fsck_objects.specs.Told.{Told};
 ghost use Rattle.fsck_objects.specs.Objects.{Blank, Inside, AreMarks, ObjectsPass};
 use fsck_objects::object::Uses;
@@ -53,7 +53,7 @@ pub fn objects_pass(
     limit: usize,
     used: &mut [u8; Limit::MOST_BLOCKS],
 ) -> bool
-    requires { ⌜ Shaped (now store) ⌝ }
+    requires { ⌜ Framed (now store) ⌝ }
     requires { ⌜ Inside (now inside) ⌝ }
     requires { ⌜ count ≡ objects (now store) ⌝ }
     requires { ⌜ limit ≡ blocks (now store) ⌝ }

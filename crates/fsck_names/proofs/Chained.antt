@@ -16,11 +16,11 @@ use Rattle.kinds.specs.Numbers.{mostNameRecords}
 use Rattle.spec.specs.Count.{count}
 use Rattle.spec.specs.Image.{Store, names, nameAt}
 use Rattle.spec.specs.Room.{isUsedName, isNamed}
-use Rattle.spec.specs.Check.{goodNameRecord, isDistinct, passes}
+use Rattle.spec.specs.Check.{goodNameRecord, isDistinct, recordsPass}
 use Rattle.laws.proofs.Bytes.{lt-or-le}
 use Rattle.laws.proofs.Count.{by-bool, true-false, and-both, every-at}
 use Rattle.laws.proofs.Unique.{one-passes}
-use Rattle.laws.proofs.Valid.{Shaped, UsedName}
+use Rattle.laws.proofs.Valid.{Framed, UsedName}
 use Rattle.fsck_objects.specs.Told.{Told}
 use Rattle.fsck_objects.specs.Objects.{Blank}
 use Rattle.fsck_objects.proofs.Passes.{told-true, told-false, fails-distinct}
@@ -63,8 +63,8 @@ one-more : (k : ℕ) → (k ≡ 0 → ⊥) → k ≡ suc (k - 1)
 one-more zero z = absurd (z refl)
 one-more (suc k) z = omega arith
 
--- ---- one test more, where the store fails if it is true
-told-or : {facts more : Type 0} {s : Store} (t u : Bool) → Told (not t) s facts → (facts → u ≡ false → more) → (u ≡ true → passes s ≡ false)
+-- ---- one test more, where the records fail if it is true
+told-or : {facts more : Type 0} {s : Store} (t u : Bool) → Told (not t) s facts → (facts → u ≡ false → more) → (u ≡ true → recordsPass s ≡ false)
     → Told (not (t || u)) s more
 told-or true u a f g = told-false (a .no refl)
 told-or false true a f g = told-false (g refl)
@@ -76,7 +76,7 @@ pub record Walked (s : Store) (n h : ℕ) (found : Bool) (k : ℕ) : Type 0 wher
   pub told : Told (not found) s ((m : ℕ) → k ≤ m → m < n → isSame s n m ≡ false)
   pub at : (k ≡ 0 → ⊥) → (isUsedName s (k - 1) ≡ true) × (hash s (k - 1) ≡ h)
 
-module _ (s : Store) (t : Shaped s) (n h : ℕ) (w : New s n h) where
+module _ (s : Store) (t : Framed s) (n h : ℕ) (w : New s n h) where
   pub used-before : (m : ℕ) → m < n → isUsedName s m ≡ true → UsedName s m
   used-before m l u = used-passes s m t (omega (arith, w .below)) u (every-at (goodNameRecord s) n m (w .before) l)
 
@@ -101,7 +101,7 @@ module _ (s : Store) (t : Shaped s) (n h : ℕ) (w : New s n h) where
   walk-less i k z e = let a = last-most s (hash s (i - 1)) (i - 1) in let b = one-more i z in omega arith
 
   -- a record before n that is the same
-  walk-same : (m : ℕ) → m < n → isSame s n m ≡ true → passes s ≡ false
+  walk-same : (m : ℕ) → m < n → isSame s n m ≡ true → recordsPass s ≡ false
   unfolding isDistinct
   walk-same m l e =
       let p = isNamed s (nameAt s n .directory) (nameAt s n .text) in

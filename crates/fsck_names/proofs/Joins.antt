@@ -11,7 +11,7 @@ use Rattle.spec.specs.Names.{goodName}
 use Rattle.spec.specs.Room.{isUsedName}
 use Rattle.spec.specs.Check.{isZero, goodUsed, goodNameRecord}
 use Rattle.laws.proofs.GoodKept.{used-of}
-use Rattle.laws.proofs.Valid.{Shaped, UsedName, used-true, true-used, name-record}
+use Rattle.laws.proofs.Valid.{Framed, UsedName, used-true, true-used, name-record}
 use Rattle.fsck_names.specs.Record.{isDirectoryIn, isLiveIn}
 
 -- the demands on a used record, by its bytes
@@ -23,8 +23,8 @@ unfolding goodUsed nameAt nameFrom nameLength isDirectoryIn isLiveIn
 used-is s p n len at e f g = rw (g, e, f)
 
 -- a used record that passes, as the laws take it apart
-pub used-passes : (s : Store) (n : ℕ) → Shaped s → n < names s → isUsedName s n ≡ true → goodNameRecord s n ≡ true → UsedName s n
-used-passes s n t l u e = used-of s n (used-true s n u) (name-record s n (omega (arith, t .exact)) e)
+pub used-passes : (s : Store) (n : ℕ) → Framed s → n < names s → isUsedName s n ≡ true → goodNameRecord s n ≡ true → UsedName s n
+used-passes s n t l u e = used-of s n (used-true s n u) (name-record s n (omega (arith, t .inside)) e)
 
 pub is-used : (s : Store) (n : ℕ) → UsedName s n → isUsedName s n ≡ true
 is-used s n w = true-used s n (omega (arith, w .good .some-byte, w .exact))

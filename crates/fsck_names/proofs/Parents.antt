@@ -15,10 +15,10 @@ use Rattle.kinds.specs.Numbers.{mostObjects}
 use Rattle.spec.specs.Count.{bit, sum, count, passing, lowest}
 use Rattle.spec.specs.Image.{Store, objects, names, nameAt}
 use Rattle.spec.specs.Room.{isLive, isUsedName, isNaming, namings, directoryOf, parent}
-use Rattle.spec.specs.Check.{goodNameRecord, isNamedOnce, passes}
+use Rattle.spec.specs.Check.{goodNameRecord, isNamedOnce, recordsPass}
 use Rattle.laws.proofs.Count.{by-bool, true-false, and-both, sum-more, sum-at, sum-zero, passing-miss, lowest-hit, lowest-none, lowest-passes, Passes}
 use Rattle.laws.proofs.Unique.{sum-two}
-use Rattle.laws.proofs.Valid.{Shaped, UsedName, true-live}
+use Rattle.laws.proofs.Valid.{Framed, UsedName, true-live}
 use Rattle.fsck_objects.specs.Objects.{Blank}
 use Rattle.fsck_objects.proofs.Passes.{fails-name, fails-named}
 use Rattle.fsck_names.specs.Named.{markOf, NamedBy}
@@ -75,7 +75,7 @@ parents-free s n parents u a =
     }
 
 -- ---- a used record names its child
-module _ (s : Store) (t : Shaped s) (n : ℕ) (l : n < names s) (w : UsedName s n) (parents : List ℕ) (a : NamedBy s n parents) where
+module _ (s : Store) (t : Framed s) (n : ℕ) (l : n < names s) (w : UsedName s n) (parents : List ℕ) (a : NamedBy s n parents) where
   names-child : (o : ℕ) → nameAt s n .child ≡ o → isNaming s o n ≡ true
   unfolding isNaming
   names-child o e = rw (is-used s n w, eq-eqb (nameAt s n .child) o e)
@@ -85,14 +85,14 @@ module _ (s : Store) (t : Shaped s) (n : ℕ) (l : n < names s) (w : UsedName s 
   names-other o e = rw (is-used s n w, ne-eqb (nameAt s n .child) o e)
 
   -- the root
-  pub child-root : nameAt s n .child ≡ 0 → passes s ≡ false
+  pub child-root : nameAt s n .child ≡ 0 → recordsPass s ≡ false
   unfolding isNamedOnce namings
   child-root e =
       let b = count-at (isNaming s 0) (names s) n l (names-child 0 e) in
       fails-named s 0 (omega (arith, t .some-object)) (ne-eqb (count (names s) (isNaming s 0)) 0 (λ q. absurd (omega arith)))
 
   -- an object that is named already
-  pub child-twice : (c : ℕ) → c ≡ nameAt s n .child → (c ≡ 0 → ⊥) → (getD parents c 0 ≡ 0 → ⊥) → passes s ≡ false
+  pub child-twice : (c : ℕ) → c ≡ nameAt s n .child → (c ≡ 0 → ⊥) → (getD parents c 0 ≡ 0 → ⊥) → recordsPass s ≡ false
   unfolding isNamedOnce namings
   child-twice c e z f =
       let h : c < objects s = omega (arith, w .child) in
@@ -127,7 +127,7 @@ module _ (s : Store) (t : Shaped s) (n : ℕ) (l : n < names s) (w : UsedName s 
       }
 
 -- ---- what the map says once all records have passed
-module _ (s : Store) (t : Shaped s) (parents : List ℕ) (a : NamedBy s (names s) parents) where
+module _ (s : Store) (t : Framed s) (parents : List ℕ) (a : NamedBy s (names s) parents) where
   parent-of : (x : Option ℕ) → directoryOf s x ≡ markOf s x - 1
   parent-of none = refl
   parent-of (some n) = omega arith
@@ -156,14 +156,14 @@ module _ (s : Store) (t : Shaped s) (parents : List ℕ) (a : NamedBy s (names s
   unfolding isNamedOnce
   named-free o z e = rw (ne-eqb o 0 z, e)
 
-  pub unnamed-fails : (o : ℕ) → o < objects s → (o ≡ 0 → ⊥) → isLive s o ≡ true → getD parents o 0 ≡ 0 → passes s ≡ false
+  pub unnamed-fails : (o : ℕ) → o < objects s → (o ≡ 0 → ⊥) → isLive s o ≡ true → getD parents o 0 ≡ 0 → recordsPass s ≡ false
   unfolding isNamedOnce namings
   unnamed-fails o h z v f =
       let e = count-nothing (isNaming s o) (names s) (mark-none s (lowest (names s) (isNaming s o)) (sym (a .marks o h) ∙ f)) in
       fails-named s o h (rw (ne-eqb o 0 z, v, e))
 
   -- an object with a mark is live, or a used record names a free object
-  pub marked-free-fails : (o : ℕ) → o < objects s → (getD parents o 0 ≡ 0 → ⊥) → isLive s o ≡ false → passes s ≡ false
+  pub marked-free-fails : (o : ℕ) → o < objects s → (getD parents o 0 ≡ 0 → ⊥) → isLive s o ≡ false → recordsPass s ≡ false
   unfolding isNaming
   marked-free-fails o h f v =
       let k = mark-some s (names s) o (lowest (names s) (isNaming s o)) refl (λ q. f (a .marks o h ∙ q)) in

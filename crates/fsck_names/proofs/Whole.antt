@@ -16,7 +16,7 @@ use Rattle.spec.specs.Room.{isUsedName, isNamed}
 use Rattle.spec.specs.Check.{goodNameRecord, isDistinct}
 use Rattle.laws.proofs.Bytes.{lt-or-le}
 use Rattle.laws.proofs.Count.{by-bool, true-false, every-at, every-all, every-more, sum-zero}
-use Rattle.laws.proofs.Valid.{Shaped, UsedName}
+use Rattle.laws.proofs.Valid.{Framed, UsedName}
 use Rattle.fsck_objects.specs.Objects.{Blank}
 use Rattle.fsck_names.specs.Distinct.{isSame, Chains}
 use Rattle.fsck_names.specs.Named.{NamedBy}
@@ -66,7 +66,7 @@ count-one p (suc q) n l e f =
     (λ (x : n ≢ q). let a = count-one p q n (omega arith) e (λ m h d. f m (omega arith) d) in
     let b = ap bit (f q (omega arith) (λ y. x (sym y))) in omega arith)
 
-pub distinct-all : (s : Store) (t : Shaped s) (parents head next : List ℕ) → NamesPass s (names s) parents head next → every (names s) (isDistinct s) ≡ true
+pub distinct-all : (s : Store) (t : Framed s) (parents head next : List ℕ) → NamesPass s (names s) parents head next → every (names s) (isDistinct s) ≡ true
 unfolding isDistinct
 distinct-all s t parents head next a =
     every-all (isDistinct s) (names s) (λ n l. by-bool (isUsedName s n) (λ u. rw (u, one n l u)) (λ u. rw u))

@@ -6,7 +6,7 @@ ghost use Prim.Native.Nat.{ℕ, _+_, _≤_, _<_};
 ghost use lib.ListN.{length, getD, set};
 ghost use Rattle.kinds.specs.Numbers.{mostNameRecords};
 ghost use Rattle.spec.specs.Image.{objects, names};
-ghost use Rattle.laws.proofs.Valid.{Shaped, UsedName};
+ghost use Rattle.laws.proofs.Valid.{Framed, UsedName};
 ghost use Rattle.fsck_objects.specs.Told.{Told};
 ghost use Rattle.fsck_names.specs.Distinct.{wordAt, joined, hash, isSame, New, Chains};
 use crate::record::directory_of;
@@ -47,7 +47,7 @@ fn join(x: usize, w: usize) -> usize
 
 // The hash of a name record's directory and name bytes.
 pub fn hash_of(store: &[u8], p: usize, n: NameNumber) -> usize
-    requires { ⌜ Shaped (now store) ⌝ }
+    requires { ⌜ Framed (now store) ⌝ }
     requires { ⌜ p ≡ objects (now store) ⌝ }
     requires { ⌜ n .0 < names (now store) ⌝ }
     ensures { λ r. ⌜ (r ≡ hash (now (store .entry)) (n .0)) × (r < 256) ⌝ }
@@ -64,7 +64,7 @@ pub fn hash_of(store: &[u8], p: usize, n: NameNumber) -> usize
 
 // Whether record m has the directory and the name of record n, where both are used and pass by themselves.
 fn same_name(store: &[u8], p: usize, m: NameNumber, n: NameNumber) -> bool
-    requires { ⌜ Shaped (now store) ⌝ }
+    requires { ⌜ Framed (now store) ⌝ }
     requires { ⌜ p ≡ objects (now store) ⌝ }
     requires { ⌜ m .0 < names (now store) ⌝ }
     requires { ⌜ n .0 < names (now store) ⌝ }
@@ -93,7 +93,7 @@ pub fn is_new(
     head: &[u8; 256],
     next: &[u8; Limit::MOST_NAME_RECORDS],
 ) -> bool
-    requires { ⌜ Shaped (now store) ⌝ }
+    requires { ⌜ Framed (now store) ⌝ }
     requires { ⌜ p ≡ objects (now store) ⌝ }
     requires { ⌜ New (now store) (n .0) h ⌝ }
     requires { ⌜ Chains (now store) (n .0) (now head) (now next) ⌝ }

@@ -2,7 +2,7 @@
 ghost use mathlib.Core.Path.{_≡_};
 ghost use Prim.Native.Nat.{_+_, _<_};
 ghost use Rattle.spec.specs.Image.{objects, names};
-ghost use Rattle.laws.proofs.Valid.{Shaped, UsedName};
+ghost use Rattle.laws.proofs.Valid.{Framed, UsedName};
 ghost use Rattle.fsck_objects.specs.Told.{Told};
 ghost use Rattle.fsck_names.specs.Named.{NamedBy};
 use crate::record::child_of;
@@ -17,7 +17,7 @@ pub fn mark_child(
     n: NameNumber,
     parents: &mut [u8; Limit::MOST_OBJECTS],
 ) -> bool
-    requires { ⌜ Shaped (now store) ⌝ }
+    requires { ⌜ Framed (now store) ⌝ }
     requires { ⌜ p ≡ objects (now store) ⌝ }
     requires { ⌜ n .0 < names (now store) ⌝ }
     requires { ⌜ UsedName (now store) (n .0) ⌝ }

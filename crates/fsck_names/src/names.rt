@@ -3,7 +3,7 @@ ghost use mathlib.Core.Path.{_≡_};
 ghost use Prim.Native.Nat.{_+_, _<_};
 ghost use Rattle.kinds.specs.Numbers.{mostObjects, mostNameRecords};
 ghost use Rattle.spec.specs.Image.{objects, names};
-ghost use Rattle.laws.proofs.Valid.{Shaped};
+ghost use Rattle.laws.proofs.Valid.{Framed};
 ghost use Rattle.fsck_objects.specs.Told.{Told};
 ghost use Rattle.fsck_objects.specs.Objects.{Blank, Inside};
 ghost use Rattle.fsck_names.specs.Names.{NamesPass};
@@ -26,7 +26,7 @@ fn name_passes(
     head: &mut [u8; 256],
     next: &mut [u8; Limit::MOST_NAME_RECORDS],
 ) -> bool
-    requires { ⌜ Shaped (now store) ⌝ }
+    requires { ⌜ Framed (now store) ⌝ }
     requires { ⌜ p ≡ objects (now store) ⌝ }
     requires { ⌜ n .0 < names (now store) ⌝ }
     requires { ⌜ NamesPass (now store) (n .0) (now parents) (now head) (now next) ⌝ }
@@ -62,7 +62,7 @@ pub fn names_pass(
     head: &mut [u8; 256],
     next: &mut [u8; Limit::MOST_NAME_RECORDS],
 ) -> bool
-    requires { ⌜ Shaped (now store) ⌝ }
+    requires { ⌜ Framed (now store) ⌝ }
     requires { ⌜ p ≡ objects (now store) ⌝ }
     requires { ⌜ count ≡ names (now store) ⌝ }
     requires { ⌜ Blank mostObjects (now parents) ⌝ }

@@ -6,7 +6,7 @@ ghost use Rattle.kinds.specs.Layout.{lengthOffset, nameRecordLength};
 ghost use Rattle.spec.specs.Image.{objects, names, nameAt, nameLength};
 ghost use Rattle.spec.specs.Bytes.{part, beAt};
 ghost use Rattle.spec.specs.Check.{isZero, goodUsed, goodNameRecord};
-ghost use Rattle.laws.proofs.Valid.{Shaped};
+ghost use Rattle.laws.proofs.Valid.{Framed};
 ghost use Rattle.fsck_objects.specs.Objects.{Inside};
 ghost use Rattle.fsck_names.specs.Record.{isDirectoryIn, isLiveIn};
 use crate::text::good_text;
@@ -20,7 +20,7 @@ use store_records::object::is_live;
 
 // Whether o is the number of a directory.
 fn is_directory_in(store: &[u8], p: usize, o: ObjectNumber) -> bool
-    requires { ⌜ Shaped (now store) ⌝ }
+    requires { ⌜ Framed (now store) ⌝ }
     requires { ⌜ p ≡ objects (now store) ⌝ }
     ensures { λ r. ⌜ r ≡ isDirectoryIn (now (store .entry)) (o .0) ⌝ }
 {
@@ -29,7 +29,7 @@ fn is_directory_in(store: &[u8], p: usize, o: ObjectNumber) -> bool
 
 // Whether o is the number of a live object.
 fn is_live_in(store: &[u8], p: usize, o: ObjectNumber) -> bool
-    requires { ⌜ Shaped (now store) ⌝ }
+    requires { ⌜ Framed (now store) ⌝ }
     requires { ⌜ p ≡ objects (now store) ⌝ }
     ensures { λ r. ⌜ r ≡ isLiveIn (now (store .entry)) (o .0) ⌝ }
 {
@@ -38,7 +38,7 @@ fn is_live_in(store: &[u8], p: usize, o: ObjectNumber) -> bool
 
 // Whether name record n, of a length other than 0, passes by itself.
 fn good_used(store: &[u8], inside: &[u8; 64], p: usize, n: NameNumber, len: usize) -> bool
-    requires { ⌜ Shaped (now store) ⌝ }
+    requires { ⌜ Framed (now store) ⌝ }
     requires { ⌜ p ≡ objects (now store) ⌝ }
     requires { ⌜ n .0 < names (now store) ⌝ }
     requires { ⌜ len ≡ nameLength (now store) (n .0) ⌝ }
@@ -63,7 +63,7 @@ fn good_used(store: &[u8], inside: &[u8; 64], p: usize, n: NameNumber, len: usiz
 
 // The length that name record n states; 0 where it is free.
 pub fn length_of(store: &[u8], p: usize, n: NameNumber) -> usize
-    requires { ⌜ Shaped (now store) ⌝ }
+    requires { ⌜ Framed (now store) ⌝ }
     requires { ⌜ p ≡ objects (now store) ⌝ }
     requires { ⌜ n .0 < names (now store) ⌝ }
     ensures { λ r. ⌜ r ≡ nameLength (now (store .entry)) (n .0) ⌝ }
@@ -73,7 +73,7 @@ pub fn length_of(store: &[u8], p: usize, n: NameNumber) -> usize
 
 // The directory of name record n.
 pub fn directory_of(store: &[u8], p: usize, n: NameNumber) -> ObjectNumber
-    requires { ⌜ Shaped (now store) ⌝ }
+    requires { ⌜ Framed (now store) ⌝ }
     requires { ⌜ p ≡ objects (now store) ⌝ }
     requires { ⌜ n .0 < names (now store) ⌝ }
     ensures { λ r. ⌜ r .0 ≡ nameAt (now (store .entry)) (n .0) .directory ⌝ }
@@ -83,7 +83,7 @@ pub fn directory_of(store: &[u8], p: usize, n: NameNumber) -> ObjectNumber
 
 // The object that name record n names.
 pub fn child_of(store: &[u8], p: usize, n: NameNumber) -> ObjectNumber
-    requires { ⌜ Shaped (now store) ⌝ }
+    requires { ⌜ Framed (now store) ⌝ }
     requires { ⌜ p ≡ objects (now store) ⌝ }
     requires { ⌜ n .0 < names (now store) ⌝ }
     ensures { λ r. ⌜ r .0 ≡ nameAt (now (store .entry)) (n .0) .child ⌝ }
@@ -105,7 +105,7 @@ fn is_free(store: &[u8], at: usize) -> bool
 
 // Whether name record n, which states the length `len`, passes by itself.
 pub fn record_passes(store: &[u8], inside: &[u8; 64], p: usize, n: NameNumber, len: usize) -> bool
-    requires { ⌜ Shaped (now store) ⌝ }
+    requires { ⌜ Framed (now store) ⌝ }
     requires { ⌜ p ≡ objects (now store) ⌝ }
     requires { ⌜ n .0 < names (now store) ⌝ }
     requires { ⌜ len ≡ nameLength (now store) (n .0) ⌝ }

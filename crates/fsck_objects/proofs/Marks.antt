@@ -18,12 +18,12 @@ use Rattle.kinds.specs.declared.object.Object.{Object}
 use Rattle.spec.specs.Count.{bit, every, times}
 use Rattle.spec.specs.Image.{Store, blocks, objectStart, objectFrom, objectAt}
 use Rattle.spec.specs.Room.{isLive, need, sizeOf, held}
-use Rattle.spec.specs.Check.{goodBlock, goodFree, goodLive, goodObject, passes}
+use Rattle.spec.specs.Check.{goodBlock, goodFree, goodLive, goodObject, recordsPass}
 use Rattle.laws.proofs.Bytes.{lt-or-le, be-2}
 use Rattle.laws.proofs.Count.{sum-more, times-append, every-more, every-fails, every-at, every-all}
 use Rattle.laws.proofs.Records.{halves-count, half-read}
 use Rattle.laws.proofs.CreateObject.{no-blocks}
-use Rattle.laws.proofs.Valid.{Shaped, free-object}
+use Rattle.laws.proofs.Valid.{Framed, free-object}
 use Rattle.fsck_objects.specs.Objects.{goodFields, isUnused, markFor, LiveAt, usesBelow, MarkedBy, MarkedTo, Inside}
 use Rattle.fsck_objects.proofs.Passes.{fails-object}
 
@@ -65,7 +65,7 @@ mark-start s o used m =
       good = refl;
     }
 
-module _ (s : Store) (o count k : ℕ) (t : Shaped s) (a : LiveAt s o count) (h : k < count) where
+module _ (s : Store) (o count k : ℕ) (t : Framed s) (a : LiveAt s o count) (h : k < count) where
   short : k < length (objectAt s o .blocks)
   short = rw blocks-length (omega (arith, a .most))
 
@@ -92,7 +92,7 @@ module _ (s : Store) (o count k : ℕ) (t : Shaped s) (a : LiveAt s o count) (h 
       }
 
   -- a block out of range
-  pub mark-out : blocks s ≤ getD (objectAt s o .blocks) k 0 → passes s ≡ false
+  pub mark-out : blocks s ≤ getD (objectAt s o .blocks) k 0 → recordsPass s ≡ false
   unfolding goodObject goodLive goodBlock goodFields
   mark-out l =
       let g : goodBlock (blocks s) (objectAt s o) k ≡ false = rw (lt-ltb k (need (objectAt s o .size)) (omega (arith, a .needs)), le-ltb _ _ l) in
@@ -100,7 +100,7 @@ module _ (s : Store) (o count k : ℕ) (t : Shaped s) (a : LiveAt s o count) (h 
       (and-false (goodFields (objectAt s o))))
 
 -- four blocks at once
-pub mark-four : (s : Store) (o count k : ℕ) → Shaped s → LiveAt s o count → k + 4 ≤ count → (used : List ℕ) → MarkedTo s o k used → (x y z w : ℕ)
+pub mark-four : (s : Store) (o count k : ℕ) → Framed s → LiveAt s o count → k + 4 ≤ count → (used : List ℕ) → MarkedTo s o k used → (x y z w : ℕ)
     → x ≡ getD (objectAt s o .blocks) k 0 → x < blocks s → y ≡ getD (objectAt s o .blocks) (k + 1) 0 → y < blocks s
     → z ≡ getD (objectAt s o .blocks) (k + 2) 0 → z < blocks s → w ≡ getD (objectAt s o .blocks) (k + 3) 0 → w < blocks s
     → MarkedTo s o (k + 4) (set (set (set (set used x 1) y 1) z 1) w 1)

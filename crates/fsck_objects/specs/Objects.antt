@@ -9,15 +9,16 @@ use lib.ListN.{length, take, getD}
 use Rattle.kinds.specs.declared.object.Object.{Object}
 use Rattle.spec.specs.Count.{sum, every, times}
 use Rattle.spec.specs.Image.{Store, objects, blocks, objectAt}
-use Rattle.spec.specs.Check.{goodTime, goodSize, goodBlock, goodObject, passes}
+use Rattle.spec.specs.Check.{goodTime, goodSize, goodVerifier, goodBlock, goodObject, recordsPass}
 use Rattle.spec.specs.Room.{held, need, isLive}
 use Rattle.fsck_objects.specs.declared.object.Uses.{Uses}
 use Rattle.fsck_objects.specs.declared.object.Uses.the-variants.{Bad, Blocks}
 
--- what a live object's numbers and times must be: all of its demands but those on its blocks
+-- what a live object's numbers, times and verifier must be: all of its demands but those on its blocks
 unfoldable pub goodFields : Object → Bool
 goodFields v =
-    ltb (v .generation) spentGeneration && leb (v .mode) mostMode && goodTime (v .atime) && goodTime (v .mtime) && goodTime (v .ctime) && goodSize v
+    ltb (v .generation) spentGeneration && leb (v .mode) mostMode && goodTime (v .atime) && goodTime (v .mtime) && goodTime (v .ctime)
+    && goodSize v && goodVerifier v
 
 -- object o is live, with good fields, and its size needs `count` blocks
 pub record LiveAt (s : Store) (o count : ℕ) : Type 0 where
@@ -70,10 +71,10 @@ pub record ObjectsPass (s : Store) (o : ℕ) (used : List ℕ) : Type 0 where
   pub map : UsedBy s o used
   pub good : every o (goodObject s) ≡ true
 
--- what the check of an object tells: its facts for the number of its blocks, else that the store fails the check
+-- what the check of an object tells: its facts for the number of its blocks, else that a demand on the records does not hold
 pub record Counted (found : Uses) (s : Store) (facts : ℕ → Type 0) : Type 0 where
   pub yes : (n : ℕ) → found ≡ Blocks n → facts n
-  pub no : found ≡ Bad → passes s ≡ false
+  pub no : found ≡ Bad → recordsPass s ≡ false
 
 -- 32 ones and then zeros: from 32 - n on it tells of each of 32 bytes whether it is one of the first n
 pub record Inside (inside : List ℕ) : Type 0 where

@@ -7,9 +7,9 @@ ghost use Rattle.kinds.specs.Layout.{objectLength};
 ghost use Rattle.kinds.specs.Numbers.{fileBlocks};
 ghost use Rattle.spec.specs.Count.{every};
 ghost use Rattle.spec.specs.Image.{blocks, objects, objectStart, objectAt};
-ghost use Rattle.spec.specs.Check.{goodTime, goodSize, goodBlock};
+ghost use Rattle.spec.specs.Check.{goodTime, goodSize, goodVerifier, goodFree, goodBlock};
 ghost use Rattle.spec.specs.Room.{need};
-ghost use Rattle.laws.proofs.Valid.{Shaped};
+ghost use Rattle.laws.proofs.Valid.{Framed};
 ghost use Rattle.fsck_objects.specs.Objects.{goodFields, isUnused, LiveAt, MarkedBy, MarkedTo, ObjectPasses, Counted, Inside};
 ghost use Rattle.fsck_objects.specs.Told.{Told};
 use kinds::layout::ObjectRecord;
@@ -20,10 +20,12 @@ use kinds::numbers::ObjectNumber;
 use store_places::need;
 use store_records::counts::object_start;
 use store_records::object::block_of;
+use store_records::object::exclusive_of;
 use store_records::object::generation_of;
 use store_records::object::kind_of;
 use store_records::object::mode_of;
 use store_records::object::size_of;
+use store_records::object::verifier_of;
 
 // What was found of an object: that it fails, or how many blocks it has.
 pub enum Uses {
@@ -42,6 +44,20 @@ fn good_size(store: &[u8], o: ObjectNumber) -> bool
         return size as u64 <= Limit::MOST_FILE_BYTES;
     }
     kind == Kind::DIRECTORY && size == 0
+}
+
+// Whether an object keeps a verifier only where it may. Most keep none: both fields are read, and that is tested first. Another order, or this test
+// after that of the size, makes the check of a full store 2 to 5 % longer in instructions.
+fn good_verifier(store: &[u8], o: ObjectNumber) -> bool
+    requires { ⌜ objectStart (o .0) + objectLength ≤ length (now store) ⌝ }
+    ensures { λ r. ⌜ r ≡ goodVerifier (objectAt (now (store .entry)) (o .0)) ⌝ }
+{
+    let flag = exclusive_of(store, o);
+    let verifier = verifier_of(store, o);
+    if verifier == 0 && flag == 0 {
+        return true;
+    }
+    flag == Limit::KEPT_FLAG && kind_of(store, o) == Kind::REGULAR
 }
 
 // Whether the times of an object are good.
@@ -63,7 +79,7 @@ fn good_times(store: &[u8], o: ObjectNumber) -> bool
     wire::get_u32(store, at + ObjectRecord::CTIME + TimeField::NANOSECONDS) < Limit::NANOSECONDS_END
 }
 
-// Whether the numbers and times of a live object are good.
+// Whether the numbers, the times and the verifier of a live object are good.
 fn good_fields(store: &[u8], o: ObjectNumber) -> bool
     requires { ⌜ objectStart (o .0) + objectLength ≤ length (now store) ⌝ }
     ensures { λ r. ⌜ r ≡ goodFields (objectAt (now (store .entry)) (o .0)) ⌝ }
@@ -75,6 +91,9 @@ fn good_fields(store: &[u8], o: ObjectNumber) -> bool
         return false;
     }
     if !good_times(store, o) {
+        return false;
+    }
+    if !good_verifier(store, o) {
         return false;
     }
     good_size(store, o)
@@ -89,7 +108,7 @@ fn mark_four(
     limit: usize,
     used: &mut [u8; Limit::MOST_BLOCKS],
 ) -> bool
-    requires { ⌜ Shaped (now store) ⌝ }
+    requires { ⌜ Framed (now store) ⌝ }
     requires { ⌜ LiveAt (now store) (o .0) count ⌝ }
     requires { ⌜ limit ≡ blocks (now store) ⌝ }
     requires { ⌜ k + 4 ≤ count ⌝ }
@@ -127,7 +146,7 @@ fn mark_fours(
     limit: usize,
     used: &mut [u8; Limit::MOST_BLOCKS],
 ) -> bool
-    requires { ⌜ Shaped (now store) ⌝ }
+    requires { ⌜ Framed (now store) ⌝ }
     requires { ⌜ LiveAt (now store) (o .0) count ⌝ }
     requires { ⌜ limit ≡ blocks (now store) ⌝ }
     requires { ⌜ MarkedBy (now store) (o .0) (now used) ⌝ }
@@ -151,7 +170,7 @@ fn mark_last(
     limit: usize,
     used: &mut [u8; Limit::MOST_BLOCKS],
 ) -> bool
-    requires { ⌜ Shaped (now store) ⌝ }
+    requires { ⌜ Framed (now store) ⌝ }
     requires { ⌜ LiveAt (now store) (o .0) count ⌝ }
     requires { ⌜ limit ≡ blocks (now store) ⌝ }
     requires { ⌜ MarkedTo (now store) (o .0) (4 * (count / 4)) (now used) ⌝ }
@@ -208,7 +227,7 @@ fn blocks_pass(
     limit: usize,
     used: &mut [u8; Limit::MOST_BLOCKS],
 ) -> bool
-    requires { ⌜ Shaped (now store) ⌝ }
+    requires { ⌜ Framed (now store) ⌝ }
     requires { ⌜ Inside (now inside) ⌝ }
     requires { ⌜ LiveAt (now store) (o .0) count ⌝ }
     requires { ⌜ limit ≡ blocks (now store) ⌝ }
@@ -224,6 +243,23 @@ fn blocks_pass(
     rest_unused(store, inside, o, count)
 }
 
+// Whether the record of a free object is zero but for its generation. The last two fields are read as numbers: the 84 bytes at once take longer than
+// 72 and these.
+fn good_free(store: &[u8], o: ObjectNumber) -> bool
+    requires { ⌜ objectStart (o .0) + objectLength ≤ length (now store) ⌝ }
+    ensures { λ r. ⌜ r ≡ goodFree (now (store .entry)) (o .0) ⌝ }
+{
+    let at = object_start(store, o);
+    if !wire::is_zero(
+        store,
+        at + ObjectRecord::MODE,
+        ObjectRecord::VERIFIER - ObjectRecord::MODE,
+    ) {
+        return false;
+    }
+    verifier_of(store, o) == 0 && exclusive_of(store, o) == 0
+}
+
 // How many blocks object o has, if it passes; marks them.
 pub fn object_uses(
     store: &[u8],
@@ -232,7 +268,7 @@ pub fn object_uses(
     limit: usize,
     used: &mut [u8; Limit::MOST_BLOCKS],
 ) -> Uses
-    requires { ⌜ Shaped (now store) ⌝ }
+    requires { ⌜ Framed (now store) ⌝ }
     requires { ⌜ Inside (now inside) ⌝ }
     requires { ⌜ o .0 < objects (now store) ⌝ }
     requires { ⌜ limit ≡ blocks (now store) ⌝ }
@@ -240,12 +276,7 @@ pub fn object_uses(
     ensures { λ r. ⌜ Counted r (now (store .entry)) (ObjectPasses (now (store .entry)) (o .0) (now (used .exit))) ⌝ }
 {
     if kind_of(store, o) == Kind::FREE {
-        let at = object_start(store, o);
-        if !wire::is_zero(
-            store,
-            at + ObjectRecord::MODE,
-            ObjectRecord::BYTES - ObjectRecord::MODE,
-        ) {
+        if !good_free(store, o) {
             return Uses::Bad;
         }
         return Uses::Blocks(0);

@@ -1,7 +1,7 @@
 use mathlib.Core.Path.{sym, ap, _∙_}
-use native.Mathlib.Omega.{arith}
 use borrow.Author.Tests.{not-true, not-false}
-use Rattle.fsck.proofs.Verdict.{shape-no, shape-yes, root-no, checked-bad, checked-good}
+use Rattle.laws.proofs.Valid.{shaped, shaped-framed}
+use Rattle.fsck.proofs.Verdict.{shape-no, shape-yes, checked-bad, checked-records-bad, checked-good}
 use Rattle.fsck.specs.declared.shape.Counts.{Counts}
 use borrow.Author.Needs.{needs}
 use Rattle.fsck.proofs.check.check_store.Statement.{statement}
@@ -21,83 +21,38 @@ returns c =
     let a = c .before .before .before .before .args in
     checked-bad (a .store .now) (a .used .now) (shape-no _ (sym (c .before .before .shape .ensures) ∙ c .enum-told .given .1))
 
-is-directory-requires : tie.Need-is-directory-requires
-is-directory-requires c κs =
-    let s = c .before .before .before .before .before .args .store .now in
-    let k = c .before .found .given .0 .0 in
-    let y = shape-yes s k (sym (c .before .before .before .shape .ensures) ∙ c .before .found .given .1) in
-    let t = y .0 in
-    omega (arith, t .some-object, t .exact)
-
-returns-2 : tie.Need-returns-2
-returns-2 c = checked-bad (c .before .before .before .before .before .before .before .args .store .now) _
-    (root-no _ (sym (c .before .is-directory .ensures) ∙ not-true _ (c .if1 .taken)))
-
-inside-map-requires : tie.Need-inside-map-requires
-inside-map-requires c κs = search needs
-
-objects-pass-requires : tie.Need-objects-pass-requires
-objects-pass-requires c κs =
-    let s = c .before .before .before .before .before .before .before .before .before .before .args .store .now in
-    let k = c .before .before .before .before .before .before .found .given .0 .0 in
-    let y = shape-yes s k (sym (c .before .before .before .before .before .before .before .before .shape .ensures) ∙
-    c .before .before .before .before .before .before .found .given .1) in (
-      y .0,
-      (
-        c .before .before .inside-map .ensures,
-        (
-          ap (λ (x : Counts). x .objects) (y .1),
-          (ap (λ (x : Counts). x .blocks) (y .1), c .before .before .before .before .before .before .before .before .before .before .pre .0),
-        ),
-      ),
-    )
-
-returns-3 : tie.Need-returns-3
-returns-3 c = checked-bad (c .before .before .before .before .before .before .before .before .before .before .before .before .args .store .now) _
-    (c .before .objects-pass .ensures .no (not-true _ (c .if2 .taken)))
-
-names-and-tree-requires : tie.Need-names-and-tree-requires
-names-and-tree-requires c κs =
-    let s = c .before .before .before .before .before .before .before .before .before .before .before .before .before .before .args .store .now in
-    let k = c .before .before .before .before .before .before .before .before .before .before .found .given .0 .0 in
-    let y = shape-yes s k (sym (c .before .before .before .before .before .before .before .before .before .before .before .before .shape .ensures) ∙
-    c .before .before .before .before .before .before .before .before .before .before .found .given .1) in (
-      y .0,
+records-pass-requires : tie.Need-records-pass-requires
+records-pass-requires c κs =
+    let after-found = c .before .before .before in
+    let start = after-found .before .before .before .before in
+    let s = start .args .store .now in
+    let y = shape-yes s (after-found .found .given .0 .0) (sym (after-found .before .before .shape .ensures) ∙ after-found .found .given .1) in (
+      shaped-framed s (shaped s (y .0)),
       (
         ap (λ (x : Counts). x .objects) (y .1),
         (
           ap (λ (x : Counts). x .names) (y .1),
-          (
-            c .before .before .before .before .before .before .inside-map .ensures,
-            c .before .before .before .before .before .before .before .before .before .before .before .before .before .before .pre .1,
-          ),
+          (ap (λ (x : Counts). x .blocks) (y .1), (start .pre .0, start .pre .1)),
         ),
       ),
     )
 
-returns-4 : tie.Need-returns-4
-returns-4 c =
-    let after-found = c .before .before .before .before .before .before .before .before .before .before .before .before in
-    let start = after-found .before .before .before .before in
-    checked-bad (start .args .store .now) _ (c .before .names-and-tree .ensures .no (not-true _ (c .if3 .taken)))
+returns-2 : tie.Need-returns-2
+returns-2 c =
+    let after-found = c .before .before .before .before .before in
+    let s = after-found .before .before .before .before .args .store .now in
+    let y = shape-yes s (after-found .found .given .0 .0) (sym (after-found .before .before .shape .ensures) ∙ after-found .found .given .1) in
+    checked-records-bad s _ (y .0) (sym (c .before .records-pass .ensures .is) ∙ not-true _ (c .if1 .taken))
 
-returns-5 : tie.Need-returns-5
-returns-5 c =
-    let else2 = c .before .before .before .before in
-    let after-objects-pass = else2 .before in
-    let else1 = after-objects-pass .before .before .before .before in
-    let after-is-directory = else1 .before in
-    let after-found = after-is-directory .before .before in
-    let after-shape = after-found .before .before in
-    let start = after-shape .before .before in
-    let s = start .args .store .now in
+returns-3 : tie.Need-returns-3
+returns-3 c =
+    let after-found = c .before .before .before .before .before in
+    let s = after-found .before .before .before .before .args .store .now in
     let k = after-found .found .given .0 .0 in
-    let y = shape-yes s k (sym (after-shape .shape .ensures) ∙ after-found .found .given .1) in
-    let g = sym (after-is-directory .is-directory .ensures) ∙
-    not-false _ (else1 .if1 .left) in
-    let o = rw (ap (λ (x : Counts). x .objects) (y .1)) at
-    (after-objects-pass .objects-pass .ensures .yes (not-false _ (else2 .if2 .left))) in
-    checked-good s k _ (y .0) (y .1) g o (c .before .names-and-tree .ensures .yes (not-false _ (c .if3 .left)))
+    let y = shape-yes s k (sym (after-found .before .before .shape .ensures) ∙ after-found .found .given .1) in
+    let v = c .before .records-pass .ensures in
+    let t = sym (v .is) ∙ not-false _ (c .if1 .left) in
+    checked-good s k _ (y .0) (y .1) t (v .map t)
 
 pub check-store-spec : {M : Type 1} → statement M
 check-store-spec =
@@ -107,11 +62,6 @@ check-store-spec =
     enum-known-found
     enum-told
     returns
-    is-directory-requires
+    records-pass-requires
     returns-2
-    inside-map-requires
-    objects-pass-requires
-    returns-3
-    names-and-tree-requires
-    returns-4
-    returns-5)
+    returns-3)

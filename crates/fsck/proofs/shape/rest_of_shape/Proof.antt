@@ -1,8 +1,8 @@
-use mathlib.Core.Path.{_≡_, _∙_}
+use mathlib.Core.Path.{_≡_, ap, _∙_}
+use Prim.Native.Nat.{ℕ, _*_}
 use native.Mathlib.Omega.{arith}
-use Rattle.laws.proofs.Valid.{Shaped}
-use Rattle.spec.specs.Image.{names, blocks}
-use Rattle.fsck.proofs.Shapes.{shape-bad, shape-counts, names-are, blocks-are}
+use Rattle.fsck.specs.Found.{namesWith, blocksWith}
+use Rattle.fsck.proofs.Shapes.{ShapedWith, shape-bad, shape-counts, names-are, blocks-are}
 use borrow.Author.Needs.{needs}
 use Rattle.fsck.proofs.shape.rest_of_shape.Statement.{statement}
 use Rattle.fsck.proofs.shape.rest_of_shape.Tie as tie
@@ -23,8 +23,9 @@ returns : tie.Need-returns
 returns c =
     let st = c .before .before .before in
     let s = st .args .store .now in
-    let q : c .before .get-u32 .result ≡ names s = c .before .get-u32 .ensures ∙ names-are s (st .args .objects) (st .pre .count) in
-    shape-bad s (λ (t : Shaped s). omega (arith, t .few-names))
+    let w = st .args .width in
+    let q : c .before .get-u32 .result ≡ namesWith w s = c .before .get-u32 .ensures ∙ names-are w s (st .args .objects) (st .pre .count) in
+    shape-bad w s (λ (t : ShapedWith w s). omega (arith, t .few-names))
 
 mul-start : tie.Need-mul-start
 mul-start c = search needs
@@ -42,8 +43,10 @@ returns-2 : tie.Need-returns-2
 returns-2 c =
     let st = c .before .before .before .before in
     let s = st .args .store .now in
-    let q : c .before .before .get-u32 .result ≡ names s = c .before .before .get-u32 .ensures ∙ names-are s (st .args .objects) (st .pre .count) in
-    shape-bad s (λ (t : Shaped s). omega (arith, t .exact))
+    let w = st .args .width in
+    let k = ap (λ (n : ℕ). w * n) (st .pre .count) in
+    let q : c .before .before .get-u32 .result ≡ namesWith w s = c .before .before .get-u32 .ensures ∙ names-are w s (st .args .objects) (st .pre .count) in
+    shape-bad w s (λ (t : ShapedWith w s). omega (arith, t .exact, k))
 
 sub-get-u32 : tie.Need-sub-get-u32
 sub-get-u32 c = search needs
@@ -58,11 +61,12 @@ returns-3 : tie.Need-returns-3
 returns-3 c =
     let st = c .before .before .before .before .before .before in
     let s = st .args .store .now in
-    let q : c .before .before .before .before .get-u32 .result ≡ names s = c .before .before .before .before .get-u32 .ensures ∙ names-are s
-    (st .args .objects) (st .pre .count) in
-    let r : c .before .get-u322 .result ≡ blocks s = c .before .get-u322 .ensures ∙ blocks-are s (st .args .objects)
+    let w = st .args .width in
+    let q : c .before .before .before .before .get-u32 .result ≡ namesWith w s = c .before .before .before .before .get-u32 .ensures ∙
+    names-are w s (st .args .objects) (st .pre .count) in
+    let r : c .before .get-u322 .result ≡ blocksWith w s = c .before .get-u322 .ensures ∙ blocks-are w s (st .args .objects)
     (c .before .before .before .before .get-u32 .result) _ (st .pre .count) q (omega arith) in
-    shape-bad s (λ (t : Shaped s). omega (arith, t .few-blocks))
+    shape-bad w s (λ (t : ShapedWith w s). omega (arith, t .few-blocks))
 
 mul-if4 : tie.Need-mul-if4
 mul-if4 c = search needs
@@ -74,28 +78,32 @@ returns-4 : tie.Need-returns-4
 returns-4 c =
     let st = c .before .before .before .before .before .before .before in
     let s = st .args .store .now in
-    let q : c .before .before .before .before .before .get-u32 .result ≡ names s = c .before .before .before .before .before .get-u32 .ensures ∙
-    names-are s (st .args .objects) (st .pre .count) in
-    let r : c .before .before .get-u322 .result ≡ blocks s = c .before .before .get-u322 .ensures ∙ blocks-are s (st .args .objects)
+    let w = st .args .width in
+    let k = ap (λ (n : ℕ). w * n) (st .pre .count) in
+    let q : c .before .before .before .before .before .get-u32 .result ≡ namesWith w s = c .before .before .before .before .before .get-u32 .ensures ∙
+    names-are w s (st .args .objects) (st .pre .count) in
+    let r : c .before .before .get-u322 .result ≡ blocksWith w s = c .before .before .get-u322 .ensures ∙ blocks-are w s (st .args .objects)
     (c .before .before .before .before .before .get-u32 .result) _ (st .pre .count) q (omega arith) in
-    shape-bad s (λ (t : Shaped s). c .if4 .taken (omega (arith, t .exact)))
+    shape-bad w s (λ (t : ShapedWith w s). c .if4 .taken (omega (arith, t .exact, k)))
 
 returns-5 : tie.Need-returns-5
 returns-5 c =
     let st = c .before .before .before .before .before .before .before in
     let s = st .args .store .now in
-    let q : c .before .before .before .before .before .get-u32 .result ≡ names s = c .before .before .before .before .before .get-u32 .ensures ∙
-    names-are s (st .args .objects) (st .pre .count) in
-    let r : c .before .before .get-u322 .result ≡ blocks s = c .before .before .get-u322 .ensures ∙ blocks-are s (st .args .objects)
+    let w = st .args .width in
+    let k = ap (λ (n : ℕ). w * n) (st .pre .count) in
+    let q : c .before .before .before .before .before .get-u32 .result ≡ namesWith w s = c .before .before .before .before .before .get-u32 .ensures ∙
+    names-are w s (st .args .objects) (st .pre .count) in
+    let r : c .before .before .get-u322 .result ≡ blocksWith w s = c .before .before .get-u322 .ensures ∙ blocks-are w s (st .args .objects)
     (c .before .before .before .before .before .get-u32 .result) _ (st .pre .count) q (omega arith) in
-    shape-counts s (st .args .objects) (c .before .before .before .before .before .get-u32 .result) (c .before .before .get-u322 .result) (st .pre .count) q r
+    shape-counts w s (st .args .objects) (c .before .before .before .before .before .get-u32 .result) (c .before .before .get-u322 .result) (st .pre .count) q r
     (record {
       volume = st .pre .one;
       some-object = omega arith;
       few-objects = omega arith;
       few-names = omega arith;
       few-blocks = omega arith;
-      exact = omega arith;
+      exact = omega (arith, k);
     })
 
 pub rest-of-shape-spec : {M : Type 1} → statement M

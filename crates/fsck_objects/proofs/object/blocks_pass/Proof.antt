@@ -27,7 +27,7 @@ rest-unused-requires c κs =
     let st = c .before .before .before .before .before .before .before in
     let l = st .pre .1 .1 .0 in
     let m = c .before .mark-last .ensures .yes (not-false _ (c .if2 .left)) in
-    (omega (arith, l .below, st .pre .0 .exact), (st .pre .1 .0, (l .most, (l .needs, m .good))))
+    (omega (arith, l .below, st .pre .0 .inside), (st .pre .1 .0, (l .most, (l .needs, m .good))))
 
 returns-3 : tie.Need-returns-3
 returns-3 c =

@@ -1,6 +1,7 @@
 use borrow.Author.Tests.{le-leb, lt-leb, le-ltb, lt-ltb, not-true, not-false}
 use Rattle.fsck_objects.specs.Objects.{goodFields}
 use mathlib.Core.Path.{sym, _∙_}
+use mathlib.Core.Bool.{and-true, and-false}
 use borrow.Author.Needs.{needs}
 use Rattle.fsck_objects.proofs.object.good_fields.Statement.{statement}
 use Rattle.fsck_objects.proofs.object.good_fields.Tie as tie
@@ -37,18 +38,27 @@ returns-3 c = rw (
   sym (c .before .good-times .ensures) ∙ not-true _ (c .if3 .taken),
 )
 
-good-size-requires : tie.Need-good-size-requires
-good-size-requires c κs = search needs
+good-verifier-requires : tie.Need-good-verifier-requires
+good-verifier-requires c κs = search needs
 
 returns-4 : tie.Need-returns-4
 unfolding goodFields
-returns-4 c = rw (
+returns-4 c = rw (sym (c .before .good-verifier .ensures) ∙ not-true _ (c .if4 .taken), and-false)
+
+good-size-requires : tie.Need-good-size-requires
+good-size-requires c κs = search needs
+
+returns-5 : tie.Need-returns-5
+unfolding goodFields
+returns-5 c = rw (
   ← c .good-size .ensures,
-  ← c .before .before .before .before .before .before .generation-of .ensures,
-  lt-ltb _ _ (c .before .before .before .before .before .if1 .left),
-  ← c .before .before .before .before .mode-of .ensures,
-  le-leb _ _ (c .before .before .before .if2 .left),
-  sym (c .before .before .good-times .ensures) ∙ not-false _ (c .before .if3 .left),
+  sym (c .before .before .good-verifier .ensures) ∙ not-false _ (c .before .if4 .left),
+  ← c .before .before .before .before .before .before .before .before .generation-of .ensures,
+  lt-ltb _ _ (c .before .before .before .before .before .before .before .if1 .left),
+  ← c .before .before .before .before .before .before .mode-of .ensures,
+  le-leb _ _ (c .before .before .before .before .before .if2 .left),
+  sym (c .before .before .before .before .good-times .ensures) ∙ not-false _ (c .before .before .before .if3 .left),
+  and-true,
 )
 
 pub good-fields-spec : {M : Type 1} → statement M
@@ -61,5 +71,7 @@ good-fields-spec =
     returns-2
     good-times-requires
     returns-3
+    good-verifier-requires
+    returns-4
     good-size-requires
-    returns-4)
+    returns-5)

@@ -4,7 +4,6 @@ use mathlib.Core.Path.{sym, ap, _∙_}
 use Prim.Native.Nat.{_≤_}
 use Rattle.kinds.specs.Numbers.{mostFileBytes}
 use Rattle.spec.specs.Room.{need, sizeOf}
-use Rattle.spec.specs.Check.{goodFree}
 use Rattle.fsck_objects.specs.Objects.{LiveAt}
 use Rattle.laws.proofs.Valid.{true-live, false-live}
 use Rattle.fsck_objects.proofs.Whole.{fields-need, fields-size, bad-fields, free-passes, free-fails, counted-bad, counted-blocks}
@@ -37,35 +36,24 @@ live-at c =
 kind-of-requires : tie.Need-kind-of-requires
 kind-of-requires c κs = search needs
 
-object-start-requires : tie.Need-object-start-requires
-object-start-requires c κs = search needs
-
-add-is-zero : tie.Need-add-is-zero
-add-is-zero c = search needs
-
-sub-is-zero : tie.Need-sub-is-zero
-sub-is-zero c = search needs
-
-is-zero-requires : tie.Need-is-zero-requires
-is-zero-requires c κs = search needs
+good-free-requires : tie.Need-good-free-requires
+good-free-requires c κs = search needs
 
 returns : tie.Need-returns
-unfolding goodFree
 returns c =
-    let st = c .before .before .before .before .before .before in
+    let st = c .before .before .before .before .before in
     let a = st .args in
     counted-bad (free-fails (a .store .now) (a .o .0) (st .pre .1 .1 .0)
-    (false-live _ _ (sym (c .before .before .before .before .kind-of .ensures) ∙ c .before .before .before .if1 .taken))
-    (sym (rw (c .before .before .object-start .ensures) at (c .before .is-zero .ensures)) ∙ not-true _ (c .if2 .taken)))
+    (false-live _ _ (sym (c .before .before .before .kind-of .ensures) ∙ c .before .before .if1 .taken))
+    (sym (c .before .good-free .ensures) ∙ not-true _ (c .if2 .taken)))
 
 returns-2 : tie.Need-returns-2
-unfolding goodFree
 returns-2 c =
-    let st = c .before .before .before .before .before .before in
+    let st = c .before .before .before .before .before in
     let a = st .args in
-    counted-blocks 0 (free-passes (a .store .now) (a .o .0) (a .used .now) (omega (arith, st .pre .0 .exact))
-    (false-live _ _ (sym (c .before .before .before .before .kind-of .ensures) ∙ c .before .before .before .if1 .taken))
-    (sym (rw (c .before .before .object-start .ensures) at (c .before .is-zero .ensures)) ∙ not-false _ (c .if2 .left)) (st .pre .1 .1 .1 .1))
+    counted-blocks 0 (free-passes (a .store .now) (a .o .0) (a .used .now) (omega (arith, st .pre .0 .inside))
+    (false-live _ _ (sym (c .before .before .before .kind-of .ensures) ∙ c .before .before .if1 .taken))
+    (sym (c .before .good-free .ensures) ∙ not-false _ (c .if2 .left)) (st .pre .1 .1 .1 .1))
 
 good-fields-requires : tie.Need-good-fields-requires
 good-fields-requires c κs = search needs
@@ -103,10 +91,7 @@ object-uses-spec =
     tie.close
     (tie.spec
     kind-of-requires
-    object-start-requires
-    add-is-zero
-    sub-is-zero
-    is-zero-requires
+    good-free-requires
     returns
     returns-2
     good-fields-requires
