@@ -2,71 +2,57 @@
 use mathlib.Core.Logic.{_⊎_}
 use Prim.Native.Nat.{ℕ}
 use mathlib.Core.Path.{_≡_, refl, sym, _∙_}
-use mathlib.Core.Bool.{false}
 use mathlib.Core.List.{List}
-use Rattle.kinds.specs.Numbers.{REGULAR, DIRECTORY}
+use Rattle.kinds.specs.Numbers.{DIRECTORY}
 use Rattle.kinds.specs.declared.numbers.ObjectNumber.{ObjectNumber}
 use Rattle.kinds.specs.declared.numbers.NameNumber.{NameNumber}
+use Rattle.kinds.specs.declared.object.Object.{Object}
 use Rattle.kinds.specs.declared.object.Context.{Context}
-use Rattle.kinds.specs.declared.call.SetSize.{SetSize}
-use Rattle.kinds.specs.declared.call.SetSize.the-variants as SetSize
 use Rattle.kinds.specs.declared.call.Settable.{Settable}
 use Rattle.kinds.specs.declared.call.How.{How}
-use Rattle.kinds.specs.declared.call.How.the-variants as How
 use Rattle.spec.specs.Image.{Store}
-use Rattle.spec.specs.Procedures.Attributes.{isGiven, sizeSet}
-use Rattle.spec.specs.Procedures.Names.{new, existing, settableIn}
+use Rattle.spec.specs.Procedures.Names.{newObject, new, existing, settableIn, newFile}
+use Rattle.laws.proofs.ActGood.{not-given}
 use Rattle.laws.proofs.ArgumentRange.{FitsHow}
 use Rattle.laws.proofs.Count.{true-false}
 use Rattle.laws.proofs.GoodRecords.{GoodRecords, GoodClock, used-at}
+use Rattle.laws.proofs.NewObject.{new-fresh, file-kind, file-fresh}
 use Rattle.laws.proofs.Passed.{CreatePassed, MkdirPassed, found-record}
-use Rattle.laws.proofs.SetAttributes.{FitsSettable, only-ctime-fits}
+use Rattle.laws.proofs.SetAttributes.{FitsSettable}
 use Rattle.check_make.specs.Meaning.{madeOf}
 use Rattle.act_change.specs.Makable.{Sizable, Makable}
 use Rattle.check_make.specs.declared.checks.Target.{Target}
 use Rattle.check_make.specs.declared.checks.Target.the-variants as Target
 
-not-given : (x : SetSize) → isGiven x ≡ false → sizeSet x 0 ≡ 0
-not-given SetSize.Keep e = refl
-not-given (SetSize.To n) e = true-false e
-
-how-settable : (manner : How) → FitsHow manner → FitsSettable (settableIn manner)
-how-settable (How.Unchecked a) f = f
-how-settable (How.Guarded a) f = f
-how-settable (How.Exclusive verifier) f = only-ctime-fits
-
-pub mkdir-makable : (s : Store) (c : Context) (h text : List ℕ) (a : Settable) (d o n : ℕ) → GoodClock (c .clock) → FitsSettable a
-    → MkdirPassed s h text a d o n
-    → Makable s c DIRECTORY o n d text a
-mkdir-makable s c h text a d o n k f p =
-    record {
+pub mkdir-makable : (s : Store) (c : Context) (h text : List ℕ) (a : Settable) (d o n : ℕ) (v : Object) → v ≡ newObject (c .clock) DIRECTORY a
+    → GoodClock (c .clock) → FitsSettable a → MkdirPassed s h text a d o n → Makable s c v (a .size) o n d text
+mkdir-makable s c h text a d o n v e k f p =
+    rw e (record {
       clock = k;
-      either = _⊎_.inr refl;
+      fresh = new-fresh (c .clock) DIRECTORY a k (_⊎_.inr refl) f (p .allowed);
       sized = λ given. true-false (sym given ∙ p .no-size);
+      small = p .allowed .size;
       room = rw (not-given (a .size) (p .no-size)) (p .room);
       below = p .reached .below;
       directory = p .directory;
       good = p .good;
-      fits = f;
-      allowed = p .allowed;
-    }
+    })
 
 module _ (s : Store) (h text : List ℕ) (manner : How) (a : Settable) (d : ℕ) (t : Target) (p : CreatePassed s h text manner d (madeOf t))
     (e : a ≡ settableIn manner) where
-  pub create-makable : (c : Context) (o : ObjectNumber) (n : NameNumber) → t ≡ Target.New o n → GoodClock (c .clock) → FitsHow manner
-      → Makable s c REGULAR (o .0) (n .0) d text a
-  create-makable c o n is k f =
+  pub create-makable : (c : Context) (v : Object) (o : ObjectNumber) (n : NameNumber) → v ≡ newFile (c .clock) manner → t ≡ Target.New o n
+      → GoodClock (c .clock) → FitsHow manner → Makable s c v (a .size) (o .0) (n .0) d text
+  create-makable c v o n same is k f =
       let q : CreatePassed s h text manner d (new (o .0) (n .0)) = rw is at p in
-      rw e (record {
+      rw (e, same) (record {
         clock = k;
-        either = _⊎_.inl refl;
-        sized = λ given. refl;
+        fresh = file-fresh (c .clock) manner k f (q .allowed);
+        sized = λ given. file-kind (c .clock) manner;
+        small = q .allowed .size;
         room = q .target .1;
         below = q .reached .below;
         directory = q .directory;
         good = q .good;
-        fits = how-settable manner f;
-        allowed = q .allowed;
       })
 
   pub create-sizable : (o : ObjectNumber) → t ≡ Target.Existing o → GoodRecords s → Sizable s (o .0) (a .size)

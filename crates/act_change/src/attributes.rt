@@ -15,6 +15,7 @@ use crate::setting::check_setattr;
 use check_handles::failure::fail_changing;
 use check_handles::handle::Reached;
 use check_settable::is_given;
+use edit_attributes::forget_verifier;
 use edit_attributes::set_attributes;
 use edit_size::size::resize;
 use kinds::call::Guard;
@@ -101,6 +102,7 @@ fn setattr_edit(
     resize_to(store, used, o, size);
     let clock = context.clock;
     set_attributes(store, clock, o, size_touches(a));
+    forget_verifier(store, o);
 }
 
 // SETATTR: the object as it was and as it is, or the status of the check that failed.

@@ -3,8 +3,9 @@ ghost use mathlib.Core.Path.{_≡_};
 ghost use Prim.Native.Nat.{_+_, _≤_, _<_};
 ghost use lib.ListN.{length};
 ghost use Rattle.spec.specs.Image.{objects};
+ghost use Rattle.spec.specs.Edits.{withVerifier};
 ghost use Rattle.spec.specs.Procedures.{cut};
-ghost use Rattle.spec.specs.Procedures.Names.{newObject, newEdit, createdIn, existingEdit, settableIn, create, mkdir};
+ghost use Rattle.spec.specs.Procedures.Names.{newObject, newFile, newEdit, createdIn, existingEdit, create, mkdir};
 ghost use Rattle.laws.proofs.ArgumentRange.{FitsHow};
 ghost use Rattle.laws.proofs.GoodRecords.{GoodRecords, GoodClock};
 ghost use Rattle.laws.proofs.SetAttributes.{FitsSettable};
@@ -19,7 +20,8 @@ use check_handles::failure::fail_changing;
 use check_make::checks::MkdirChecked;
 use check_make::checks::Target;
 use check_make::checks::check_mkdir;
-use edit_attributes::only_ctime;
+use check_settable::only_ctime;
+use check_settable::settable_in;
 use edit_attributes::touch;
 use edit_attributes::with_attributes;
 use edit_names::create_object;
@@ -55,8 +57,34 @@ fn new_object(clock: Time, kind: u32, a: Settable) -> Object
         mtime: clock,
         ctime: clock,
         blocks: [Limit::UNUSED_BLOCK; 16],
+        verifier: 0,
+        exclusive: 0,
     };
     with_attributes(clock, a, v)
+}
+
+// An object with another verifier and flag.
+fn with_verifier(verifier: u64, flag: u32, v: Object) -> Object
+    ensures { λ r. ⌜ r ≡ withVerifier verifier flag v ⌝ }
+{
+    let mut w = v;
+    w.verifier = verifier;
+    w.exclusive = flag;
+    w
+}
+
+// A new file; one made EXCLUSIVE keeps the verifier.
+fn new_file(clock: Time, manner: How) -> Object
+    ensures { λ r. ⌜ r ≡ newFile clock manner ⌝ }
+{
+    match manner {
+        How::Unchecked(a) => new_object(clock, Kind::REGULAR, a),
+        How::Guarded(a) => new_object(clock, Kind::REGULAR, a),
+        How::Exclusive(verifier) => {
+            let v = new_object(clock, Kind::REGULAR, only_ctime());
+            with_verifier(verifier, Limit::KEPT_FLAG, v)
+        }
+    }
 }
 
 // What CREATE and MKDIR do to the store for a new object.
@@ -64,24 +92,22 @@ fn new_edit(
     store: &mut [u8],
     used: &[u8; Limit::MOST_BLOCKS],
     context: Context,
-    kind: u32,
+    v: Object,
+    size: SetSize,
     o: ObjectNumber,
     n: NameNumber,
     d: ObjectNumber,
     call: &[u8],
     name: Part,
-    a: Settable,
 )
     requires { ⌜ GoodRecords (now store) ⌝ }
     requires { ⌜ UsedMap (now store) (now used) ⌝ }
     requires { ⌜ name .start + name .length ≤ length (now call) ⌝ }
-    requires { ⌜ Makable (now store) context kind (o .0) (n .0) (d .0) (cut (now call) name) a ⌝ }
-    ensures { λ _. ⌜ now (store .exit) ≡ newEdit (now (store .entry)) context kind (o .0) (n .0) (d .0) (cut (now (call .entry)) name) a ⌝ }
+    requires { ⌜ Makable (now store) context v size (o .0) (n .0) (d .0) (cut (now call) name) ⌝ }
+    ensures { λ _. ⌜ now (store .exit) ≡ newEdit (now (store .entry)) context v size (o .0) (n .0) (d .0) (cut (now (call .entry)) name) ⌝ }
 {
     let clock = context.clock;
-    let v = new_object(clock, kind, a);
     create_object(store, o, n, v, d, call, name);
-    let size = a.size;
     resize_to(store, used, o, size);
     touch(store, clock, d);
 }
@@ -112,22 +138,22 @@ fn make_new(
     store: &mut [u8],
     used: &[u8; Limit::MOST_BLOCKS],
     context: Context,
-    kind: u32,
+    v: Object,
+    size: SetSize,
     o: ObjectNumber,
     n: NameNumber,
     d: ObjectNumber,
     call: &[u8],
     name: Part,
-    a: Settable,
 ) -> Reply
     requires { ⌜ GoodRecords (now store) ⌝ }
     requires { ⌜ UsedMap (now store) (now used) ⌝ }
     requires { ⌜ name .start + name .length ≤ length (now call) ⌝ }
-    requires { ⌜ Makable (now store) context kind (o .0) (n .0) (d .0) (cut (now call) name) a ⌝ }
-    ensures { λ r. ⌜ Does (createdIn (now (store .entry)) (newEdit (now (store .entry)) context kind (o .0) (n .0) (d .0) (cut (now (call .entry)) name) a) (d .0) (o .0)) r (now (store .exit)) ⌝ }
+    requires { ⌜ Makable (now store) context v size (o .0) (n .0) (d .0) (cut (now call) name) ⌝ }
+    ensures { λ r. ⌜ Does (createdIn (now (store .entry)) (newEdit (now (store .entry)) context v size (o .0) (n .0) (d .0) (cut (now (call .entry)) name)) (d .0) (o .0)) r (now (store .exit)) ⌝ }
 {
     let earlier = before(store, d);
-    new_edit(store, used, context, kind, o, n, d, call, name, a);
+    new_edit(store, used, context, v, size, o, n, d, call, name);
     let change = ObjectChange {
         before: earlier,
         object: d,
@@ -153,18 +179,20 @@ pub fn mkdir(
     let directory = place.directory;
     let name = place.name;
     let answer = check_mkdir(store, used, call, place, a);
+    let clock = context.clock;
+    let size = a.size;
     match answer {
         MkdirChecked::At(d, o, n) => make_new(
             store,
             used,
             context,
-            Kind::DIRECTORY,
+            new_object(clock, Kind::DIRECTORY, a),
+            size,
             o,
             n,
             d,
             call,
             name,
-            a,
         ),
         MkdirChecked::Refused(status) => fail_changing(store, call, directory, status),
     }
@@ -195,17 +223,6 @@ fn obey_size(
     Reply::Created(o, change)
 }
 
-// The attributes that CREATE sets.
-fn settable_of(manner: How) -> Settable
-    ensures { λ r. ⌜ r ≡ settableIn manner ⌝ }
-{
-    match manner {
-        How::Unchecked(a) => a,
-        How::Guarded(a) => a,
-        How::Exclusive(_) => only_ctime(),
-    }
-}
-
 // CREATE: the file and the change of its directory, or the status of the check that failed.
 pub fn create(
     store: &mut [u8],
@@ -223,13 +240,15 @@ pub fn create(
 {
     let directory = place.directory;
     let answer = check_create(store, used, call, place, manner);
-    let a = settable_of(manner);
+    let clock = context.clock;
     let name = place.name;
+    let a = settable_in(manner);
     let size = a.size;
     match answer {
         CreateChecked::At(d, t) => match t {
             Target::New(o, n) => {
-                make_new(store, used, context, Kind::REGULAR, o, n, d, call, name, a)
+                let v = new_file(clock, manner);
+                make_new(store, used, context, v, size, o, n, d, call, name)
             }
             Target::Existing(o) => obey_size(store, used, context, d, o, size),
         },

@@ -10,9 +10,13 @@ ghost use Rattle.check_make.specs.Meaning.{targetCheckedOf};
 ghost use Rattle.check_create.specs.Meaning.{createCheckedOf};
 use check_handles::handle::Reached;
 use check_handles::handle::reach_directory;
+use check_handles::text::TextChecked;
 use check_make::checks::Target;
 use check_make::checks::TargetChecked;
-use check_make::checks::check_attributed;
+use check_make::checks::check_new;
+use check_make::checks::check_target;
+use check_settable::bad_attributes;
+use check_settable::settable_in;
 use kinds::call::How;
 use kinds::call::NameIn;
 use kinds::call::Part;
@@ -26,7 +30,7 @@ pub enum CreateChecked {
     Refused(Status),
 }
 
-// The checks of CREATE in a directory; EXCLUSIVE is refused before the name is looked at.
+// The checks of CREATE in a directory.
 fn check_how(
     store: &[u8],
     used: &[u8; Limit::MOST_BLOCKS],
@@ -40,11 +44,14 @@ fn check_how(
     requires { ⌜ name .start + name .length ≤ length (now call) ⌝ }
     ensures { λ r. ⌜ targetCheckedOf r ≡ checkHow (now (store .entry)) (d .0) (cut (now (call .entry)) name) manner ⌝ }
 {
-    match manner {
-        How::Unchecked(a) => check_attributed(store, used, d, call, name, true, a),
-        How::Guarded(a) => check_attributed(store, used, d, call, name, false, a),
-        How::Exclusive(_) => TargetChecked::Refused(Status::NOTSUPP),
+    let a = settable_in(manner);
+    let invalid = bad_attributes(a);
+    let checked = check_new(call, name, invalid);
+    if let TextChecked::Refused(status) = checked {
+        return TargetChecked::Refused(status);
     }
+    let size = a.size;
+    check_target(store, used, d, call, name, manner, size)
 }
 
 // The directory and the target of CREATE, or the status.

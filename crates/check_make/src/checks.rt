@@ -1,4 +1,4 @@
-// The checks of MKDIR, and those of CREATE with attributes.
+// The checks of MKDIR, and those of CREATE that look for the name.
 ghost use mathlib.Core.Path.{_≡_};
 ghost use mathlib.Core.Bool.{_||_};
 ghost use Prim.Native.Nat.{_+_, _<_, _≤_};
@@ -8,7 +8,7 @@ ghost use Rattle.spec.specs.Image.{objects};
 ghost use Rattle.spec.specs.Room.{findName};
 ghost use Rattle.spec.specs.Procedures.{cut};
 ghost use Rattle.spec.specs.Procedures.Attributes.{isGiven, sizeSet, badAttributes};
-ghost use Rattle.spec.specs.Procedures.Names.{roomForNew, isNew, checkExisting, targetOf, checkNew, checkAttributed, checkMkdir};
+ghost use Rattle.spec.specs.Procedures.Names.{settableIn, isMadeBy, isTaken, checkExisting, targetOf, checkNew, checkMkdir};
 ghost use Rattle.laws.proofs.GoodRecords.{GoodRecords};
 ghost use Rattle.store_blocks.specs.Blocks.{UsedMap};
 ghost use Rattle.check_handles.specs.Meaning.{textCheckedOf};
@@ -24,15 +24,19 @@ use check_room::room_for_new;
 use check_settable::bad_attributes;
 use check_settable::is_given;
 use check_settable::size_set;
+use kinds::call::How;
 use kinds::call::NameIn;
 use kinds::call::Part;
+use kinds::call::SetSize;
 use kinds::call::Settable;
 use kinds::numbers::Limit;
 use kinds::numbers::NameNumber;
 use kinds::numbers::ObjectNumber;
 use kinds::numbers::Status;
 use store_records::name::name_child;
+use store_records::object::exclusive_of;
 use store_records::object::is_regular;
+use store_records::object::verifier_of;
 use store_search::found::FoundName;
 use store_search::name::find_name;
 
@@ -54,7 +58,7 @@ pub enum MkdirChecked {
 }
 
 // A name to be made: a bad name's status, EXIST for "." and "..", then INVAL for attributes that are not valid.
-fn check_new(call: &[u8], name: Part, invalid: bool) -> TextChecked
+pub fn check_new(call: &[u8], name: Part, invalid: bool) -> TextChecked
     requires { ⌜ name .start + name .length ≤ length (now call) ⌝ }
     ensures { λ r. ⌜ textCheckedOf r ≡ checkNew (cut (now (call .entry)) name) invalid ⌝ }
 {
@@ -71,93 +75,85 @@ fn check_new(call: &[u8], name: Part, invalid: bool) -> TextChecked
     TextChecked::Good
 }
 
-// Records and blocks for a new file.
-fn check_absent(store: &[u8], used: &[u8; Limit::MOST_BLOCKS], a: Settable) -> TargetChecked
+// Whether an object is a file that was made EXCLUSIVE with this verifier, and keeps it.
+fn is_made_by(store: &[u8], verifier: u64, o: ObjectNumber) -> bool
     requires { ⌜ GoodRecords (now store) ⌝ }
-    requires { ⌜ UsedMap (now store) (now used) ⌝ }
-    requires { ⌜ sizeSet (a .size) 0 ≤ mostFileBytes ⌝ }
-    ensures { λ r. ⌜ targetCheckedOf r ≡ isNew (roomForNew (now (store .entry)) (sizeSet (a .size) 0)) ⌝ }
+    requires { ⌜ o .0 < objects (now store) ⌝ }
+    ensures { λ r. ⌜ r ≡ isMadeBy (now (store .entry)) verifier (o .0) ⌝ }
 {
-    let size = a.size;
-    let room = room_for_new(store, used, size_set(size, 0) as usize);
-    match room {
-        RoomChecked::At(o, n) => TargetChecked::At(Target::New(o, n)),
-        RoomChecked::Refused(status) => TargetChecked::Refused(status),
+    if !is_regular(store, o) {
+        return false;
+    }
+    if exclusive_of(store, o) != Limit::KEPT_FLAG {
+        return false;
+    }
+    verifier_of(store, o) == verifier
+}
+
+// Whether CREATE takes the object that has the name.
+fn is_taken(store: &[u8], manner: How, o: ObjectNumber) -> bool
+    requires { ⌜ GoodRecords (now store) ⌝ }
+    requires { ⌜ o .0 < objects (now store) ⌝ }
+    ensures { λ r. ⌜ r ≡ isTaken (now (store .entry)) manner (o .0) ⌝ }
+{
+    match manner {
+        How::Unchecked(_) => is_regular(store, o),
+        How::Guarded(_) => false,
+        How::Exclusive(verifier) => is_made_by(store, verifier, o),
     }
 }
 
-// An object that has the name: EXIST, but for UNCHECKED on a regular file, which obeys the size.
+// An object that has the name: EXIST, unless it is taken, which obeys a size.
 fn check_existing(
     store: &[u8],
     used: &[u8; Limit::MOST_BLOCKS],
-    unchecked: bool,
-    a: Settable,
+    manner: How,
+    size: SetSize,
     o: ObjectNumber,
 ) -> TargetChecked
     requires { ⌜ GoodRecords (now store) ⌝ }
     requires { ⌜ UsedMap (now store) (now used) ⌝ }
-    requires { ⌜ sizeSet (a .size) 0 ≤ mostFileBytes ⌝ }
+    requires { ⌜ size ≡ settableIn manner .size ⌝ }
+    requires { ⌜ sizeSet size 0 ≤ mostFileBytes ⌝ }
     requires { ⌜ o .0 < objects (now store) ⌝ }
-    ensures { λ r. ⌜ targetCheckedOf r ≡ checkExisting (now (store .entry)) unchecked a (o .0) ⌝ }
+    ensures { λ r. ⌜ targetCheckedOf r ≡ checkExisting (now (store .entry)) manner (o .0) ⌝ }
 {
-    if !unchecked {
+    if !is_taken(store, manner, o) {
         return TargetChecked::Refused(Status::EXIST);
     }
-    if !is_regular(store, o) {
-        return TargetChecked::Refused(Status::EXIST);
-    }
-    let size = a.size;
     if lacks_room_for_size(store, used, o, size) {
         return TargetChecked::Refused(Status::NOSPC);
     }
     TargetChecked::At(Target::Existing(o))
 }
 
-// The file that CREATE makes, or the one that has the name.
-fn check_target(
+// The file that CREATE makes, or the one that has the name. `size` is the manner's.
+pub fn check_target(
     store: &[u8],
     used: &[u8; Limit::MOST_BLOCKS],
     d: ObjectNumber,
     call: &[u8],
     name: Part,
-    unchecked: bool,
-    a: Settable,
+    manner: How,
+    size: SetSize,
 ) -> TargetChecked
     requires { ⌜ GoodRecords (now store) ⌝ }
     requires { ⌜ UsedMap (now store) (now used) ⌝ }
     requires { ⌜ name .start + name .length ≤ length (now call) ⌝ }
-    requires { ⌜ sizeSet (a .size) 0 ≤ mostFileBytes ⌝ }
-    ensures { λ r. ⌜ targetCheckedOf r ≡ targetOf (now (store .entry)) unchecked a (findName (now (store .entry)) (d .0) (cut (now (call .entry)) name)) ⌝ }
+    requires { ⌜ size ≡ settableIn manner .size ⌝ }
+    requires { ⌜ sizeSet size 0 ≤ mostFileBytes ⌝ }
+    ensures { λ r. ⌜ targetCheckedOf r ≡ targetOf (now (store .entry)) manner (findName (now (store .entry)) (d .0) (cut (now (call .entry)) name)) ⌝ }
 {
     let found = find_name(store, d, call, name);
-    let FoundName::At(n) = found else {
-        return check_absent(store, used, a);
-    };
-    let o = name_child(store, n);
-    check_existing(store, used, unchecked, a, o)
-}
-
-// The checks of CREATE in a directory, but for EXCLUSIVE.
-pub fn check_attributed(
-    store: &[u8],
-    used: &[u8; Limit::MOST_BLOCKS],
-    d: ObjectNumber,
-    call: &[u8],
-    name: Part,
-    unchecked: bool,
-    a: Settable,
-) -> TargetChecked
-    requires { ⌜ GoodRecords (now store) ⌝ }
-    requires { ⌜ UsedMap (now store) (now used) ⌝ }
-    requires { ⌜ name .start + name .length ≤ length (now call) ⌝ }
-    ensures { λ r. ⌜ targetCheckedOf r ≡ checkAttributed (now (store .entry)) (d .0) (cut (now (call .entry)) name) unchecked a ⌝ }
-{
-    let invalid = bad_attributes(a);
-    let checked = check_new(call, name, invalid);
-    if let TextChecked::Refused(status) = checked {
-        return TargetChecked::Refused(status);
+    if let FoundName::At(n) = found {
+        let o = name_child(store, n);
+        return check_existing(store, used, manner, size, o);
     }
-    check_target(store, used, d, call, name, unchecked, a)
+    let room = room_for_new(store, used, size_set(size, 0) as usize);
+    match room {
+        RoomChecked::At(o, n) => TargetChecked::At(Target::New(o, n)),
+        RoomChecked::Refused(status) => TargetChecked::Refused(status),
+    }
 }
 
 // Whether MKDIR's attributes are not valid: as for SETATTR, or a size is given.

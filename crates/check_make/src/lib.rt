@@ -1,2 +1,2 @@
-// The checks of MKDIR, and those of CREATE with attributes.
+// The checks of MKDIR, and those of CREATE that look for the name.
 pub mod checks; // the checks

@@ -1,3 +1,4 @@
+use native.Mathlib.Omega.{arith}
 use borrow.Author.Needs.{needs}
 use Rattle.spec.specs.Procedures.Attributes.{setattrEdit}
 use Rattle.act_write.proofs.Written.{record-inside}
@@ -18,6 +19,15 @@ set-attributes-requires c κs =
     record-inside (st .args .store .now) (c .before .before .before .before .before .resize-to .last .0) (st .args .o .0) (st .pre .0)
     (rw (c .before .before .before .before .before .resize-to .ensures) (r .shape)) (st .pre .1 .1 .below)
 
+forget-verifier-requires : tie.Need-forget-verifier-requires
+forget-verifier-requires c κs =
+    let after-resize-to = c .before .before .before .before .before .before .before .before .before in
+    let st = after-resize-to .before .before .before in
+    let r = sized-still (st .args .store .now) (st .args .o .0) (st .args .a .size) (st .pre .0) (st .pre .1 .1) in
+    let i = record-inside (st .args .store .now) (after-resize-to .resize-to .last .0) (st .args .o .0) (st .pre .0)
+    (rw (after-resize-to .resize-to .ensures) (r .shape)) (st .pre .1 .1 .below) in
+    omega (arith, i)
+
 same-length : tie.Need-same-length
 same-length c = search needs
 
@@ -25,9 +35,10 @@ returns : tie.Need-returns
 unfolding setattrEdit
 returns c =
     rw (
-      c .before .before .set-attributes .ensures,
-      c .before .before .before .size-touches .ensures,
-      c .before .before .before .before .before .before .before .before .resize-to .ensures,
+      c .before .before .forget-verifier .ensures,
+      c .before .before .before .before .before .before .set-attributes .ensures,
+      c .before .before .before .before .before .before .before .size-touches .ensures,
+      c .before .before .before .before .before .before .before .before .before .before .before .before .resize-to .ensures,
     )
 
 pub setattr-edit-spec : {M : Type 1} → statement M
@@ -37,5 +48,6 @@ setattr-edit-spec =
     resize-to-requires
     size-touches-requires
     set-attributes-requires
+    forget-verifier-requires
     same-length
     returns)

@@ -27,8 +27,8 @@ returns c =
     let st = c .before .before .before .before .before .before .before .before in
     let w = below-part 256 (st .args .call .now) (st .args .name .start) (st .args .name .length) (lit< tt)
     (λ k. c .before .before .before .before .before .before .shared-slice-known .given k .fits) in
-    let h = new-still (st .args .store .now) (st .args .context) (st .args .kind) (st .args .o .0) (st .args .n .0) (st .args .d .0)
-    (cut (st .args .call .now) (st .args .name)) (st .args .a) (st .pre .0) (st .pre .1 .1 .1) w in
+    let h = new-still (st .args .store .now) (st .args .context) (st .args .v) (st .args .size) (st .args .o .0) (st .args .n .0) (st .args .d .0)
+    (cut (st .args .call .now) (st .args .name)) (st .pre .0) (st .pre .1 .1 .1) w in
     let e = c .before .before .new-edit .ensures in
     record {
       result = rw (c .before .before .before .before .before2 .ensures, e);

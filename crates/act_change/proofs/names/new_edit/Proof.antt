@@ -1,4 +1,3 @@
-use mathlib.Core.Path.{_≡_}
 use native.Mathlib.Omega.{arith}
 use borrow.Author.Needs.{needs}
 use lib.Dec.{lit<}
@@ -6,31 +5,27 @@ use Rattle.spec.specs.Procedures.{cut}
 use Rattle.spec.specs.Procedures.Names.{newEdit}
 use Rattle.laws.proofs.Bytes.{part-length}
 use Rattle.laws.proofs.RecordRange.{below-part}
-use Rattle.laws.proofs.GoodRecords.{still-trans}
 use Rattle.act_write.proofs.Written.{record-inside}
-use Rattle.act_change.proofs.Edited.{sized-still}
-use Rattle.act_change.proofs.Made.{created, created-still, created-map, created-sizable}
+use Rattle.act_change.proofs.Made.{created-still, created-map, created-sizable, created-sized}
 use Rattle.act_change.proofs.names.new_edit.Statement.{statement}
 use Rattle.act_change.proofs.names.new_edit.Tie as tie
 
-new-object-requires : tie.Need-new-object-requires
-new-object-requires c κs = search needs
-
 create-object-requires : tie.Need-create-object-requires
 create-object-requires c κs =
-    let st = c .before .before .before .before .before in (
+    let st = c .before .before .before .before in
+    let m = st .pre .1 .1 .1 in (
       st .pre .0,
       (
-        st .pre .1 .1 .1 .room .object-below,
+        m .room .object-below,
         (
-          st .pre .1 .1 .1 .room .name-below,
+          m .room .name-below,
           (
-            st .pre .1 .1 .1 .below,
+            m .below,
             (
               st .pre .1 .1 .0,
               omega (
                 arith,
-                st .pre .1 .1 .1 .good .short,
+                m .good .short,
                 part-length (st .args .call .now) (st .args .name .start)
                     (st .args .name .length) (st .pre .1 .1 .0),
               ),
@@ -42,43 +37,31 @@ create-object-requires c κs =
 
 resize-to-requires : tie.Need-resize-to-requires
 resize-to-requires c κs =
-    let st = c .before .before .before .before .before .before .before .before .before in
+    let st = c .before .before .before .before .before .before .before .before in
     let w = below-part 256 (st .args .call .now) (st .args .name .start) (st .args .name .length) (lit< tt)
-    (λ k. c .before .before .before .before .before .before .before .shared-slice-known .given k .fits) in
-    let e : c .before .before .before .create-object .last .0 ≡ created (st .args .store .now) (st .args .context) (st .args .kind) (st .args .o .0)
-    (st .args .n .0) (st .args .d .0) (cut (st .args .call .now) (st .args .name)) (st .args .a) (st .pre .0) (st .pre .1 .1 .1) w =
-    rw (c .before .before .before .create-object .ensures, c .before .before .before .before .before .new-object .ensures) in (
-      rw e (created-still (st .args .store .now) (st .args .context) (st .args .kind) (st .args .o .0) (st .args .n .0) (st .args .d .0)
-          (cut (st .args .call .now) (st .args .name)) (st .args .a) (st .pre .0) (st .pre .1 .1 .1) w .good),
+    (λ k. c .before .before .before .before .before .before .shared-slice-known .given k .fits) in
+    let e = c .before .before .before .create-object .ensures in
+    let text = cut (st .args .call .now) (st .args .name) in (
+      rw e (created-still (st .args .store .now) (st .args .context) (st .args .v) (st .args .size) (st .args .o .0) (st .args .n .0) (st .args .d .0) text
+          (st .pre .0) (st .pre .1 .1 .1) w .good),
       (
-        rw e (created-map (st .args .store .now) (st .args .context) (st .args .kind) (st .args .o .0) (st .args .n .0) (st .args .d .0)
-            (cut (st .args .call .now) (st .args .name)) (st .args .a) (st .pre .0) (st .pre .1 .1 .1) w (st .args .used .now) (st .pre .1 .0)),
-        rw e (created-sizable (st .args .store .now) (st .args .context) (st .args .kind) (st .args .o .0) (st .args .n .0) (st .args .d .0)
-            (cut (st .args .call .now) (st .args .name)) (st .args .a) (st .pre .0) (st .pre .1 .1 .1) w),
+        rw e (created-map (st .args .store .now) (st .args .context) (st .args .v) (st .args .size) (st .args .o .0) (st .args .n .0) (st .args .d .0) text
+            (st .pre .0) (st .pre .1 .1 .1) w (st .args .used .now) (st .pre .1 .0)),
+        rw e (created-sizable (st .args .store .now) (st .args .context) (st .args .v) (st .args .size) (st .args .o .0) (st .args .n .0) (st .args .d .0) text
+            (st .pre .0) (st .pre .1 .1 .1) w),
       ),
     )
 
 touch-requires : tie.Need-touch-requires
 touch-requires c κs =
-    let st = c .before .before .before .before .before .before .before .before .before .before .before .before .before in
+    let st = c .before .before .before .before .before .before .before .before .before .before .before .before in
     let w = below-part 256 (st .args .call .now) (st .args .name .start) (st .args .name .length) (lit< tt)
-    (λ k. c .before .before .before .before .before .before .before .before .before .before .before .shared-slice-known .given k .fits) in
-    let e : c .before .before .before .before .before .before .before .create-object .last .0 ≡ created (st .args .store .now) (st .args .context)
-    (st .args .kind) (st .args .o .0) (st .args .n .0) (st .args .d .0) (cut (st .args .call .now) (st .args .name)) (st .args .a) (st .pre .0)
-    (st .pre .1 .1 .1) w = rw (
-      c .before .before .before .before .before .before .before .create-object .ensures,
-      c .before .before .before .before .before .before .before .before .before .new-object .ensures,
-    ) in
-    let s = created-still (st .args .store .now) (st .args .context) (st .args .kind) (st .args .o .0) (st .args .n .0) (st .args .d .0)
-    (cut (st .args .call .now) (st .args .name)) (st .args .a) (st .pre .0) (st .pre .1 .1 .1) w in
-    let q = sized-still (created (st .args .store .now) (st .args .context) (st .args .kind) (st .args .o .0) (st .args .n .0) (st .args .d .0)
-    (cut (st .args .call .now) (st .args .name)) (st .args .a) (st .pre .0) (st .pre .1 .1 .1) w) (st .args .o .0) (st .args .a .size) (s .good)
-    (created-sizable (st .args .store .now) (st .args .context) (st .args .kind) (st .args .o .0) (st .args .n .0) (st .args .d .0)
-    (cut (st .args .call .now) (st .args .name)) (st .args .a) (st .pre .0) (st .pre .1 .1 .1) w) in
-    let h = still-trans (st .args .store .now) (created (st .args .store .now) (st .args .context) (st .args .kind) (st .args .o .0) (st .args .n .0)
-    (st .args .d .0) (cut (st .args .call .now) (st .args .name)) (st .args .a) (st .pre .0) (st .pre .1 .1 .1) w) _ s q in
+    (λ k. c .before .before .before .before .before .before .before .before .before .before .shared-slice-known .given k .fits) in
+    let h = created-sized (st .args .store .now) (st .args .context) (st .args .v) (st .args .size) (st .args .o .0) (st .args .n .0) (st .args .d .0)
+    (cut (st .args .call .now) (st .args .name)) (st .pre .0) (st .pre .1 .1 .1) w in
     record-inside (st .args .store .now) (c .before .before .before .resize-to .last .0) (st .args .d .0) (st .pre .0)
-    (rw (c .before .before .before .resize-to .ensures, e) (h .shape)) (st .pre .1 .1 .1 .below)
+    (rw (c .before .before .before .resize-to .ensures, c .before .before .before .before .before .before .before .create-object .ensures) (h .shape))
+    (st .pre .1 .1 .1 .below)
 
 same-length : tie.Need-same-length
 same-length c = search needs
@@ -90,14 +73,12 @@ returns c =
       c .before .before .touch .ensures,
       c .before .before .before .before .before .before .resize-to .ensures,
       c .before .before .before .before .before .before .before .before .before .before .create-object .ensures,
-      c .before .before .before .before .before .before .before .before .before .before .before .before .new-object .ensures,
     )
 
 pub new-edit-spec : {M : Type 1} → statement M
 new-edit-spec =
     tie.close
     (tie.spec
-    new-object-requires
     create-object-requires
     resize-to-requires
     touch-requires

@@ -3,8 +3,8 @@ use native.Mathlib.Omega.{arith}
 use borrow.Author.Needs.{needs}
 use Rattle.spec.specs.Procedures.Attributes.{checkSetattr}
 use Rattle.spec.specs.Procedures.{cut}
+use Rattle.laws.proofs.SetAttributes.{allowed}
 use Rattle.check_handles.proofs.Reach.{object-reached}
-use Rattle.check_make.proofs.Told.{valid-size}
 use Rattle.act_change.proofs.setting.check_setattr.Statement.{statement}
 use Rattle.act_change.proofs.setting.check_setattr.Tie as tie
 
@@ -87,7 +87,8 @@ lacks-room-for-size-requires c κs =
     let below = object-reached (st .args .store .now) (cut (st .args .call .now) (st .args .h)) _ _
     (c .before .before .before .before .before .before .before .before .answer .given .1)
     (c .before .before .before .before .before .before .before .before .before .before .reach .ensures) .below in
-    (st .pre .0, (st .pre .1 .0, (below, valid-size (st .args .a) (sym (c .before .before .before .bad-attributes .ensures) ∙ c .before .before .if2 .left))))
+    let small = allowed (st .args .a) (sym (c .before .before .before .bad-attributes .ensures) ∙ c .before .before .if2 .left) .size in
+    (st .pre .0, (st .pre .1 .0, (below, small)))
 
 returns-5 : tie.Need-returns-5
 unfolding checkSetattr

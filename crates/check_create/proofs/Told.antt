@@ -1,22 +1,15 @@
--- What the checks of attributes and names tell. Assumes nothing.
-use Prim.Native.Nat.{ℕ, _≤_}
+-- What the checks of a name to be made tell. Assumes nothing.
+use Prim.Native.Nat.{ℕ}
 use mathlib.Core.Path.{_≡_, refl}
 use mathlib.Core.Bool.{Bool, true, false}
 use mathlib.Core.List.{List}
 use native.Mathlib.Omega.{arith}
-use Rattle.kinds.specs.Numbers.{EXIST, mostFileBytes}
-use Rattle.kinds.specs.declared.call.Settable.{Settable}
+use Rattle.kinds.specs.Numbers.{EXIST}
 use Rattle.spec.specs.Checked.{passed}
 use Rattle.spec.specs.Handles.{checkName}
 use Rattle.spec.specs.Names.{isDots}
-use Rattle.spec.specs.Procedures.Attributes.{sizeSet, badAttributes}
 use Rattle.spec.specs.Procedures.Names.{checkNew}
 use Rattle.laws.proofs.Passed.{bind-passed, refuse-passed}
-use Rattle.laws.proofs.SetAttributes.{allowed}
-
--- attributes that are valid have such a size
-pub valid-size : (a : Settable) → badAttributes a ≡ false → sizeSet (a .size) 0 ≤ mostFileBytes
-valid-size a e = allowed a e .size
 
 -- a name may be made only where the attributes are valid
 pub new-valid : (text : List ℕ) (invalid : Bool) → checkNew text invalid ≡ passed tt → invalid ≡ false
