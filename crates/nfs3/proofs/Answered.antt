@@ -5,9 +5,10 @@ use mathlib.Core.List.{List}
 use Prim.Native.Nat.{ℕ}
 use Rattle.spec.specs.Image.{Store}
 use Rattle.spec.specs.Check.{passes}
-use Rattle.spec.specs.Serve.{Outcome, Sent, refuse, send, check}
+use Rattle.spec.specs.Serve.{Outcome, Written, Sent, refuse, send, check}
+use Rattle.fsck.specs.Format.{Leaves}
 use Rattle.entry_reply.specs.Sends.{Sends}
-use Rattle.nfs3.specs.Answers.{answerOf, Serves}
+use Rattle.nfs3.specs.Answers.{answerOf, Writes, Serves}
 
 -- ---- the check
 pub answer-bad : (s : Store) → passes s ≡ false → answerOf 1 ≡ answerOf (check s)
@@ -17,6 +18,10 @@ answer-bad s e = ap (λ (x : Bool). answerOf (cond x 0 1)) (sym e)
 pub answer-good : (s : Store) → passes s ≡ true → answerOf 0 ≡ answerOf (check s)
 unfolding check
 answer-good s e = ap (λ (x : Bool). answerOf (cond x 0 1)) (sym e)
+
+-- ---- an entry that writes a whole store
+pub writes-by : (w : Written) (number : ℕ) (s : Store) → Leaves w number s → Writes w (answerOf number) s
+writes-by w number s l = record { answers = ap answerOf (l .answers); leaves = l .leaves }
 
 -- ---- a call
 -- a call that is refused changes nothing

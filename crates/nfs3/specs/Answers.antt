@@ -4,10 +4,10 @@ use mathlib.Core.Path.{_≡_}
 use mathlib.Core.List.{List}
 use Rattle.kinds.specs.declared.object.Context.{Context}
 use Rattle.kinds.specs.declared.object.Time.{Time}
-use Rattle.spec.specs.Serve.{Outcome, Formatted}
+use Rattle.spec.specs.Serve.{Outcome, Written}
 use Rattle.kinds.specs.declared.numbers.Answer.{Answer}
 
--- the answers of the check and of format: "both of length 0"
+-- the answers of the check, of format and of the converter: "both of length 0"
 abbrev pub answerOf : ℕ → Answer
 answerOf number = record { number = number; length = 0 }
 
@@ -15,10 +15,10 @@ answerOf number = record { number = number; length = 0 }
 abbrev pub clockOf : ℕ → ℕ → Time
 clockOf seconds nanoseconds = record { seconds = seconds; nanoseconds = nanoseconds }
 
--- an answer and a buffer are what format gives
-pub record Formats (f : Formatted) (r : Answer) (store : List ℕ) : Type 0 where
-  pub answers : r ≡ answerOf (f .number)
-  pub leaves : store ≡ f .store
+-- an answer and a buffer are what format or the converter gives
+pub record Writes (w : Written) (r : Answer) (store : List ℕ) : Type 0 where
+  pub answers : r ≡ answerOf (w .number)
+  pub leaves : store ≡ w .store
 
 -- a clock of two numbers, and a verifier
 abbrev pub contextOf : ℕ → ℕ → ℕ → Context

@@ -1,7 +1,9 @@
 // The functions that a C program calls.
 ghost use mathlib.Core.Path.{_≡_};
-ghost use Rattle.spec.specs.Serve.{serve, check, format};
-ghost use Rattle.nfs3.specs.Answers.{answerOf, clockOf, contextOf, Formats, Serves};
+ghost use Rattle.spec.specs.Serve.{serve, check, format, convert};
+ghost use Rattle.nfs3.specs.Answers.{answerOf, clockOf, contextOf, Writes, Serves};
+use convert::MOST_RECORDS;
+use convert::convert_store;
 use entry_reply::respond;
 use entry_tests::Opened;
 use entry_tests::open;
@@ -75,12 +77,22 @@ pub extern "C" fn nfs3_format(
     seconds: u32,
     nanoseconds: u32,
 ) -> Answer
-    ensures { λ r. ⌜ Formats (format (now (store .entry)) stamp objects names blocks (clockOf seconds nanoseconds)) r (now (store .exit)) ⌝ }
+    ensures { λ r. ⌜ Writes (format (now (store .entry)) stamp objects names blocks (clockOf seconds nanoseconds)) r (now (store .exit)) ⌝ }
 {
     let clock = Time {
         seconds,
         nanoseconds,
     };
     let number = format_store(store, stamp, objects, names, blocks, clock);
+    Answer { number, length: 0 }
+}
+
+// Makes the bytes of `store` what an image of the old layout becomes: 1, 6 or 0; 1 and 6 change nothing.
+#[no_mangle]
+pub extern "C" fn nfs3_convert(old: &[u8], store: &mut [u8]) -> Answer
+    ensures { λ r. ⌜ Writes (convert (now (old .entry)) (now (store .entry))) r (now (store .exit)) ⌝ }
+{
+    let mut room = [0u8; MOST_RECORDS];
+    let number = convert_store(old, store, &mut room);
     Answer { number, length: 0 }
 }

@@ -1,6 +1,4 @@
-use mathlib.Core.Path.{ap}
-use Prim.Native.Nat.{ℕ}
-use Rattle.nfs3.specs.Answers.{answerOf}
+use Rattle.nfs3.proofs.Answered.{writes-by}
 use borrow.Author.Needs.{needs}
 use Rattle.nfs3.proofs.nfs3_format.Statement.{statement}
 use Rattle.nfs3.proofs.nfs3_format.Tie as tie
@@ -12,9 +10,7 @@ same-length : tie.Need-same-length
 same-length c = search needs
 
 returns : tie.Need-returns
-returns c =
-    let f = c .before .before .format-store .ensures in
-    record { answers = ap (λ (n : ℕ). answerOf n) (f .answers); leaves = f .leaves }
+returns c = writes-by _ _ _ (c .before .before .format-store .ensures)
 
 pub nfs3-format-spec : {M : Type 1} → statement M
 nfs3-format-spec = tie.close (tie.spec format-store-requires same-length returns)
