@@ -110,7 +110,8 @@ impl Wanted {
 pub enum How {
     Unchecked(Wanted),
     Guarded(Wanted),
-    Exclusive,
+    /// The verifier as sent.
+    Exclusive([u8; 8]),
 }
 
 impl How {
@@ -118,7 +119,9 @@ impl How {
         match reader.choice(2)? {
             0 => Wanted::read(reader).map(How::Unchecked),
             1 => Wanted::read(reader).map(How::Guarded),
-            _ => reader.fixed::<8>().map(|_| How::Exclusive),
+            _ => reader
+                .fixed::<8>()
+                .map(|verifier| How::Exclusive(*verifier)),
         }
     }
 }

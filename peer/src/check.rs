@@ -102,7 +102,8 @@ impl Survey {
                     & (field(record, object_field::ATIME + 4) < NANOSECONDS)
                     & (field(record, object_field::MTIME + 4) < NANOSECONDS)
                     & (field(record, object_field::CTIME + 4) < NANOSECONDS)
-                    & (size <= MAX_FILE_BYTES);
+                    & (size <= MAX_FILE_BYTES)
+                    & verifier_sound(record, kind);
                 if !sound {
                     return false;
                 }
@@ -322,6 +323,16 @@ fn field(record: &[u8; OBJECT_BYTES], at: usize) -> u32 {
 #[inline(always)]
 fn name_word(record: &[u8; NAME_BYTES], at: usize) -> u32 {
     word(record, at)
+}
+
+/// Whether a live record keeps a verifier only where it may: the flag is 1 at
+/// most on a regular file, and without it the verifier is 0.
+#[inline(always)]
+fn verifier_sound(record: &[u8; OBJECT_BYTES], kind: u32) -> bool {
+    let flag = field(record, object_field::FLAG);
+    let verifier =
+        field(record, object_field::VERIFIER) | field(record, object_field::VERIFIER + 4);
+    (flag <= u32::from(kind == REGULAR)) & ((flag | u32::from(verifier == 0)) != 0)
 }
 
 /// Whether every byte of a record outside its generation is 0.

@@ -40,6 +40,6 @@ pub fn format(
         put_word(store, root + time, seconds);
         put_word(store, root + time + 4, nanoseconds);
     }
-    store[root + object_field::BLOCKS..root + OBJECT_BYTES].fill(0xFF);
+    store[root + object_field::BLOCKS..root + object_field::VERIFIER].fill(0xFF);
     Answer::done(0)
 }

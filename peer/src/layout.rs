@@ -12,7 +12,7 @@ pub const MAX_NAMES: usize = 128;
 pub const MAX_BLOCKS: usize = 1024;
 
 /// Bytes of one object record, one name record and one block.
-pub const OBJECT_BYTES: usize = 80;
+pub const OBJECT_BYTES: usize = 92;
 pub const NAME_BYTES: usize = 44;
 pub const BLOCK_BYTES: usize = 512;
 
@@ -48,6 +48,10 @@ pub mod object_field {
     pub const MTIME: usize = 32;
     pub const CTIME: usize = 40;
     pub const BLOCKS: usize = 48;
+    /// The verifier of an EXCLUSIVE CREATE, 8 bytes.
+    pub const VERIFIER: usize = 80;
+    /// 1 on a regular file that keeps a verifier, otherwise 0.
+    pub const FLAG: usize = 88;
 }
 
 /// Offsets of the fields of a name record.

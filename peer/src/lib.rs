@@ -8,11 +8,13 @@
 
 mod arguments;
 pub mod check;
+mod convert;
 mod format;
 pub mod generator;
 pub mod layout;
 mod name;
 pub mod numbers;
+pub mod old_check;
 mod procedures;
 mod reply;
 mod rpc;
@@ -23,6 +25,7 @@ use numbers::{message, procedure};
 use reply::Reply;
 use rpc::Header;
 
+pub use convert::convert;
 pub use format::format;
 pub use reply::REPLY_SPACE;
 
@@ -32,10 +35,10 @@ pub const MAX_CALL: usize = 8192;
 /// What an entry point answers.
 ///
 /// Number 0 means done, with the reply's length. The others are refusals with
-/// length 0 that leave every lent buffer as it was: 1 the store fails its
-/// check, 2 too little reply space, 3 clock nanoseconds out of range, 4 call
-/// too long, 5 no complete call header, 6 a count out of range or a buffer of
-/// another length.
+/// length 0 that leave every lent buffer as it was: 1 the store, or the old
+/// image, fails its check, 2 too little reply space, 3 clock nanoseconds out of
+/// range, 4 call too long, 5 no complete call header, 6 a count out of range or
+/// a buffer of another length.
 #[derive(Clone, Copy, PartialEq, Eq, Debug)]
 pub struct Answer {
     pub number: u32,

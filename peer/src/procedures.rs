@@ -165,6 +165,7 @@ fn setattr(reader: &mut Reader<'_>, volume: &mut Volume<'_>, reply: &mut Reply<'
         set_given(volume, object, &wanted);
         let clock = volume.clock();
         volume.set_time(object, object_field::CTIME, clock);
+        volume.forget(object);
         Ok(())
     });
     write_change(volume, before, outcome, reply);
@@ -348,33 +349,64 @@ fn create(reader: &mut Reader<'_>, volume: &mut Volume<'_>, reply: &mut Reply<'_
     let before = resolved.ok().map(|directory| volume.before(directory));
     let outcome = resolved.and_then(|directory| {
         want_directory(volume, directory)?;
-        let (wanted, guarded) = match &how {
-            How::Unchecked(wanted) => (wanted, false),
-            How::Guarded(wanted) => (wanted, true),
-            How::Exclusive => return Err(Status::NOTSUPP),
-        };
         let text = want_name(place.name)?;
         refuse_dots(&text, Status::EXIST)?;
-        if !wanted.valid() {
-            return Err(Status::INVAL);
-        }
-        let size = wanted.valid_size();
-        if let Some(existing) = volume.find(directory, &text) {
-            if guarded || volume.survey.is_directory(existing) {
-                return Err(Status::EXIST);
+        let existing = volume.find(directory, &text);
+        match &how {
+            How::Unchecked(wanted) | How::Guarded(wanted) => {
+                if !wanted.valid() {
+                    return Err(Status::INVAL);
+                }
+                match existing {
+                    Some(file) if matches!(how, How::Unchecked(_)) => {
+                        make_again(volume, file, wanted)
+                    }
+                    Some(_) => Err(Status::EXIST),
+                    None => make_file(volume, directory, place.name, wanted),
+                }
             }
-            if let Some(size) = size {
-                volume.resize(existing, size)?;
-                volume.touch(existing);
-            }
-            return Ok(existing);
+            How::Exclusive(verifier) => match existing {
+                Some(file) if volume.keeps(file, verifier) => Ok(file),
+                Some(_) => Err(Status::EXIST),
+                None => {
+                    let file = volume.add(directory, place.name, REGULAR, 0)?;
+                    volume.keep(file, verifier);
+                    Ok(file)
+                }
+            },
         }
-        let file = volume.add(directory, place.name, REGULAR, size.unwrap_or(0))?;
-        set_given(volume, file, wanted);
-        Ok(file)
     });
     write_made(volume, before, outcome, reply);
     Some(())
+}
+
+/// Makes a file with the attributes that are given.
+fn make_file(
+    volume: &mut Volume<'_>,
+    directory: Object,
+    name: &[u8],
+    wanted: &Wanted,
+) -> Result<Object, Status> {
+    let size = wanted.valid_size().unwrap_or(0);
+    let file = volume.add(directory, name, REGULAR, size)?;
+    set_given(volume, file, wanted);
+    Ok(file)
+}
+
+/// UNCHECKED on an existing object: a regular file obeys the size only.
+fn make_again(
+    volume: &mut Volume<'_>,
+    existing: Object,
+    wanted: &Wanted,
+) -> Result<Object, Status> {
+    if volume.survey.is_directory(existing) {
+        return Err(Status::EXIST);
+    }
+    if let Some(size) = wanted.valid_size() {
+        volume.resize(existing, size)?;
+        volume.touch(existing);
+    }
+    Ok(existing)
 }
 
 fn mkdir(reader: &mut Reader<'_>, volume: &mut Volume<'_>, reply: &mut Reply<'_>) -> Option<()> {

@@ -86,6 +86,24 @@ impl<'a> Volume<'a> {
         self.record(object)[object_field::CTIME..object_field::BLOCKS] == *time
     }
 
+    /// Whether an object keeps this verifier.
+    pub fn keeps(&self, object: Object, verifier: &[u8; 8]) -> bool {
+        let record = self.record(object);
+        word(record, object_field::FLAG) == 1
+            && record[object_field::VERIFIER..object_field::FLAG] == *verifier
+    }
+
+    /// Lets a regular file keep a verifier.
+    pub fn keep(&mut self, file: Object, verifier: &[u8; 8]) {
+        self.record_mut(file)[object_field::VERIFIER..object_field::FLAG].copy_from_slice(verifier);
+        self.set_field(file, object_field::FLAG, 1);
+    }
+
+    /// Lets an object keep no verifier.
+    pub fn forget(&mut self, object: Object) {
+        self.record_mut(object)[object_field::VERIFIER..].fill(0);
+    }
+
     /// Sets the modification and change time of an object to the clock.
     pub fn touch(&mut self, object: Object) {
         let clock = self.clock;
@@ -233,7 +251,7 @@ impl<'a> Volume<'a> {
         self.set_field(object, object_field::TYPE, kind);
         self.set_time(object, object_field::ATIME, self.clock);
         self.touch(object);
-        self.record_mut(object)[object_field::BLOCKS..].fill(0xFF);
+        self.record_mut(object)[object_field::BLOCKS..object_field::VERIFIER].fill(0xFF);
         let bit = 1 << object.0;
         self.survey.available &= !bit;
         self.survey.parents[object.0] = directory.0 as u8;

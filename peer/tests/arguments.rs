@@ -3,7 +3,7 @@
 mod common;
 use common::*;
 use peer::generator::encode::{
-    encode, handle, malformed, Attributes, Header, How, Request, Time as SetTime,
+    encode, handle, malformed, Attributes, Header, Request, Time as SetTime,
 };
 
 /// One request of each served procedure, with every optional part there.
@@ -34,7 +34,7 @@ fn requests(file: &[u8]) -> Vec<Request> {
         write(&file, 1, b"data!"),
         create(&root(), b"new", attributes),
         unchecked(&root(), b"name", attributes),
-        exclusive(&root(), b"name"),
+        exclusive(&root(), b"name", [9; 8]),
         mkdir(&root(), b"d", attributes),
         remove(&root(), b"n"),
         rmdir(&root(), b"nn"),
@@ -169,7 +169,7 @@ fn failure_bodies_without_a_live_handle() {
                 data: vec![],
             },
             create(&bad, b"", attributes),
-            exclusive(&bad, b""),
+            exclusive(&bad, b"", [9; 8]),
             mkdir(&bad, b"", attributes),
             remove(&bad, b""),
             rmdir(&bad, b""),
@@ -231,7 +231,7 @@ fn failure_bodies_with_a_live_handle() {
     }
     for (request, wanted) in [
         (create(&file, b"", Attributes::mode(4096)), status::NOTDIR),
-        (exclusive(&file, b""), status::NOTDIR),
+        (exclusive(&file, b"", [9; 8]), status::NOTDIR),
         (mkdir(&file, b"", Attributes::mode(4096)), status::NOTDIR),
         (remove(&file, b""), status::NOTDIR),
         (rmdir(&file, b""), status::NOTDIR),
@@ -293,6 +293,7 @@ fn name_checks() {
             lookup(&root(), name),
             create(&root(), name, attributes),
             unchecked(&root(), name, attributes),
+            exclusive(&root(), name, [9; 8]),
             mkdir(&root(), name, attributes),
             remove(&root(), name),
             rmdir(&root(), name),
@@ -301,7 +302,6 @@ fn name_checks() {
         ] {
             assert_eq!(lane.status(&request), wanted, "{request:?}");
         }
-        assert_eq!(lane.status(&exclusive(&root(), name)), status::NOTSUPP);
     }
     // 32 bytes and any byte but 0 and 0x2F.
     let all: Vec<u8> = (1..=255).filter(|&byte| byte != b'/').collect();
@@ -332,14 +332,8 @@ fn stable_values_and_create_modes() {
         assert_eq!(got.hyper(), lane.verifier);
         got.end();
     }
-    let how = How::Exclusive([0xFF; 8]);
-    let request = Request::Create {
-        directory: root(),
-        name: b"..".to_vec(),
-        how,
-    };
-    let (answer, mut got) = lane.ask(&request);
-    assert_eq!(answer, status::NOTSUPP);
+    let (answer, mut got) = lane.ask(&exclusive(&root(), b"..", [0xFF; 8]));
+    assert_eq!(answer, status::EXIST);
     assert!(got.wcc().unchanged());
     got.end();
 }

@@ -37,7 +37,7 @@ fn refusals_in_their_order() {
 
 #[test]
 fn format_answers() {
-    let mut store = vec![0xA5; 20 + 80 + 44 + 512];
+    let mut store = vec![0xA5; 20 + RECORD + 44 + 512];
     let same = |store: &[u8]| store.iter().all(|&byte| byte == 0xA5);
     let cases = [
         (1, 1, 1, 1_000_000_000, 3),
@@ -81,8 +81,11 @@ fn format_answers() {
         at += 4;
     }
     wanted[at..at + 32].fill(0xFF);
-    wanted[at + 35] = 1;
-    wanted[at + 36 + 44 + 3] = 1;
+    // No verifier, then the counts of names and blocks.
+    let names_at = 12 + RECORD;
+    assert_eq!(at + 32 + 12, names_at);
+    wanted[names_at + 3] = 1;
+    wanted[names_at + 4 + 44 + 3] = 1;
     assert_eq!(store, wanted);
     // A second format keeps no old generation.
     store[12 + 4] = 9;

@@ -32,14 +32,14 @@ fn reply_lengths() {
 #[test]
 fn smallest_store() {
     let mut lane = Lane::new(1, 0, 0);
-    assert_eq!(lane.store.len(), 100);
+    assert_eq!(lane.store.len(), 112);
     let request = mkdir(&root(), b"d", Attributes::default());
     assert_eq!(lane.status(&request), status::NOSPC);
 }
 
 #[test]
 fn largest_store() {
-    assert_eq!(Lane::new(64, 128, 1024).store.len(), 535_060);
+    assert_eq!(Lane::new(64, 128, 1024).store.len(), 535_828);
 }
 
 #[test]

@@ -8,7 +8,7 @@ use peer::generator::encode::{Attributes, Request};
 use peer::generator::random::Random;
 
 /// A store with files of several sizes, directories in directories, holes
-/// among the records and a spent free record.
+/// among the records, a spent free record and a file that keeps a verifier.
 fn sample() -> Lane {
     let mut lane = Lane::new(12, 14, 40);
     let first = lane.mkdir(&root(), b"first");
@@ -21,6 +21,8 @@ fn sample() -> Lane {
     assert_eq!(lane.write(&file, 0, &[1; 1300]), 0);
     let other = lane.create(&second, b"other");
     assert_eq!(lane.write(&other, 4096, &[2; 4096]), 0);
+    let request = exclusive(&third, b"kept", *b"keep \0me");
+    assert_eq!(lane.status(&request), 0);
     assert_eq!(lane.status(&remove(&root(), b"gone")), 0);
     let spent = 11;
     lane.poke_object(spent, 4, u32::MAX);
@@ -44,14 +46,14 @@ fn with_object(object: usize, field: usize, value: u32) -> bool {
 
 fn with_place(object: usize, place: usize, value: u16) -> bool {
     let mut lane = sample();
-    let at = 12 + 80 * object + 48 + 2 * place;
+    let at = 12 + RECORD * object + 48 + 2 * place;
     lane.store[at..at + 2].copy_from_slice(&value.to_be_bytes());
     verdict(&lane.store)
 }
 
 fn with_name(record: usize, field: usize, bytes: &[u8]) -> bool {
     let mut lane = sample();
-    let at = 16 + 80 * lane.shape.objects + 44 * record + field;
+    let at = 16 + RECORD * lane.shape.objects + 44 * record + field;
     lane.store[at..at + bytes.len()].copy_from_slice(bytes);
     verdict(&lane.store)
 }
@@ -72,7 +74,12 @@ fn the_sample() {
 
 #[test]
 fn counts_and_length() {
-    for (at, good) in [(0, 1), (8, 12), (12 + 960, 14), (16 + 960 + 616, 40)] {
+    for (at, good) in [
+        (0, 1),
+        (8, 12),
+        (12 + 12 * RECORD, 14),
+        (16 + 12 * RECORD + 616, 40),
+    ] {
         let lane = sample();
         assert_eq!(words(&lane.store[at..at + 4]), [good]);
         for value in [
@@ -92,11 +99,11 @@ fn counts_and_length() {
     }
     // Counts just over their range in a buffer of the fitting length.
     for (objects, names, blocks) in [(65usize, 0usize, 0usize), (1, 129, 0), (1, 0, 1025)] {
-        let mut store = vec![0u8; 20 + 80 * objects + 44 * names + 512 * blocks];
+        let mut store = vec![0u8; 20 + RECORD * objects + 44 * names + 512 * blocks];
         let root = Lane::new(1, 0, 0).store;
-        store[..92].copy_from_slice(&root[..92]);
+        store[..12 + RECORD].copy_from_slice(&root[..12 + RECORD]);
         store[8..12].copy_from_slice(&(objects as u32).to_be_bytes());
-        let at = 12 + 80 * objects;
+        let at = 12 + RECORD * objects;
         store[at..at + 4].copy_from_slice(&(names as u32).to_be_bytes());
         let at = at + 4 + 44 * names;
         store[at..at + 4].copy_from_slice(&(blocks as u32).to_be_bytes());
@@ -118,13 +125,13 @@ fn types_and_root() {
 
 #[test]
 fn free_objects() {
-    assert!(with_object(9, 4, 17));
-    assert!(with_object(9, 4, u32::MAX));
-    for field in (8..80).step_by(4) {
-        assert!(!with_object(9, field, 1), "field {field}");
-        assert!(!with_object(9, field, 0x8000_0000), "field {field}");
+    assert!(with_object(10, 4, 17));
+    assert!(with_object(10, 4, u32::MAX));
+    for field in (8..RECORD).step_by(4) {
+        assert!(!with_object(10, field, 1), "field {field}");
+        assert!(!with_object(10, field, 0x8000_0000), "field {field}");
     }
-    assert!(!with_object(9, 48, u32::MAX));
+    assert!(!with_object(10, 48, u32::MAX));
 }
 
 #[test]
@@ -144,6 +151,54 @@ fn live_fields() {
     }
     assert!(!with_object(0, 20, 1));
     assert!(!with_object(1, 20, 512));
+}
+
+#[test]
+fn verifiers_and_flags() {
+    // Object 9 keeps a verifier, object 5 is a file that keeps none, 10 and 4
+    // are free, the others are directories.
+    for value in [0, 1, 0x8000_0000, u32::MAX] {
+        assert!(with_object(9, 80, value));
+        assert!(with_object(9, 84, value));
+    }
+    assert!(with_object(5, 88, 1), "a verifier of eight zeros");
+    for object in [0, 1, 3, 4, 10, 11] {
+        assert!(!with_object(object, 88, 1), "object {object}");
+    }
+    for object in [0, 1, 4, 5, 9, 10] {
+        for flag in [2, 3, 255, 256, 0x0100_0000, 0x8000_0001, u32::MAX] {
+            assert!(!with_object(object, 88, flag), "object {object}");
+        }
+    }
+    // A verifier without its flag, in any of its bytes.
+    assert!(!with_object(9, 88, 0));
+    for object in [0, 1, 4, 5, 10] {
+        for at in 80..88 {
+            let mut lane = sample();
+            lane.store[12 + RECORD * object + at] = 0x10;
+            assert!(!verdict(&lane.store), "object {object}, byte {at}");
+        }
+    }
+    // Both on a directory and on free records.
+    for object in [0, 1, 4, 10] {
+        let mut lane = sample();
+        let kept = lane.record(9)[80..].to_vec();
+        let at = 12 + RECORD * object + 80;
+        lane.store[at..at + 12].copy_from_slice(&kept);
+        assert!(!verdict(&lane.store), "object {object}");
+    }
+    // The file that keeps one made a directory, and without it.
+    assert!(!with_object(9, 0, 2));
+    let mut lane = sample();
+    lane.poke_object(9, 0, 2);
+    lane.store[12 + RECORD * 9 + 80..12 + RECORD * 10].fill(0);
+    assert!(verdict(&lane.store));
+    // Two files may keep the same verifier.
+    let mut lane = sample();
+    let kept = lane.record(9)[80..].to_vec();
+    let at = 12 + RECORD * 5 + 80;
+    lane.store[at..at + 12].copy_from_slice(&kept);
+    assert!(verdict(&lane.store));
 }
 
 #[test]
@@ -180,7 +235,7 @@ fn sizes_and_blocks() {
     assert!(!with_place(0, 15, 0));
     // Block numbers may stand in any order.
     let mut lane = sample();
-    let at = 12 + 80 * 5 + 48;
+    let at = 12 + RECORD * 5 + 48;
     lane.store[at..at + 6].copy_from_slice(&[0, 2, 0, 0, 0, 1]);
     assert!(verdict(&lane.store));
     // A file without blocks in a store without blocks, then with one.
@@ -189,7 +244,7 @@ fn sizes_and_blocks() {
     assert!(verdict(&lane.store));
     lane.poke_object(1, 20, 1);
     assert!(!verdict(&lane.store));
-    let at = 12 + 80 + 48;
+    let at = 12 + RECORD + 48;
     lane.store[at..at + 2].fill(0);
     assert!(!verdict(&lane.store));
     // Block contents are not checked.
@@ -261,7 +316,7 @@ fn names_join_live_objects() {
     }
     // Two names for one object: record 3 is free.
     let mut lane = sample();
-    let at = 16 + 80 * 12 + 44 * 3;
+    let at = 16 + RECORD * 12 + 44 * 3;
     lane.store[at..at + 13].copy_from_slice(&[0, 0, 0, 0, 0, 0, 0, 6, 0, 0, 0, 1, b'q']);
     assert!(!verdict(&lane.store));
     // A name for the root.
@@ -269,7 +324,7 @@ fn names_join_live_objects() {
     assert!(!verdict(&lane.store));
     // An object without a name.
     let mut lane = sample();
-    let at = 16 + 80 * 12;
+    let at = 16 + RECORD * 12;
     lane.store[at..at + 44].fill(0);
     assert!(!verdict(&lane.store));
 }
@@ -286,7 +341,7 @@ fn parents_lead_to_the_root() {
         at = lane.mkdir(&at, b"d");
     }
     assert!(verdict(&lane.store));
-    let first = 16 + 80 * 64;
+    let first = 16 + RECORD * 64;
     for target in [1u8, 17, 63] {
         let mut store = lane.store.clone();
         store[first + 3] = target;
@@ -307,7 +362,7 @@ fn full_stores() {
     assert_eq!(lane.space(), (16 * 512, 0));
     let mut twice = lane.store.clone();
     // The last block number of the last file is that of the first file.
-    twice[12 + 80 * 63 + 78..12 + 80 * 63 + 80].fill(0);
+    twice[12 + RECORD * 63 + 78..12 + RECORD * 63 + 80].fill(0);
     assert!(!verdict(&twice));
     let request = create(&root(), b"more", Attributes::default());
     assert_eq!(lane.status(&request), status::NOSPC);
@@ -344,9 +399,9 @@ fn records_copied_over_others() {
         let mut store = lane.store.clone();
         for _ in 0..random.between(1, 3) {
             let (start, bytes, count) = if random.once_in(2) {
-                (12, 80, 12)
+                (12, RECORD, 12)
             } else {
-                (16 + 960, 44, 14)
+                (16 + 12 * RECORD, 44, 14)
             };
             let from = start + bytes * random.below(count);
             let to = start + bytes * random.below(count);
@@ -372,12 +427,12 @@ fn random_bytes() {
         assert!(!verdict(&store));
         // The same with sound counts.
         let (objects, names) = (random.between(1, 8), random.between(0, 8));
-        store = random.bytes(20 + 80 * objects + 44 * names);
+        store = random.bytes(20 + RECORD * objects + 44 * names);
         for (at, count) in [
             (0, 1),
             (8, objects),
-            (12 + 80 * objects, names),
-            (16 + 80 * objects + 44 * names, 0),
+            (12 + RECORD * objects, names),
+            (16 + RECORD * objects + 44 * names, 0),
         ] {
             store[at..at + 4].copy_from_slice(&(count as u32).to_be_bytes());
         }

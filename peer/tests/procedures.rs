@@ -792,9 +792,9 @@ fn remove_and_rmdir() {
     let start = lane.block_at(0);
     assert_eq!(lane.status(&remove(&root(), b"f")), status::OK);
     assert_eq!(lane.status(&getattr(&file)), status::STALE);
-    let mut record = vec![0u8; 80];
+    let mut record = vec![0u8; RECORD];
     record[7] = 1;
-    assert_eq!(lane.store[12 + 80..12 + 160], record);
+    assert_eq!(lane.record(1), record);
     assert_eq!(lane.name(0), (0, 0, 0, vec![0; 32]));
     assert!(lane.store[start..].iter().all(|&byte| byte == 0));
     assert_eq!(lane.attr(&root()).mtime, lane.clock());

@@ -1,7 +1,8 @@
 //! Random runs on the peer alone: what holds for every call, whatever it is.
 
 mod common;
-use common::plain::plain_check;
+use common::plain::{plain_check, plain_old_check};
+use common::store_of;
 use peer::generator::driver::{Call, Driver, Format, Outcome, Peer};
 use peer::generator::lane::status_of;
 use peer::generator::random_runs::{self, Extent};
@@ -15,6 +16,8 @@ struct Tester {
     calls: usize,
     changed: usize,
     damaged: usize,
+    /// Conversions answered 0, 1 and 6.
+    converted: [usize; 3],
 }
 
 impl Driver for Tester {
@@ -82,6 +85,25 @@ impl Driver for Tester {
         outcome
     }
 
+    fn convert(&mut self, old: &[u8]) -> Answer {
+        let before = self.peer.store.clone();
+        let answer = self.peer.convert(old);
+        let (number, wanted) = if !plain_old_check(old) {
+            (1, before)
+        } else {
+            let store = store_of(old);
+            if store.len() == before.len() {
+                (0, store)
+            } else {
+                (6, before)
+            }
+        };
+        assert_eq!(answer, Answer { number, length: 0 });
+        assert!(self.peer.store == wanted);
+        self.converted[number.min(2) as usize] += 1;
+        answer
+    }
+
     fn store(&self) -> &[u8] {
         &self.peer.store
     }
@@ -96,6 +118,7 @@ fn scripted_runs() {
     };
     scripts::all(&mut runs);
     assert!(tester.calls > 3000 && tester.changed > 300 && tester.damaged > 200);
+    assert!(tester.converted[0] > 200 && tester.converted[1] > 500 && tester.converted[2] > 6);
 }
 
 #[test]
@@ -113,4 +136,5 @@ fn random_runs() {
     }
     random_runs::run(&mut tester, 0, 95, Extent::Largest, 40, 5000);
     assert!(tester.calls > 10_000 && tester.changed > 1500 && tester.damaged > 200);
+    assert!(tester.converted[0] > 100 && tester.converted[1] > 50);
 }

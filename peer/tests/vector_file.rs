@@ -19,7 +19,7 @@ fn digest_of_known_bytes() {
 #[test]
 fn reach_and_replay() {
     let recording = record();
-    assert!(recording.vectors.len() <= 3_500_000);
+    assert!(recording.vectors.len() <= 4_000_000);
     assert!(recording.digested <= 300_000_000);
     assert_eq!(recording.coverage.missing(), Vec::<String>::new());
     assert_eq!(recording.coverage.unexpected(), Vec::<String>::new());
@@ -56,13 +56,19 @@ fn replay_finds_altered_files() {
     let length = row_at(&file, middle, 64, None);
     let call = row_at(&file, middle, 226, Some(0));
     let refused = row_at(&file, 0, 226, Some(5));
-    // A byte of a reply, an answer's length and number, and both halves of a
-    // digest.
+    let converted = row_at(&file, 0, 227, Some(0));
+    let not_converted = row_at(&file, 0, 227, Some(1));
+    let old = row_at(&file, 0, 131, None);
+    // A byte of a reply, an answer's length and number, a byte of an old image,
+    // and both halves of a digest.
     for at in [
         reply + 5 + 24,
         length + 4,
         call + 4,
         refused + 4,
+        converted + 4,
+        not_converted + 4,
+        old + 5 + 3,
         row_at(&file, middle, 65, None) + 1,
         row_at(&file, middle, 66, None) + 4,
     ] {
@@ -72,15 +78,16 @@ fn replay_finds_altered_files() {
     // lent than there is; bytes outside of what is lent; a wrong count of runs.
     let number = row_at(&file, middle, 4, None);
     for (at, with) in [
-        (number, 4 ^ 12),
+        (number, 4 ^ 13),
         (length, 64 ^ 67),
-        (reply, 130 ^ 131),
+        (reply, 130 ^ 132),
         (number, 4 ^ 194),
-        (call, 226 ^ 227),
+        (call, 226 ^ 228),
         (row_at(&file, middle, 192, None) + 4, 1),
         (row_at(&file, middle, 0, None) + 1, 1),
         (row_at(&file, middle, 1, None) + 2, 1),
         (row_at(&file, middle, 3, None) + 1, 1),
+        (row_at(&file, middle, 12, None) + 1, 1),
         (file.len() - 1, 1),
     ] {
         assert_eq!(altered(at, with), None, "row at {at}");
@@ -115,9 +122,10 @@ const SPOILS: [Spoil; 5] = [
     },
 ];
 
-/// Answers as the peer does, but for the spoiled calls.
+/// Answers as the peer does, but for the spoiled calls and one conversion.
 struct Spoiled {
     calls: usize,
+    conversions: usize,
 }
 
 impl Subject for Spoiled {
@@ -139,12 +147,24 @@ impl Subject for Spoiled {
         }
         answer
     }
+
+    fn convert(&mut self, old: &[u8], store: &mut [u8]) -> Answer {
+        let answer = Own.convert(old, store);
+        self.conversions += 1;
+        if self.conversions == 10 {
+            store[0] ^= 1;
+        }
+        answer
+    }
 }
 
 #[test]
 fn replay_finds_spoiled_calls() {
-    let mut subject = Spoiled { calls: 0 };
+    let mut subject = Spoiled {
+        calls: 0,
+        conversions: 0,
+    };
     let (text, differences) = replay(&record().vectors, &mut subject).unwrap();
-    assert!(differences >= 5);
+    assert!(differences >= 6);
     assert!(text.ends_with(&format!("{differences} differences\n")));
 }

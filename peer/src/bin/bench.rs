@@ -4,8 +4,8 @@
 //!
 //! Both work on warm buffers of their own, in turns; the best of several
 //! repetitions counts. The last line is the largest ratio of the first table.
-//! The second table has the check of full stores whose names could be hard on
-//! a hash table, and a deep tree.
+//! Then come the converter, the check of full stores whose names could be hard
+//! on a hash table, and a deep tree.
 
 #[cfg(nfs3_library)]
 #[path = "shared/library.rs"]
@@ -34,10 +34,13 @@ mod measuring {
     use peer::generator::driver::{Call, Format};
     use peer::generator::encode::{handle, Attributes, Request};
     use peer::generator::lane::*;
+    use peer::generator::old_images::old_image;
     use peer::layout::Shape;
     use peer::Answer;
 
     const STAMP: u32 = 7;
+    /// The verifier of an EXCLUSIVE CREATE.
+    const VERIFIER: [u8; 8] = *b"verifier";
     const REPETITIONS: usize = 60;
     /// Each repetition takes about this long.
     const SLICE: Duration = Duration::from_micros(400);
@@ -160,6 +163,22 @@ mod measuring {
         own.try_round(calls);
         other.try_round(calls);
         best_of_both(|| own.round(calls), || other.round(calls))
+    }
+
+    /// The times of both to convert the old image of a store.
+    fn convert_times(shape: Shape, store: &[u8]) -> (f64, f64) {
+        let old = old_image(shape, store);
+        let (mut own, mut other) = (store.to_vec(), store.to_vec());
+        assert_eq!(peer::convert(&old, &mut own).number, 0);
+        assert_eq!(library::convert(&old, &mut other).number, 0);
+        best_of_both(
+            || {
+                black_box(peer::convert(black_box(&old), black_box(&mut own)));
+            },
+            || {
+                black_box(library::convert(black_box(&old), black_box(&mut other)));
+            },
+        )
     }
 
     fn formatted(shape: Shape) -> Vec<u8> {
@@ -376,28 +395,53 @@ mod measuring {
         (store, inner)
     }
 
-    /// The measured operations: a name, and the calls of one turn.
-    fn operations(full: bool) -> Vec<(&'static str, Vec<Vec<u8>>)> {
+    /// A measured operation.
+    struct Operation {
+        name: &'static str,
+        /// What is done to the store before.
+        setup: Vec<Request>,
+        /// The calls of one turn.
+        calls: Vec<Vec<u8>>,
+    }
+
+    impl Operation {
+        fn new(name: &'static str, requests: &[Request]) -> Operation {
+            Operation {
+                name,
+                setup: Vec::new(),
+                calls: requests.iter().map(|request| request.call(77)).collect(),
+            }
+        }
+
+        /// The times of both on a copy of the store.
+        fn times(&self, store: &[u8]) -> (f64, f64) {
+            let mut store = store.to_vec();
+            for request in &self.setup {
+                apply(&mut store, request);
+            }
+            call_times(&store, &self.calls)
+        }
+    }
+
+    fn operations(full: bool) -> Vec<Operation> {
         let root = handle(STAMP, 0, 0);
         let file = handle(STAMP, 1, 0);
         let last = if full { 62 } else { 0 };
         let name = file_name(last);
         let data: Vec<u8> = (0..512u32).map(|at| at as u8).collect();
-        let encode = |requests: &[Request]| -> Vec<Vec<u8>> {
-            requests.iter().map(|request| request.call(77)).collect()
-        };
         // On the full store every object is live, so a file is removed first.
-        let pair = if full {
-            vec![
-                remove(&root, &name),
-                guarded(&root, &name, Attributes::size(8192)),
-            ]
+        let (pair, kept) = if full {
+            let made = guarded(&root, &name, Attributes::size(8192));
+            let kept = exclusive(&root, &name, VERIFIER);
+            ([remove(&root, &name), made], [remove(&root, &name), kept])
         } else {
-            vec![
-                guarded(&root, b"another", Attributes::default()),
-                remove(&root, b"another"),
-            ]
+            let made = guarded(&root, b"another", Attributes::default());
+            let kept = exclusive(&root, b"another", VERIFIER);
+            let removed = remove(&root, b"another");
+            ([made, removed.clone()], [kept, removed])
         };
+        let again = if full { &kept[1] } else { &kept[0] };
+        let setup = if full { &kept[..] } else { &kept[..1] };
         let mix = vec![
             getattr(&file),
             lookup(&root, &file_name(0)),
@@ -413,13 +457,18 @@ mod measuring {
             read(&file, 0, 4096),
         ];
         vec![
-            ("GETATTR", encode(&[getattr(&file)])),
-            ("LOOKUP", encode(&[lookup(&root, &name)])),
-            ("READ 4,096", encode(&[read(&file, 0, 4096)])),
-            ("WRITE 512", encode(&[write(&file, 0, &data)])),
-            ("CREATE+REMOVE", encode(&pair)),
-            ("READDIR", encode(&[readdir(&root, 0, 0, 4096)])),
-            ("mix of 12 calls", encode(&mix)),
+            Operation::new("GETATTR", &[getattr(&file)]),
+            Operation::new("LOOKUP", &[lookup(&root, &name)]),
+            Operation::new("READ 4,096", &[read(&file, 0, 4096)]),
+            Operation::new("WRITE 512", &[write(&file, 0, &data)]),
+            Operation::new("CREATE+REMOVE", &pair),
+            Operation::new("EXCLUSIVE+REMOVE", &kept),
+            Operation {
+                setup: setup.to_vec(),
+                ..Operation::new("EXCLUSIVE again", std::slice::from_ref(again))
+            },
+            Operation::new("READDIR", &[readdir(&root, 0, 0, 4096)]),
+            Operation::new("mix of 12 calls", &mix),
         ]
     }
 
@@ -451,25 +500,31 @@ mod measuring {
             blocks: 1024,
         };
         let stores = [
-            ("small", with_files(small, 1, 4096), false),
-            ("full", with_files(full, 63, 8192), true),
+            ("small", small, with_files(small, 1, 4096)),
+            ("full", full, with_files(full, 63, 8192)),
         ];
         let mut largest = 0f64;
         println!("Nanoseconds for one turn, the best of {REPETITIONS}; ratio is library / peer.");
         println!("store  operation              peer      library    ratio");
-        for (label, store, is_full) in &stores {
+        for (label, shape, store) in &stores {
             let (peer, other) = check_times(store);
             largest = largest.max(line(label, "check", peer, other));
-            for (operation, calls) in operations(*is_full) {
-                let (peer, other) = call_times(store, &calls);
-                largest = largest.max(line(label, operation, peer, other));
+            for operation in operations(*shape == full) {
+                let (peer, other) = operation.times(store);
+                largest = largest.max(line(label, operation.name, peer, other));
             }
+        }
+        println!();
+        println!("The converter, which runs once in the life of a store:");
+        for (label, shape, store) in &stores {
+            let (peer, other) = convert_times(*shape, store);
+            line(label, "convert", peer, other);
         }
         println!();
         println!("The check of full stores by their 63 names; factor is to the full store above,");
         println!("measured in turns with it.");
         println!("names                               peer  library    ratio  factor of peer  of library");
-        let plain = &stores[1].1;
+        let plain = &stores[1].2;
         for (label, names) in families() {
             let store = with_names(full, &names, 8192);
             let (peer, other) = check_times(&store);

@@ -1,11 +1,13 @@
 //! Compares the static library `libnfs3.a` with the peer, call by call.
 //!
 //! Usage: compare [--calls N] [--seed S] [--run R] [--show]
+//!        compare --old-images N [--seed S]
 //!        compare --replay FILE
 //!
 //! The scripted runs come first, then random runs until N calls are made.
 //! `--run R` makes only that random run; `--show` prints each step before it
-//! is made. `--replay` replays a vector file on the library.
+//! is made. `--old-images` converts N old images, whole and damaged.
+//! `--replay` replays a vector file on the library.
 
 #[cfg(nfs3_library)]
 #[path = "shared/library.rs"]
@@ -27,6 +29,7 @@ fn main() -> std::process::ExitCode {
 
 #[cfg(nfs3_library)]
 mod comparison {
+    use std::collections::BTreeMap;
     use std::fmt::Write as _;
     use std::process::{exit, ExitCode};
     use std::time::Instant;
@@ -34,8 +37,10 @@ mod comparison {
     use super::library;
     use peer::generator::coverage::Coverage;
     use peer::generator::driver::{Call, Driver, Format, Outcome, Peer, FRESH, SPARE};
+    use peer::generator::old_images::Pool;
     use peer::generator::random::Random;
     use peer::generator::random_runs::{self, Extent};
+    use peer::generator::rules;
     use peer::generator::scripts::{self, Runs};
     use peer::generator::vector_file::{replay, Subject};
     use peer::Answer;
@@ -64,6 +69,17 @@ mod comparison {
             self.bytes.resize(self.start + length + FENCE, FENCE_BYTE);
         }
 
+        /// Holds a copy of these bytes.
+        fn hold(&mut self, bytes: &[u8], shift: usize) {
+            self.reset(bytes.len(), shift, 0);
+            self.inside_mut().copy_from_slice(bytes);
+        }
+
+        /// Whether it still holds these bytes and nothing around them changed.
+        fn holds(&self, bytes: &[u8]) -> bool {
+            self.inside() == bytes && self.fences_stand()
+        }
+
         fn inside(&self) -> &[u8] {
             &self.bytes[self.start..self.start + self.length]
         }
@@ -85,6 +101,7 @@ mod comparison {
         Patch(usize, &'a [u8]),
         Check,
         Call(Call<'a>),
+        Convert(&'a [u8]),
     }
 
     struct Comparer {
@@ -100,6 +117,7 @@ mod comparison {
         peer: Peer,
         store: Fenced,
         reply: Fenced,
+        old: Fenced,
         peer_reply: Vec<u8>,
         before: Vec<u8>,
         coverage: Coverage,
@@ -142,6 +160,7 @@ mod comparison {
                 peer: Peer::default(),
                 store: Fenced::default(),
                 reply: Fenced::default(),
+                old: Fenced::default(),
                 peer_reply: Vec::new(),
                 before: Vec::new(),
                 coverage: Coverage::default(),
@@ -163,6 +182,9 @@ mod comparison {
                     let _ = writeln!(text, "patch at {offset}: {}", hex(bytes));
                 }
                 Step::Check => text.push_str("check\n"),
+                Step::Convert(old) => {
+                    let _ = writeln!(text, "convert {} bytes: {}", old.len(), hex(old));
+                }
                 Step::Call(call) => {
                     let _ = writeln!(
                         text,
@@ -215,6 +237,9 @@ mod comparison {
                 if !self.reply.fences_stand() {
                     differences.push_str("the library wrote outside the reply space\n");
                 }
+            }
+            if matches!(step, Step::Convert(old) if !self.old.holds(old)) {
+                differences.push_str("the library wrote in or beside the old image\n");
             }
             let (own, other) = (&self.peer.store[..], self.store.inside());
             if let Some(at) = first_difference(own, other) {
@@ -334,8 +359,142 @@ mod comparison {
             outcome
         }
 
+        fn convert(&mut self, old: &[u8]) -> Answer {
+            let step = Step::Convert(old);
+            self.begin(&step);
+            let own = self.peer.convert(old);
+            self.old.hold(old, self.step as usize % 8);
+            let other = library::convert(self.old.inside(), self.store.inside_mut());
+            self.finish(&step, own, other);
+            self.coverage.convert(own.number);
+            own
+        }
+
         fn store(&self) -> &[u8] {
             &self.peer.store
+        }
+
+        /// Of the labels only the rules are counted.
+        fn note(&mut self, group: &'static str, label: &str) {
+            if group == rules::GROUP {
+                self.coverage.note(group, label);
+            }
+        }
+    }
+
+    /// Old images under comparison, and how both have answered so far.
+    struct OldImages {
+        seed: u64,
+        pool: Pool,
+        image: Vec<u8>,
+        target: Vec<u8>,
+        library_image: Fenced,
+        library_target: Fenced,
+        /// By kind of image: answered 0, 1 and 6.
+        answers: BTreeMap<&'static str, [u64; 3]>,
+        differences: u64,
+    }
+
+    /// The answers of the converter, in the order of their columns.
+    const ANSWERS: [u32; 3] = [0, 1, 6];
+
+    impl OldImages {
+        fn new(seed: u64) -> OldImages {
+            OldImages {
+                seed,
+                pool: Pool::new(seed),
+                image: Vec::new(),
+                target: Vec::new(),
+                library_image: Fenced::default(),
+                library_target: Fenced::default(),
+                answers: BTreeMap::new(),
+                differences: 0,
+            }
+        }
+
+        /// Makes the image of this number and converts it on both sides.
+        fn compare(&mut self, number: u64) {
+            let mut random = Random::part(self.seed, number);
+            let made = self.pool.make(&mut random, &mut self.image);
+            self.target.clear();
+            self.target.resize(made.target, FRESH);
+            let own = peer::convert(&self.image, &mut self.target);
+            self.library_image.hold(&self.image, random.below(8));
+            self.library_target
+                .reset(made.target, random.below(8), FRESH);
+            let other = library::convert(
+                self.library_image.inside(),
+                self.library_target.inside_mut(),
+            );
+            let counts = self.answers.entry(made.kind).or_default();
+            if let Some(column) = ANSWERS.iter().position(|&answer| answer == own.number) {
+                counts[column] += 1;
+            }
+            let agree = own == other
+                && self.library_target.holds(&self.target)
+                && self.library_image.holds(&self.image);
+            if !agree {
+                self.differ(number, made.kind, own, other);
+            }
+        }
+
+        /// Counts a difference; shows the first ten and keeps their images in
+        /// files.
+        fn differ(&mut self, number: u64, kind: &str, own: Answer, other: Answer) {
+            self.differences += 1;
+            if self.differences > 10 {
+                return;
+            }
+            eprintln!(
+                "DIFFERENCE in image {number} ({kind}), {} bytes for a target of {}: \
+                 peer {own:?}, library {other:?}, first differing byte of the target {:?}",
+                self.image.len(),
+                self.target.len(),
+                first_difference(&self.target, self.library_target.inside()),
+            );
+            if !self.library_target.fences_stand() {
+                eprintln!("the library wrote outside the target");
+            }
+            if !self.library_image.holds(&self.image) {
+                eprintln!("the library wrote in or beside the old image");
+            }
+            let name = format!("nfs3-compare-{}-{number}.old-image", self.seed);
+            let file = std::env::temp_dir().join(name);
+            match std::fs::write(&file, &self.image) {
+                Ok(()) => eprintln!("the image is in {}", file.display()),
+                Err(error) => eprintln!("the image could not be written: {error}"),
+            }
+        }
+    }
+
+    /// Compares the conversions of so many old images.
+    fn compare_old_images(count: u64, seed: u64) -> ExitCode {
+        let started = Instant::now();
+        let mut images = OldImages::new(seed);
+        for number in 0..count {
+            images.compare(number);
+        }
+        println!("| old image | answered 0 | 1 | 6 |\n|---|---:|---:|---:|");
+        let mut total = [0; 3];
+        for (kind, counts) in &images.answers {
+            println!("| {kind} | {} | {} | {} |", counts[0], counts[1], counts[2]);
+            for (sum, count) in total.iter_mut().zip(counts) {
+                *sum += count;
+            }
+        }
+        println!(
+            "seed {seed}: {count} old images, {} answered 0, {} answered 1, {} answered 6, \
+             {} differences, {:.1} s",
+            total[0],
+            total[1],
+            total[2],
+            images.differences,
+            started.elapsed().as_secs_f64()
+        );
+        if images.differences == 0 {
+            ExitCode::SUCCESS
+        } else {
+            ExitCode::FAILURE
         }
     }
 
@@ -366,6 +525,10 @@ mod comparison {
 
         fn call(&mut self, store: &mut [u8], call: &Call<'_>, reply: &mut [u8]) -> Answer {
             library::call(call, store, reply)
+        }
+
+        fn convert(&mut self, old: &[u8], store: &mut [u8]) -> Answer {
+            library::convert(old, store)
         }
     }
 
@@ -398,6 +561,7 @@ mod comparison {
         seed: u64,
         run: Option<u32>,
         show: bool,
+        old_images: Option<u64>,
         replay: Option<String>,
     }
 
@@ -407,6 +571,7 @@ mod comparison {
             seed: 1,
             run: None,
             show: false,
+            old_images: None,
             replay: None,
         };
         let mut arguments = std::env::args().skip(1);
@@ -416,6 +581,7 @@ mod comparison {
                 "--seed" => options.seed = arguments.next()?.parse().ok()?,
                 "--run" => options.run = Some(arguments.next()?.parse().ok()?),
                 "--show" => options.show = true,
+                "--old-images" => options.old_images = Some(arguments.next()?.parse().ok()?),
                 "--replay" => options.replay = Some(arguments.next()?),
                 _ => return None,
             }
@@ -426,12 +592,16 @@ mod comparison {
     pub fn main() -> ExitCode {
         let Some(options) = options() else {
             eprintln!(
-                "usage: compare [--calls N] [--seed S] [--run R] [--show] | compare --replay FILE"
+                "usage: compare [--calls N] [--seed S] [--run R] [--show] | \
+                 compare --old-images N [--seed S] | compare --replay FILE"
             );
             return ExitCode::from(2);
         };
         if let Some(name) = &options.replay {
             return replay_file(name);
+        }
+        if let Some(count) = options.old_images {
+            return compare_old_images(count, options.seed);
         }
         let mut comparer = Comparer::new(options.seed, options.show, options.calls);
         if let Some(run) = options.run {

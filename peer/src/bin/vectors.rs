@@ -9,7 +9,7 @@ use std::process::ExitCode;
 
 use peer::generator::recorder::record;
 
-const LARGEST_FILE: usize = 3_500_000;
+const LARGEST_FILE: usize = 4_000_000;
 const LARGEST_DIGESTED: u64 = 300_000_000;
 
 fn write_all(folder: &Path) -> std::io::Result<bool> {
@@ -34,7 +34,7 @@ fn write_all(folder: &Path) -> std::io::Result<bool> {
         sound = false;
     }
     for unexpected in recording.coverage.unexpected() {
-        eprintln!("not in document 01: {unexpected}");
+        eprintln!("not in the papers: {unexpected}");
         sound = false;
     }
     if recording.vectors.len() > LARGEST_FILE || recording.digested > LARGEST_DIGESTED {

@@ -5,7 +5,11 @@ use std::fmt::Write;
 
 use super::driver::Outcome;
 use super::lane::status_of;
+use super::rules;
+use crate::arguments::{How, Place};
 use crate::numbers::{message, procedure, Status};
+use crate::rpc::{read_header, Header};
+use crate::xdr::Reader;
 
 pub const PROCEDURE_NAMES: [&str; 22] = [
     "NULL",
@@ -58,10 +62,31 @@ pub fn status_name(status: u32) -> &'static str {
         .map_or("unknown", |(_, name)| name)
 }
 
-/// Every status that document 01 gives for each procedure.
+const HANDLE: [Status; 3] = [Status::OK, Status::BADHANDLE, Status::STALE];
+const NAME: [Status; 3] = [Status::NOTDIR, Status::ACCES, Status::NAMETOOLONG];
+
+/// Every status that the papers give for an EXCLUSIVE CREATE.
+fn expected_of_exclusive() -> impl Iterator<Item = Status> {
+    let own = [Status::EXIST, Status::NOSPC];
+    HANDLE.into_iter().chain(NAME).chain(own)
+}
+
+/// Whether a call that was answered is an EXCLUSIVE CREATE.
+fn is_exclusive(call: &[u8]) -> bool {
+    let Some(Header::Complete {
+        procedure: procedure::CREATE,
+        arguments,
+        ..
+    }) = read_header(call)
+    else {
+        return false;
+    };
+    let mut reader = Reader::new(arguments);
+    Place::read(&mut reader).is_some() && matches!(How::read(&mut reader), Some(How::Exclusive(_)))
+}
+
+/// Every status that the papers give for each procedure.
 pub fn expected_pairs() -> Vec<(u32, Status)> {
-    const HANDLE: [Status; 3] = [Status::OK, Status::BADHANDLE, Status::STALE];
-    const NAME: [Status; 3] = [Status::NOTDIR, Status::ACCES, Status::NAMETOOLONG];
     let mut pairs = Vec::new();
     let mut add = |number: u32, lists: &[&[Status]]| {
         for list in lists {
@@ -85,7 +110,7 @@ pub fn expected_pairs() -> Vec<(u32, Status)> {
         &[
             &HANDLE,
             &NAME,
-            &[Status::NOTSUPP, Status::EXIST, Status::INVAL, Status::NOSPC],
+            &[Status::EXIST, Status::INVAL, Status::NOSPC],
         ],
     );
     add(
@@ -150,12 +175,15 @@ const OUTCOMES: [&str; 6] = [
 #[derive(Default)]
 pub struct Coverage {
     pub pairs: BTreeMap<(u32, u32), u64>,
+    /// Those of EXCLUSIVE CREATE, by status.
+    exclusive: BTreeMap<u32, u64>,
     pub null: u64,
     pub garbage: BTreeMap<u32, u64>,
     outcomes: BTreeMap<usize, u64>,
     calls: [u64; 7],
     formats: [u64; 7],
     checks: [u64; 7],
+    conversions: [u64; 7],
     notes: BTreeMap<&'static str, BTreeMap<String, u64>>,
 }
 
@@ -166,6 +194,10 @@ impl Coverage {
 
     pub fn check(&mut self, number: u32) {
         self.checks[number as usize] += 1;
+    }
+
+    pub fn convert(&mut self, number: u32) {
+        self.conversions[number as usize] += 1;
     }
 
     pub fn note(&mut self, group: &'static str, label: &str) {
@@ -207,7 +239,12 @@ impl Coverage {
             *self.garbage.entry(number).or_default() += 1;
         } else if place == 5 {
             match status_of(&outcome.reply) {
-                Some(status) => *self.pairs.entry((number, status)).or_default() += 1,
+                Some(status) => {
+                    *self.pairs.entry((number, status)).or_default() += 1;
+                    if is_exclusive(call) {
+                        *self.exclusive.entry(status).or_default() += 1;
+                    }
+                }
                 None => self.null += 1,
             }
         }
@@ -223,6 +260,17 @@ impl Coverage {
                     PROCEDURE_NAMES[number as usize],
                     status_name(status.0)
                 ));
+            }
+        }
+        for status in expected_of_exclusive() {
+            if !self.exclusive.contains_key(&status.0) {
+                missing.push(format!("EXCLUSIVE {}", status_name(status.0)));
+            }
+        }
+        for &rule in rules::ALL {
+            let noted = self.notes.get(rules::GROUP);
+            if !noted.is_some_and(|labels| labels.contains_key(rule)) {
+                missing.push(format!("rule: {rule}"));
             }
         }
         for (number, name) in PROCEDURE_NAMES.iter().enumerate() {
@@ -254,17 +302,28 @@ impl Coverage {
                 missing.push(format!("check answer {number}"));
             }
         }
+        for number in [0, 1, 6] {
+            if self.conversions[number] == 0 {
+                missing.push(format!("convert answer {number}"));
+            }
+        }
         missing
     }
 
-    /// Statuses that document 01 does not give for their procedure.
+    /// Statuses that the papers do not give for their procedure.
     pub fn unexpected(&self) -> Vec<String> {
         let expected = expected_pairs();
-        self.pairs
+        let pairs = self
+            .pairs
             .keys()
             .filter(|(number, status)| !expected.contains(&(*number, Status(*status))))
-            .map(|&(number, status)| format!("{} {status}", PROCEDURE_NAMES[number as usize]))
-            .collect()
+            .map(|&(number, status)| format!("{} {status}", PROCEDURE_NAMES[number as usize]));
+        let exclusive = self
+            .exclusive
+            .keys()
+            .filter(|&&status| expected_of_exclusive().all(|known| known.0 != status))
+            .map(|status| format!("EXCLUSIVE {status}"));
+        pairs.chain(exclusive).collect()
     }
 
     /// The tables as text.
@@ -283,6 +342,12 @@ impl Coverage {
             let status = status_name(status);
             line(format!("| {procedure} | {status} | {count} |"));
         }
+        line("\n## EXCLUSIVE CREATE by status\n".to_owned());
+        line("| status | calls |".to_owned());
+        line("|---|---:|".to_owned());
+        for (&status, count) in &self.exclusive {
+            line(format!("| {} | {count} |", status_name(status)));
+        }
         line("\n## GARBAGE_ARGS by procedure\n".to_owned());
         line("| procedure | calls |".to_owned());
         line("|---|---:|".to_owned());
@@ -297,12 +362,15 @@ impl Coverage {
             line(format!("| {} | {count} |", OUTCOMES[place]));
         }
         line("\n## By answer number of each entry\n".to_owned());
-        line("| answer | calls | formats | checks |".to_owned());
-        line("|---:|---:|---:|---:|".to_owned());
+        line("| answer | calls | formats | checks | conversions |".to_owned());
+        line("|---:|---:|---:|---:|---:|".to_owned());
         for number in 0..7 {
             line(format!(
-                "| {number} | {} | {} | {} |",
-                self.calls[number], self.formats[number], self.checks[number]
+                "| {number} | {} | {} | {} | {} |",
+                self.calls[number],
+                self.formats[number],
+                self.checks[number],
+                self.conversions[number]
             ));
         }
         for (group, labels) in &self.notes {

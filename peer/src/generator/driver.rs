@@ -47,6 +47,8 @@ pub trait Driver {
     fn patch(&mut self, offset: usize, bytes: &[u8]);
     fn check(&mut self) -> Answer;
     fn call(&mut self, call: Call<'_>) -> Outcome;
+    /// Converts an old image; the store buffer is the target.
+    fn convert(&mut self, old: &[u8]) -> Answer;
     fn store(&self) -> &[u8];
     /// Counts one thing that a script is about to reach.
     fn note(&mut self, _group: &'static str, _label: &str) {}
@@ -80,6 +82,10 @@ impl Peer {
     pub fn patch(&mut self, offset: usize, bytes: &[u8]) {
         assert!(bytes.len() <= MAX_PATCH);
         self.store[offset..offset + bytes.len()].copy_from_slice(bytes);
+    }
+
+    pub fn convert(&mut self, old: &[u8]) -> Answer {
+        crate::convert(old, &mut self.store)
     }
 
     pub fn call(&mut self, call: Call<'_>) -> Outcome {

@@ -2,6 +2,7 @@
 
 use super::driver::{Call, Driver, Format, Outcome};
 use super::encode::{handle, Attributes, How, Request};
+use super::rules;
 use crate::layout::{Block, NameRecord, Object, Shape};
 use crate::numbers::Status;
 
@@ -43,16 +44,28 @@ impl<'d> Lane<'d> {
         shape: Shape,
         stamp: u32,
     ) -> Lane<'d> {
-        driver.start(number, shape.length(), title);
-        let answer = driver.format(Format {
+        let lane = Lane::unformatted(driver, number, title, shape, stamp);
+        let answer = lane.driver.format(Format {
             stamp,
             objects: shape.objects as u32,
             names: shape.names as u32,
             blocks: shape.blocks as u32,
-            seconds: 1000,
-            nanoseconds: 1,
+            seconds: lane.seconds,
+            nanoseconds: lane.nanoseconds,
         });
         assert_eq!(answer.number, 0);
+        lane
+    }
+
+    /// Starts a run with a buffer for a store of this shape.
+    pub fn unformatted(
+        driver: &'d mut dyn Driver,
+        number: u32,
+        title: &str,
+        shape: Shape,
+        stamp: u32,
+    ) -> Lane<'d> {
+        driver.start(number, shape.length(), title);
         Lane {
             driver,
             shape,
@@ -109,6 +122,12 @@ impl<'d> Lane<'d> {
         outcome
     }
 
+    /// Counts a rule that the script has just seen hold.
+    pub fn rule(&mut self, label: &str) {
+        assert!(rules::ALL.contains(&label), "{label}");
+        self.driver.note(rules::GROUP, label);
+    }
+
     /// Sends a call that succeeds.
     pub fn done(&mut self, request: &Request) -> Outcome {
         let outcome = self.send(request);
@@ -123,6 +142,12 @@ impl<'d> Lane<'d> {
             ..Attributes::size(size)
         };
         let outcome = self.done(&guarded(directory, name, attributes));
+        outcome.reply[36..48].to_vec()
+    }
+
+    /// Makes a file EXCLUSIVE and returns its handle.
+    pub fn exclusive(&mut self, directory: &[u8], name: &[u8], verifier: [u8; 8]) -> Vec<u8> {
+        let outcome = self.done(&exclusive(directory, name, verifier));
         outcome.reply[36..48].to_vec()
     }
 
@@ -222,11 +247,11 @@ pub fn unchecked(directory: &[u8], name: &[u8], attributes: Attributes) -> Reque
     }
 }
 
-pub fn exclusive(directory: &[u8], name: &[u8]) -> Request {
+pub fn exclusive(directory: &[u8], name: &[u8], verifier: [u8; 8]) -> Request {
     Request::Create {
         directory: directory.to_vec(),
         name: name.to_vec(),
-        how: How::Exclusive(*b"verifier"),
+        how: How::Exclusive(verifier),
     }
 }
 

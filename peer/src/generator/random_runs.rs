@@ -3,11 +3,15 @@
 
 use super::driver::{Call, Driver, Format};
 use super::encode::{encode, handle, malformed, Attributes, Header, How, Request, Time};
-use super::lane::{status_of, Lane};
+use super::lane::{exclusive, status_of, Lane};
+use super::old_images::{empty, old_image, Damaged};
 use super::random::Random;
 use super::view::View;
-use crate::layout::{Shape, MAX_BLOCKS, MAX_NAMES, MAX_OBJECTS, OBJECTS_AT};
+use crate::layout::{
+    object_field, Shape, MAX_BLOCKS, MAX_NAMES, MAX_OBJECTS, OBJECTS_AT, OBJECT_BYTES,
+};
 use crate::numbers::procedure;
+use crate::old_check;
 
 /// How large the store of a run is.
 #[derive(Clone, Copy, PartialEq, Eq, Debug)]
@@ -96,6 +100,12 @@ const ODD_SIZES: [u64; 8] = [
     u64::MAX,
 ];
 
+/// Verifiers of EXCLUSIVE CREATE, so few that they come again by chance.
+const VERIFIERS: [[u8; 8]; 4] = [[0; 8], *b"verifier", *b"verifies", [0xFF; 8]];
+
+/// The largest store that takes part in conversions.
+const LARGEST_CONVERTED: usize = 50_000;
+
 /// Which existing name a request asks for.
 #[derive(Clone, Copy, PartialEq, Eq)]
 enum Existing {
@@ -111,6 +121,8 @@ pub struct RandomRun<'d> {
     random: Random,
     /// Every handle that a reply gave out.
     handles: Vec<Vec<u8>>,
+    /// The last call that was sent whole.
+    last: Vec<u8>,
     /// The largest data of a WRITE, and the largest count of a READ.
     transfer: usize,
 }
@@ -134,6 +146,7 @@ pub fn run(
         lane,
         random,
         handles: Vec::new(),
+        last: Vec::new(),
         transfer,
     };
     for _ in 0..steps {
@@ -144,10 +157,12 @@ pub fn run(
 impl RandomRun<'_> {
     fn step(&mut self) {
         match self.random.below(100) {
-            0..=82 => {
+            0..=77 => {
                 let request = self.request();
                 self.send(&request);
             }
+            78..=80 => self.send_again(),
+            81..=82 => self.convert(),
             83..=86 => self.changed_call(),
             87..=89 => self.bytes_in_blocks(),
             90..=91 => self.other_valid_fields(),
@@ -172,7 +187,9 @@ impl RandomRun<'_> {
 
     /// Sends a call and keeps the handle that its reply gives out.
     fn send(&mut self, request: &Request) {
-        let outcome = self.lane.send(request);
+        let xid = self.lane.next_xid();
+        self.last = request.call(xid);
+        let outcome = self.lane.raw(&self.last);
         if status_of(&outcome.reply) != Some(0) {
             return;
         }
@@ -362,9 +379,9 @@ impl RandomRun<'_> {
                 let existing = self.existing_once_in(4);
                 let name = self.name(&view, &directory, existing);
                 let how = match self.random.below(10) {
-                    0..=4 => How::Unchecked(self.attributes(6)),
-                    5..=8 => How::Guarded(self.attributes(6)),
-                    _ => How::Exclusive([5; 8]),
+                    0..=3 => How::Unchecked(self.attributes(6)),
+                    4..=6 => How::Guarded(self.attributes(6)),
+                    _ => How::Exclusive(self.random.pick(&VERIFIERS)),
                 };
                 Request::Create {
                     directory,
@@ -563,6 +580,68 @@ impl RandomRun<'_> {
         }
     }
 
+    /// The last call once more, or an EXCLUSIVE CREATE of a file by the name
+    /// that it has now, mostly with the verifier that it keeps.
+    fn send_again(&mut self) {
+        let kept = self.view().and_then(|view| {
+            let kept: Vec<(usize, [u8; 8])> = view
+                .live
+                .iter()
+                .filter_map(|seen| Some((seen.object, seen.verifier?)))
+                .collect();
+            if kept.is_empty() || self.random.once_in(3) {
+                return None;
+            }
+            let (file, verifier) = self.random.pick(&kept);
+            let named = view.names.iter().find(|named| named.child == file)?;
+            let directory = view.handle(named.directory)?;
+            let verifier = if self.random.once_in(5) {
+                self.random.pick(&VERIFIERS)
+            } else {
+                verifier
+            };
+            Some(exclusive(directory, &named.name, verifier))
+        });
+        match kept {
+            Some(request) => self.send(&request),
+            None => {
+                self.lane.raw(&self.last);
+            }
+        }
+    }
+
+    /// Converts the old image of the store, whole or damaged, over the store.
+    fn convert(&mut self) {
+        let store = self.lane.driver.store();
+        if store.len() > LARGEST_CONVERTED || crate::check(store).number != 0 {
+            return;
+        }
+        let own = old_image(self.lane.shape, store);
+        // Seldom an image that becomes a store of another length.
+        let other = self.random.once_in(8).then(|| self.random.below(3) as u32);
+        let other = other.and_then(|more| empty(1 + more, more, 1));
+        let image = other.or_else(|| Some((old_check::check(&own)?, own)));
+        let Some((counts, mut image)) = image else {
+            return;
+        };
+        if self.random.once_in(2) {
+            for _ in 0..self.random.between(1, 2) {
+                Damaged {
+                    image: &mut image,
+                    counts,
+                    random: &mut self.random,
+                }
+                .once();
+            }
+        } else if self.random.once_in(2) {
+            // The target need not be a store before.
+            let bytes = self.random.bytes(16);
+            let at = self.random.below(store.len() - bytes.len());
+            self.lane.driver.patch(at, &bytes);
+        }
+        self.lane.driver.convert(&image);
+    }
+
     /// A sound call with some bytes changed, or spoiled arguments.
     fn changed_call(&mut self) {
         let request = self.request();
@@ -629,14 +708,19 @@ impl RandomRun<'_> {
             self.lane.patch_word(at, generation);
             return;
         }
-        let at = self.random.below(view.live.len());
-        let at = self.lane.object_at(view.live[at].object);
-        match self.random.below(6) {
+        let seen = &view.live[self.random.below(view.live.len())];
+        let at = self.lane.object_at(seen.object);
+        match self.random.below(7) {
             0 => self.lane.patch_word(at + 4, u32::MAX - 1),
             1 => self.lane.patch_word(at + 8, 4095),
             2 => self.lane.patch_word(at + 12, u32::MAX),
             3 => self.lane.patch_word(at + 44, 999_999_999),
             4 => self.lane.patch_word(at + 32, u32::MAX),
+            5 if !seen.directory => {
+                let verifier = self.random.pick(&VERIFIERS);
+                let kept = [&verifier[..], &[0, 0, 0, 1]].concat();
+                self.lane.driver.patch(at + object_field::VERIFIER, &kept);
+            }
             _ => self.swap_names(&view),
         }
     }
@@ -692,7 +776,7 @@ impl RandomRun<'_> {
         let shape = self.lane.shape;
         let random = &mut self.random;
         let store = self.lane.driver.store();
-        match random.below(6) {
+        match random.below(7) {
             0 | 1 => {
                 let at = random.below(records);
                 (at, vec![store[at] ^ (1 << random.below(8))])
@@ -703,7 +787,9 @@ impl RandomRun<'_> {
             }
             // A field of an object record.
             3 => {
-                let at = OBJECTS_AT + 80 * random.below(shape.objects) + 4 * random.below(20);
+                let at = OBJECTS_AT
+                    + OBJECT_BYTES * random.below(shape.objects)
+                    + 4 * random.below(OBJECT_BYTES / 4);
                 let value = random.pick(&[
                     0,
                     1,
@@ -719,11 +805,23 @@ impl RandomRun<'_> {
                 ]);
                 (at, value.to_be_bytes().to_vec())
             }
-            // One record over another.
+            // A word of a verifier, or a flag.
             4 => {
-                let from = OBJECTS_AT + 80 * random.below(shape.objects);
-                let to = OBJECTS_AT + 80 * random.below(shape.objects);
-                (to, store[from..from + 80].to_vec())
+                let at = OBJECTS_AT + OBJECT_BYTES * random.below(shape.objects);
+                let field = random.pick(&[
+                    object_field::VERIFIER,
+                    object_field::VERIFIER + 4,
+                    object_field::FLAG,
+                    object_field::FLAG,
+                ]);
+                let value = random.pick(&[0, 1, 2, 0x0100_0000, u32::MAX]);
+                (at + field, value.to_be_bytes().to_vec())
+            }
+            // One record over another.
+            5 => {
+                let from = OBJECTS_AT + OBJECT_BYTES * random.below(shape.objects);
+                let to = OBJECTS_AT + OBJECT_BYTES * random.below(shape.objects);
+                (to, store[from..from + OBJECT_BYTES].to_vec())
             }
             _ => {
                 if shape.names == 0 {
@@ -820,7 +918,7 @@ pub fn raw_store_run(driver: &mut dyn Driver, number: u32, seed: u64) {
         0 => random.below(700),
         1 => shape.length(),
         _ => {
-            let change = random.pick(&[1usize, 2, 3, 4, 12, 44, 80, 512]);
+            let change = random.pick(&[1usize, 2, 3, 4, 12, 44, 80, 92, 512]);
             if random.once_in(2) {
                 shape.length() + change
             } else {
@@ -858,8 +956,8 @@ pub fn raw_store_run(driver: &mut dyn Driver, number: u32, seed: u64) {
         // Records of free objects and names around a few random ones.
         for object in 1..shape.objects {
             if !random.once_in(3) {
-                let at = OBJECTS_AT + 80 * object;
-                image[at..at + 80].fill(0);
+                let at = OBJECTS_AT + OBJECT_BYTES * object;
+                image[at..at + OBJECT_BYTES].fill(0);
             }
         }
         for record in 0..shape.names {

@@ -71,6 +71,14 @@ impl Driver for Recorder {
         outcome
     }
 
+    fn convert(&mut self, old: &[u8]) -> Answer {
+        let answer = self.peer.convert(old);
+        let digest = self.digest();
+        self.writer.convert(old, answer, digest);
+        self.coverage.convert(answer.number);
+        answer
+    }
+
     fn store(&self) -> &[u8] {
         &self.peer.store
     }

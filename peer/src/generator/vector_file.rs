@@ -1,5 +1,7 @@
 //! The vector file: writing it, and replaying it on any implementation.
 
+use std::ops::Range;
+
 use super::driver::{Call, Format, Outcome, FRESH, MAX_PATCH, SPARE};
 use crate::Answer;
 
@@ -17,7 +19,8 @@ mod tag {
     pub const OBJECTS: u8 = 9;
     pub const NAMES: u8 = 10;
     pub const BLOCKS: u8 = 11;
-    pub const LAST_GIVEN: u8 = 11;
+    pub const OLD_LENGTH: u8 = 12;
+    pub const LAST_GIVEN: u8 = 12;
     // Numbers that must come back.
     pub const LENGTH: u8 = 64;
     pub const STORE_DIGEST: u8 = 65;
@@ -26,6 +29,7 @@ mod tag {
     pub const STORE: u8 = 128;
     pub const CALL: u8 = 129;
     pub const REPLY: u8 = 130;
+    pub const OLD: u8 = 131;
     // Runs.
     pub const RUN: u8 = 192;
     pub const END: u8 = 193;
@@ -33,12 +37,14 @@ mod tag {
     pub const FORMAT_ENTRY: u8 = 224;
     pub const CHECK_ENTRY: u8 = 225;
     pub const CALL_ENTRY: u8 = 226;
+    pub const CONVERT_ENTRY: u8 = 227;
 }
 
 /// The room for each buffer.
-const LARGEST_STORE: usize = 535_061;
+const LARGEST_STORE: usize = 535_829;
 const LARGEST_CALL: usize = 10_000;
 const LARGEST_REPLY: usize = 8192;
+const LARGEST_OLD: usize = 535_061;
 
 /// The digest of a buffer: two 32-bit lanes over every byte in order.
 pub fn digest(bytes: &[u8]) -> u64 {
@@ -86,6 +92,7 @@ struct Counts {
     calls: u32,
     formats: u32,
     checks: u32,
+    conversions: u32,
 }
 
 impl Counts {
@@ -94,6 +101,7 @@ impl Counts {
         match entry {
             tag::FORMAT_ENTRY => self.formats += 1,
             tag::CHECK_ENTRY => self.checks += 1,
+            tag::CONVERT_ENTRY => self.conversions += 1,
             _ => self.calls += 1,
         }
     }
@@ -101,8 +109,9 @@ impl Counts {
     /// The last line of a replay.
     fn total(&self, differences: u64) -> String {
         format!(
-            "total: {} runs, {} calls, {} formats, {} checks, {differences} differences\n",
-            self.runs, self.calls, self.formats, self.checks
+            "total: {} runs, {} calls, {} formats, {} checks, {} conversions, \
+             {differences} differences\n",
+            self.runs, self.calls, self.formats, self.checks, self.conversions
         )
     }
 }
@@ -113,6 +122,28 @@ pub struct Writer {
     bytes: Vec<u8>,
     numbers: Numbers,
     counts: Counts,
+    /// The bytes of the old image that are written so far.
+    old: Vec<u8>,
+}
+
+/// What a row of bytes costs beside them: its own head and that of its place.
+const ROW_COST: usize = 10;
+
+/// Where the bytes are unlike those that are known, in as few pieces as pay.
+fn unlike(known: &[u8], bytes: &[u8]) -> Vec<Range<usize>> {
+    let mut pieces: Vec<Range<usize>> = Vec::new();
+    for (at, byte) in bytes.iter().enumerate() {
+        if known.get(at) == Some(byte) {
+            continue;
+        }
+        match pieces.last_mut() {
+            Some(last) if at <= last.end + ROW_COST && at < last.start + MAX_PATCH => {
+                last.end = at + 1;
+            }
+            _ => pieces.push(at..at + 1),
+        }
+    }
+    pieces
 }
 
 impl Writer {
@@ -178,6 +209,17 @@ impl Writer {
         self.step(tag::CHECK_ENTRY, answer, digest);
     }
 
+    pub fn convert(&mut self, old: &[u8], answer: Answer, digest: u64) {
+        assert!(old.len() <= LARGEST_OLD);
+        self.number(tag::OLD_LENGTH, old.len() as u32);
+        for piece in unlike(&self.old, old) {
+            self.buffer(tag::OLD, piece.start, &old[piece]);
+        }
+        self.old.resize(self.old.len().max(old.len()), 0);
+        self.old[..old.len()].copy_from_slice(old);
+        self.step(tag::CONVERT_ENTRY, answer, digest);
+    }
+
     pub fn call(&mut self, call: &Call<'_>, outcome: &Outcome, digest: u64) {
         assert!(call.space <= LARGEST_REPLY && call.bytes.len() <= LARGEST_CALL);
         self.number(tag::SECONDS, call.seconds);
@@ -202,6 +244,7 @@ pub trait Subject {
     fn format(&mut self, store: &mut [u8], plan: &Format) -> Answer;
     fn check(&mut self, store: &[u8]) -> Answer;
     fn call(&mut self, store: &mut [u8], call: &Call<'_>, reply: &mut [u8]) -> Answer;
+    fn convert(&mut self, old: &[u8], store: &mut [u8]) -> Answer;
 }
 
 /// The peer's own entry points.
@@ -234,6 +277,10 @@ impl Subject for Own {
             call.verifier,
         )
     }
+
+    fn convert(&mut self, old: &[u8], store: &mut [u8]) -> Answer {
+        crate::convert(old, store)
+    }
 }
 
 /// The vector file from the next row on.
@@ -258,6 +305,7 @@ impl<'a> Source<'a> {
 struct Buffers {
     store: Vec<u8>,
     call: Vec<u8>,
+    old: Vec<u8>,
     reply: Vec<u8>,
     wanted: Vec<u8>,
 }
@@ -267,6 +315,7 @@ impl Buffers {
         Buffers {
             store: vec![FRESH; LARGEST_STORE],
             call: vec![0; LARGEST_CALL],
+            old: vec![SPARE; LARGEST_OLD],
             reply: vec![SPARE; LARGEST_REPLY],
             wanted: vec![SPARE; LARGEST_REPLY],
         }
@@ -278,6 +327,7 @@ impl Buffers {
             tag::STORE => (&mut self.store, tag::STORE_LENGTH),
             tag::CALL => (&mut self.call, tag::CALL_LENGTH),
             tag::REPLY => (&mut self.wanted, tag::REPLY_LENGTH),
+            tag::OLD => (&mut self.old, tag::OLD_LENGTH),
             _ => return None,
         };
         let place = numbers.size(tag::PLACE);
@@ -299,6 +349,7 @@ impl Buffers {
         let store = self.store.get_mut(..numbers.size(tag::STORE_LENGTH))?;
         let call = self.call.get(..numbers.size(tag::CALL_LENGTH))?;
         let reply = self.reply.get_mut(..numbers.size(tag::REPLY_LENGTH))?;
+        let old = self.old.get(..numbers.size(tag::OLD_LENGTH))?;
         let (seconds, nanoseconds) = (numbers.get(tag::SECONDS), numbers.get(tag::NANOSECONDS));
         let answer = match entry {
             tag::FORMAT_ENTRY => subject.format(
@@ -323,6 +374,7 @@ impl Buffers {
                 };
                 subject.call(store, &call, reply)
             }
+            tag::CONVERT_ENTRY => subject.convert(old, store),
             _ => return None,
         };
         let length = numbers.get(tag::LENGTH);

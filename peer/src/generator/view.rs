@@ -11,6 +11,8 @@ pub struct Seen {
     pub directory: bool,
     pub size: u32,
     pub ctime: (u32, u32),
+    /// The verifier that a file keeps.
+    pub verifier: Option<[u8; 8]>,
 }
 
 /// A used name record.
@@ -56,6 +58,9 @@ impl View {
                 directory: kind == DIRECTORY,
                 size: field(object_field::SIZE),
                 ctime: (field(object_field::CTIME), field(object_field::CTIME + 4)),
+                verifier: (field(object_field::FLAG) == 1)
+                    .then(|| store[at + object_field::VERIFIER..].first_chunk().copied())
+                    .flatten(),
             });
         }
         let mut names = Vec::new();

@@ -9,6 +9,8 @@ use peer::layout::Shape;
 
 pub const STAMP: u32 = 0x5354_414D;
 pub const SPARE: u8 = 0x5A;
+/// Bytes of an object record.
+pub const RECORD: usize = 92;
 
 /// A store under test. Every call is checked for what holds for all calls.
 pub struct Lane {
@@ -277,7 +279,7 @@ impl Lane {
 
     /// Sets a field of an object record.
     pub fn poke_object(&mut self, object: usize, field: usize, value: u32) {
-        let at = 12 + 80 * object + field;
+        let at = 12 + RECORD * object + field;
         self.store[at..at + 4].copy_from_slice(&value.to_be_bytes());
     }
 
@@ -285,9 +287,14 @@ impl Lane {
         self.store.len() - 512 * (self.shape.blocks - block)
     }
 
+    /// The bytes of an object record.
+    pub fn record(&self, object: usize) -> &[u8] {
+        &self.store[12 + RECORD * object..][..RECORD]
+    }
+
     /// The block numbers of an object.
     pub fn places(&self, object: usize) -> Vec<u16> {
-        let at = 12 + 80 * object + 48;
+        let at = 12 + RECORD * object + 48;
         self.store[at..at + 32]
             .chunks(2)
             .map(|number| u16::from_be_bytes([number[0], number[1]]))
@@ -296,7 +303,7 @@ impl Lane {
 
     /// A name record: directory, child, length and 32 bytes.
     pub fn name(&self, record: usize) -> (u32, u32, u32, Vec<u8>) {
-        let at = 16 + 80 * self.shape.objects + 44 * record;
+        let at = 16 + RECORD * self.shape.objects + 44 * record;
         let head = words(&self.store[at..at + 12]);
         (
             head[0],
@@ -305,6 +312,33 @@ impl Lane {
             self.store[at + 12..at + 44].to_vec(),
         )
     }
+}
+
+/// The image in the layout of document 01 of a store in which no file keeps a
+/// verifier: its records without their last 12 bytes.
+pub fn old_image(store: &[u8]) -> Vec<u8> {
+    let objects = words(&store[8..12])[0] as usize;
+    let (records, rest) = store[12..].split_at(RECORD * objects);
+    let mut image = store[..12].to_vec();
+    for record in records.chunks(RECORD) {
+        assert_eq!(record[80..], [0; 12]);
+        image.extend(&record[..80]);
+    }
+    image.extend(rest);
+    image
+}
+
+/// The store that a sound image in the layout of document 01 becomes.
+pub fn store_of(image: &[u8]) -> Vec<u8> {
+    let objects = words(&image[8..12])[0] as usize;
+    let (records, rest) = image[12..].split_at(80 * objects);
+    let mut store = image[..12].to_vec();
+    for record in records.chunks(80) {
+        store.extend(record);
+        store.extend([0; 12]);
+    }
+    store.extend(rest);
+    store
 }
 
 pub fn getattr(object: &[u8]) -> Request {
@@ -336,11 +370,11 @@ pub fn unchecked(directory: &[u8], name: &[u8], attributes: Attributes) -> Reque
     }
 }
 
-pub fn exclusive(directory: &[u8], name: &[u8]) -> Request {
+pub fn exclusive(directory: &[u8], name: &[u8], verifier: [u8; 8]) -> Request {
     Request::Create {
         directory: directory.to_vec(),
         name: name.to_vec(),
-        how: How::Exclusive([9; 8]),
+        how: How::Exclusive(verifier),
     }
 }
 

@@ -1,7 +1,19 @@
-//! The store check a second time, plain and slow.
+//! The store checks a second time, plain and slow.
 
-/// The check as document 01 words it, without regard to speed.
+/// The check of a store, without regard to speed.
 pub fn plain_check(store: &[u8]) -> bool {
+    sound_image(store, 92)
+}
+
+/// The check of an image in the layout of document 01.
+pub fn plain_old_check(image: &[u8]) -> bool {
+    sound_image(image, 80)
+}
+
+/// What documents 01 and 02 demand of an image whose object records have this
+/// length. A verifier and a flag follow the 80 bytes of a record where it is
+/// longer.
+fn sound_image(store: &[u8], record_bytes: usize) -> bool {
     let get = |at: usize| -> Option<u32> {
         store
             .get(at..at + 4)
@@ -14,26 +26,26 @@ pub fn plain_check(store: &[u8]) -> bool {
         return false;
     }
     let objects = objects as usize;
-    let Some(names) = get(12 + 80 * objects) else {
+    let Some(names) = get(12 + record_bytes * objects) else {
         return false;
     };
     if names > 128 {
         return false;
     }
     let names = names as usize;
-    let Some(blocks) = get(16 + 80 * objects + 44 * names) else {
+    let Some(blocks) = get(16 + record_bytes * objects + 44 * names) else {
         return false;
     };
     if blocks > 1024 {
         return false;
     }
     let blocks = blocks as usize;
-    if store.len() != 20 + 80 * objects + 44 * names + 512 * blocks {
+    if store.len() != 20 + record_bytes * objects + 44 * names + 512 * blocks {
         return false;
     }
-    let object = |number: usize| &store[12 + 80 * number..12 + 80 * number + 80];
+    let object = |number: usize| &store[12 + record_bytes * number..][..record_bytes];
     let name = |number: usize| {
-        let at = 16 + 80 * objects + 44 * number;
+        let at = 16 + record_bytes * objects + 44 * number;
         &store[at..at + 44]
     };
     let number =
@@ -67,6 +79,15 @@ pub fn plain_check(store: &[u8]) -> bool {
                     if number(record, at) >= 1_000_000_000 {
                         return false;
                     }
+                }
+                if let [verifier @ .., 0, 0, 0, flag] = &record[80..] {
+                    let none = verifier.iter().all(|&byte| byte == 0);
+                    let kept = kind == 1 && *flag == 1;
+                    if !kept && (*flag != 0 || !none) {
+                        return false;
+                    }
+                } else if record.len() > 80 {
+                    return false;
                 }
                 let size = number(record, 20);
                 if size > 8192 || kind == 2 && size != 0 {

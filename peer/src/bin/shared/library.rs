@@ -41,6 +41,7 @@ extern "C" {
         seconds: u32,
         nanoseconds: u32,
     ) -> RawAnswer;
+    fn nfs3_convert(old: *const u8, old_len: usize, store: *mut u8, store_len: usize) -> RawAnswer;
 }
 
 /// Answers one call; the arguments are those of the peer's `call`.
@@ -85,5 +86,13 @@ pub fn format(plan: &Format, store: &mut [u8]) -> Answer {
             plan.nanoseconds,
         )
     };
+    raw.into()
+}
+
+/// Converts an old image; the store is the target.
+pub fn convert(old: &[u8], store: &mut [u8]) -> Answer {
+    // SAFETY: the pointers and lengths are those of slices, which are never
+    // null and, borrowed as they are, never overlap.
+    let raw = unsafe { nfs3_convert(old.as_ptr(), old.len(), store.as_mut_ptr(), store.len()) };
     raw.into()
 }

@@ -2,6 +2,9 @@
 
 use super::*;
 use crate::generator::lane::*;
+use crate::generator::old_images::{old_image, old_place};
+use crate::generator::rules;
+use crate::layout::{object_field, OBJECT_BYTES};
 
 /// A store with files of several sizes, directories in directories, and free
 /// records between used ones.
@@ -71,7 +74,7 @@ fn changes(lane: &Lane<'_>) -> Vec<Change> {
         false,
     );
     change("live object made free", object(6, 0), &word(0), false);
-    for field in (8..80).step_by(4) {
+    for field in (8..OBJECT_BYTES).step_by(4) {
         change("free object not zero", object(9, field), &word(1), false);
         change(
             "free object not zero",
@@ -299,21 +302,109 @@ fn changes(lane: &Lane<'_>) -> Vec<Change> {
     all
 }
 
+/// Makes a change, sees what every entry says of the store, and takes the
+/// change back.
+fn try_change(lane: &mut Lane<'_>, change: &Change) {
+    let kept = lane.driver.store()[change.at..change.at + change.bytes.len()].to_vec();
+    lane.driver.patch(change.at, &change.bytes);
+    let wanted = u32::from(!change.valid);
+    assert_eq!(lane.driver.check().number, wanted, "{}", change.label);
+    let call = getattr(&lane.root()).call(5);
+    assert_eq!(lane.raw(&call).answer.number, wanted, "{}", change.label);
+    lane.driver.patch(change.at, &kept);
+}
+
 pub(super) fn damaged(runs: &mut Runs<'_>) {
     let mut lane = sample(runs, "damaged stores");
     let root = lane.root();
     lane.driver.check();
-    let call = getattr(&root).call(5);
     for change in changes(&lane) {
-        let kept = lane.driver.store()[change.at..change.at + change.bytes.len()].to_vec();
         let group = if change.valid { SOUND } else { BROKEN };
         lane.driver.note(group, &change.label);
-        lane.driver.patch(change.at, &change.bytes);
-        let wanted = u32::from(!change.valid);
-        assert_eq!(lane.driver.check().number, wanted, "{}", change.label);
-        assert_eq!(lane.raw(&call).answer.number, wanted);
-        lane.driver.patch(change.at, &kept);
+        try_change(&mut lane, &change);
     }
     assert_eq!(lane.driver.check().number, 0);
     lane.done(&getattr(&root));
+}
+
+/// Verifiers and flags: in a file that keeps one, a file that keeps none, the
+/// root, another directory and free records.
+pub(super) fn flags(runs: &mut Runs<'_>) {
+    let mut lane = runs.open("verifiers and flags", (8, 8, 4));
+    let root = lane.root();
+    lane.exclusive(&root, b"kept", VERIFIER);
+    lane.create(&root, b"plain", 700);
+    lane.mkdir(&root, b"directory");
+    lane.exclusive(&root, b"gone", VERIFIER);
+    lane.done(&remove(&root, b"gone"));
+    let (kept, plain) = (1, 2);
+    let (directories, free) = ([0, 3], [4, 7]);
+    let mut all = Vec::new();
+    let mut change = |label: &str, object: usize, field: usize, bytes: &[u8], valid: bool| {
+        all.push(Change {
+            label: label.to_owned(),
+            at: lane.object_at(object) + field,
+            bytes: bytes.to_vec(),
+            valid,
+        });
+    };
+    let (verifier, flag) = (object_field::VERIFIER, object_field::FLAG);
+    let both = |verifier: [u8; 8], flag: u8| [&verifier[..], &[0, 0, 0, flag]].concat();
+    for value in [[0; 8], [0xFF; 8], *b"\0\0\0\x01\0\0\0\0", *b"another!"] {
+        change(rules::ANY_VERIFIER, kept, verifier, &value, true);
+        change(rules::ANY_VERIFIER, plain, verifier, &both(value, 1), true);
+        for object in directories {
+            let label = rules::FLAG_DIRECTORY;
+            change(label, object, verifier, &both(value, 1), false);
+        }
+        for object in free {
+            change(rules::FLAG_FREE, object, verifier, &both(value, 1), false);
+        }
+    }
+    for value in [2u32, 3, 255, 256, 0x0001_0000, 0x0100_0000, u32::MAX] {
+        for object in 0..8 {
+            change(rules::FLAG_OTHER, object, flag, &value.to_be_bytes(), false);
+        }
+    }
+    change(rules::NO_FLAG, kept, flag, &[0; 4], false);
+    for at in verifier..flag {
+        for object in [plain, 0, 3, 4, 7] {
+            change(rules::NO_FLAG, object, at, &[1], false);
+            change(rules::NO_FLAG, object, at, &[0x80], false);
+        }
+    }
+    // The file that keeps a verifier made a directory.
+    change(rules::FLAG_DIRECTORY, kept, 0, &[0, 0, 0, 2], false);
+    for change in &all {
+        try_change(&mut lane, change);
+        lane.rule(&change.label);
+    }
+    lane.done(&exclusive(&root, b"kept", VERIFIER));
+}
+
+/// The same changes in the old image of the sample.
+pub(super) fn old_images(runs: &mut Runs<'_>) {
+    let lane = sample(runs, "damaged old images: the store");
+    let shape = lane.shape;
+    let image = old_image(shape, lane.driver.store());
+    let changes = changes(&lane);
+    let mut lane = runs.target("damaged old images", shape);
+    for change in changes {
+        let Some(at) = old_place(shape, change.at) else {
+            continue;
+        };
+        let mut damaged = image.clone();
+        damaged[at..at + change.bytes.len()].copy_from_slice(&change.bytes);
+        let before = lane.driver.store().to_vec();
+        let answer = lane.driver.convert(&damaged).number;
+        assert_eq!(answer, u32::from(!change.valid), "{}", change.label);
+        if change.valid {
+            assert!(old_image(shape, lane.driver.store()) == damaged);
+            lane.driver.note(SOUND, &change.label);
+        } else {
+            assert!(lane.driver.store() == before);
+            lane.driver.note(BROKEN, &change.label);
+            lane.rule(rules::BAD_IMAGE);
+        }
+    }
 }

@@ -215,6 +215,7 @@ pub(super) fn largest_store(runs: &mut Runs<'_>) {
     lane.done(&getattr(&last));
     lane.done(&write(&last, 8000, &[0x33; 192]));
     lane.done(&read(&last, 4096, 4096));
+    let (shape, store) = (lane.shape, lane.driver.store().to_vec());
     for count in [4096, 3688, 3687, u32::MAX] {
         lane.done(&readdir(&root, 0, 0, count));
     }
@@ -233,12 +234,23 @@ pub(super) fn largest_store(runs: &mut Runs<'_>) {
     lane.done(&unchecked(&root, b"five", Attributes::size(0)));
     let grown = handle(STAMP, 6, 0);
     lane.done(&setattr(&grown, Attributes::size(8192), None));
+    // Numbers just out of range in place of a file's first block.
+    let at = lane.object_at(1) + 48;
+    for block in [1024u16, 2048] {
+        lane.driver.patch(at, &block.to_be_bytes());
+        lane.driver
+            .note(BROKEN, "block out of range, largest store");
+        assert_eq!(lane.driver.check().number, 1);
+    }
+    lane.driver.patch(at, &[0, 0]);
+    assert_eq!(lane.driver.check().number, 0);
     // The last block of the last file twice.
     let at = lane.object_at(63) + 78;
     lane.driver.patch(at, &[0, 0]);
     lane.driver
         .note(BROKEN, "block of two files, largest store");
     assert_eq!(lane.driver.check().number, 1);
+    conversions::largest(runs, shape, &store);
 
     let mut lane = runs.open("deepest chain of directories", (64, 128, 2));
     let mut directory = root.clone();

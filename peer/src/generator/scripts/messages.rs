@@ -334,7 +334,12 @@ pub(super) fn formats(runs: &mut Runs<'_>) {
     };
     let number = runs.take_number();
     let driver = &mut *runs.driver;
-    driver.start(number, 20 + 80 + 44 + 512, "formats");
+    let one_of_each = Shape {
+        objects: 1,
+        names: 1,
+        blocks: 1,
+    };
+    driver.start(number, one_of_each.length(), "formats");
     driver.check();
     for (objects, names, blocks, nanoseconds, wanted) in [
         (1, 1, 1, 1_000_000_000, 3),
@@ -351,8 +356,8 @@ pub(super) fn formats(runs: &mut Runs<'_>) {
         (1, 1, 2, 0, 6),
         (u32::MAX, u32::MAX, u32::MAX, 0, 6),
         (0x0100_0001, 1, 1, 0, 6),
-        // 53,687,092 times 80 is 64 more than a multiple of 2 to the 32nd.
-        (53_687_092, 0, 0, 0, 6),
+        // Lengths that are this one's in the low 32 bits.
+        (700_266_414, 0, 0, 0, 6),
         (1, 1, 8_388_609, 0, 6),
     ] {
         driver.note(ANSWERS, &format!("format {wanted}"));
@@ -407,19 +412,24 @@ pub(super) fn formats(runs: &mut Runs<'_>) {
     ] {
         let number = runs.take_number();
         let driver = &mut *runs.driver;
-        let length = 20 + 80 * objects + 44 * names + 512 * blocks;
+        let length = Shape {
+            objects,
+            names,
+            blocks,
+        }
+        .length();
         driver.start(number, length, "format with a count out of range");
         driver.note(ANSWERS, "format 6: count out of range, fitting length");
         let answer = driver.format(plan(objects as u32, names as u32, blocks as u32, 1));
         assert_eq!(answer.number, 6);
         driver.check();
     }
-    for length in [0, 1, 3, 4, 8, 11, 12, 15, 16, 19, 20, 99, 101] {
+    for length in [0, 1, 3, 4, 8, 11, 12, 15, 16, 19, 20, 100, 111, 113] {
         let number = runs.take_number();
         let driver = &mut *runs.driver;
         driver.start(number, length, "short stores");
         let smallest = smallest_image();
-        let bytes = &smallest[..length.min(100)];
+        let bytes = &smallest[..length.min(smallest.len())];
         driver.patch(0, bytes);
         driver.note(ANSWERS, "check 1: store of another length");
         assert_eq!(driver.check().number, 1);
@@ -429,7 +439,7 @@ pub(super) fn formats(runs: &mut Runs<'_>) {
 
 /// The smallest valid store.
 fn smallest_image() -> Vec<u8> {
-    let mut store = vec![0; 100];
+    let mut store = vec![0; 112];
     crate::format(&mut store, STAMP, 1, 0, 0, 1, 2);
     store
 }

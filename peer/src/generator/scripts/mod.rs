@@ -1,8 +1,10 @@
 //! Runs written out by hand: the examples of document 01, every refusal and
 //! RPC outcome, every status of every procedure, full stores, spent
-//! generations and damaged stores.
+//! generations, damaged stores, the rules of EXCLUSIVE CREATE and conversions.
 
+mod conversions;
 mod damage;
+mod exclusive;
 mod limits;
 mod messages;
 mod statuses;
@@ -22,6 +24,8 @@ const FULL: &str = "Full stores";
 const CHANGED: &str = "Sound calls with one byte changed";
 
 const STAMP: u32 = 0x5354_414D;
+/// The verifier of an EXCLUSIVE CREATE.
+const VERIFIER: [u8; 8] = *b"verifier";
 
 /// Gives numbers to runs.
 pub struct Runs<'d> {
@@ -46,6 +50,12 @@ impl Runs<'_> {
         };
         Lane::open(self.driver, number, title, shape, STAMP)
     }
+
+    /// A new run with a buffer for a store of this shape, not yet one.
+    fn target(&mut self, title: &str, shape: Shape) -> Lane<'_> {
+        let number = self.take_number();
+        Lane::unformatted(self.driver, number, title, shape, STAMP)
+    }
 }
 
 /// Every scripted run, one after the other.
@@ -66,6 +76,16 @@ pub fn all(runs: &mut Runs<'_>) {
     limits::full_stores(runs);
     limits::spent_generations(runs);
     damage::damaged(runs);
+    damage::flags(runs);
+    damage::old_images(runs);
+    exclusive::making(runs);
+    exclusive::names_that_exist(runs);
+    exclusive::order(runs);
+    exclusive::full_stores(runs);
+    exclusive::forgetting(runs);
+    exclusive::keeping(runs);
+    conversions::whole(runs);
+    conversions::refused(runs);
     messages::changed_bytes(runs);
     limits::largest_store(runs);
     limits::scattered_blocks(runs);
@@ -91,7 +111,7 @@ fn full_requests(file: &[u8], root: &[u8]) -> Vec<Request> {
         write(file, 1, b"data!"),
         guarded(root, b"new", all),
         unchecked(root, b"name", Attributes::default()),
-        exclusive(root, b"name"),
+        exclusive(root, b"name", VERIFIER),
         mkdir(root, b"d", Attributes::mode(0)),
         remove(root, b"n"),
         rmdir(root, b"nn"),

@@ -59,7 +59,7 @@ pub(super) fn handles_and_names(runs: &mut Runs<'_>) {
     for request in [
         lookup(&file, b""),
         guarded(&file, b"", Attributes::mode(4096)),
-        exclusive(&file, b""),
+        exclusive(&file, b"", VERIFIER),
         mkdir(&file, b"", Attributes::mode(4096)),
         remove(&file, b""),
         rmdir(&file, b""),
@@ -105,6 +105,7 @@ pub(super) fn handles_and_names(runs: &mut Runs<'_>) {
             lookup(&root, name),
             guarded(&root, name, invalid),
             unchecked(&root, name, invalid),
+            exclusive(&root, name, VERIFIER),
             mkdir(&root, name, invalid),
             remove(&root, name),
             rmdir(&root, name),
@@ -115,11 +116,6 @@ pub(super) fn handles_and_names(runs: &mut Runs<'_>) {
             let procedure = PROCEDURE_NAMES[request.procedure() as usize];
             lane.expect(&format!("{procedure} {label}"), &request, status);
         }
-        lane.expect(
-            "CREATE NOTSUPP: EXCLUSIVE with a bad name",
-            &exclusive(&root, name),
-            Status::NOTSUPP,
-        );
     }
     let every: Vec<u8> = (1..=255).filter(|&byte| byte != b'/').collect();
     for name in every.chunks(32) {
@@ -462,9 +458,9 @@ pub(super) fn making(runs: &mut Runs<'_>) {
             );
         }
         lane.expect(
-            "CREATE NOTSUPP: EXCLUSIVE, dots",
-            &exclusive(&root, name),
-            Status::NOTSUPP,
+            "CREATE EXIST: dots, EXCLUSIVE",
+            &exclusive(&root, name, VERIFIER),
+            Status::EXIST,
         );
     }
     for name in [&b"all"[..], b"dir", b"new"] {
@@ -498,16 +494,16 @@ pub(super) fn making(runs: &mut Runs<'_>) {
                 Status::INVAL,
             );
         }
-        lane.expect(
-            "CREATE NOTSUPP: EXCLUSIVE",
-            &exclusive(&root, name),
-            Status::NOTSUPP,
-        );
     }
     for name in [&b"all"[..], b"dir"] {
         lane.expect(
             "CREATE EXIST: GUARDED",
             &guarded(&root, name, plain),
+            Status::EXIST,
+        );
+        lane.expect(
+            "CREATE EXIST: EXCLUSIVE",
+            &exclusive(&root, name, VERIFIER),
             Status::EXIST,
         );
         lane.expect(
