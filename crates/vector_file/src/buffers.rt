@@ -2,13 +2,17 @@
 ghost use Prim.Native.Nat.{_<_};
 
 // The room for each buffer.
-pub const STORE_ROOM: usize = 535061;
+pub const STORE_ROOM: usize = 535829;
+
+pub const OLD_ROOM: usize = 535061;
 
 pub const CALL_ROOM: usize = 10000;
 
 pub const REPLY_ROOM: usize = 8192;
 
 pub type Store = [u8; STORE_ROOM];
+
+pub type Old = [u8; OLD_ROOM];
 
 pub type Call = [u8; CALL_ROOM];
 

@@ -38,6 +38,7 @@ pub fn print_total(numbers: &Numbers) {
     print(b" runs, ", numbers[Tag::CALL_ENTRY]);
     print(b" calls, ", numbers[Tag::FORMAT_ENTRY]);
     print(b" formats, ", numbers[Tag::CHECK_ENTRY]);
-    print(b" checks, ", numbers[Tag::DIFFERENCES]);
+    print(b" checks, ", numbers[Tag::CONVERT_ENTRY]);
+    print(b" conversions, ", numbers[Tag::DIFFERENCES]);
     io::write_all(STDOUT_FILENO, b" differences\n");
 }

@@ -1,6 +1,7 @@
 // Reading the file row by row.
 ghost use Prim.Native.Nat.{_<_};
 use crate::buffers::Call;
+use crate::buffers::Old;
 use crate::buffers::Reply;
 use crate::buffers::Store;
 use crate::buffers::fill;
@@ -52,6 +53,7 @@ pub fn take(
     store: &mut Store,
     call: &mut Call,
     want: &mut Reply,
+    old: &mut Old,
 ) -> bool
     requires { ⌜ row .tag < 256 ⌝ }
 {
@@ -66,6 +68,7 @@ pub fn take(
         Tag::STORE => read_bytes(fd, store, place, word, numbers[Tag::STORE_LENGTH]),
         Tag::CALL => read_bytes(fd, call, place, word, numbers[Tag::CALL_LENGTH]),
         Tag::REPLY => read_bytes(fd, want, place, word, numbers[Tag::REPLY_LENGTH]),
+        Tag::OLD => read_bytes(fd, old, place, word, numbers[Tag::OLD_LENGTH]),
         Tag::RUN => {
             count(numbers, Tag::RUN);
             numbers[Tag::STEP] = 0;

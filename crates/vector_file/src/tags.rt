@@ -27,7 +27,10 @@ impl Tag {
 
     pub const BLOCKS: usize = 11;
 
-    pub const LAST_GIVEN: usize = 11;
+    // How much is lent of the old image that is converted.
+    pub const OLD_LENGTH: usize = 12;
+
+    pub const LAST_GIVEN: usize = 12;
 
     // Numbers that must come back: the answer's length and the digest of the store, ..
     pub const FIRST_WANTED: usize = 64;
@@ -48,12 +51,14 @@ impl Tag {
     // So much above the tag of a number that must come back is the place of the number that did.
     pub const FOUND: usize = 32;
 
-    // Bytes, as many as the row's word says: of the store, of the call, and of the reply that is wanted.
+    // Bytes, as many as the row's word says: of the store, of the call, of the reply that is wanted, and of the old image.
     pub const STORE: usize = 128;
 
     pub const CALL: usize = 129;
 
     pub const REPLY: usize = 130;
+
+    pub const OLD: usize = 131;
 
     // A new run, and the end of the file. The word is the number of runs so far.
     pub const RUN: usize = 192;
@@ -68,6 +73,8 @@ impl Tag {
     pub const CHECK_ENTRY: usize = 225;
 
     pub const CALL_ENTRY: usize = 226;
+
+    pub const CONVERT_ENTRY: usize = 227;
 
     // The steps of the run, and how many things differed; a row that is not there.
     pub const STEP: usize = 253;

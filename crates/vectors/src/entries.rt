@@ -36,7 +36,14 @@ fn send(numbers: &Numbers, store: &mut [u8], call: &[u8], reply: &mut [u8]) -> A
 }
 
 // Calls the entry of this tag on what is lent of the buffers.
-fn ask(tag: usize, numbers: &Numbers, store: &mut [u8], call: &[u8], reply: &mut [u8]) -> Answer {
+fn ask(
+    tag: usize,
+    numbers: &Numbers,
+    store: &mut [u8],
+    call: &[u8],
+    reply: &mut [u8],
+    old: &[u8],
+) -> Answer {
     if tag == Tag::FORMAT_ENTRY {
         return format(numbers, store);
     }
@@ -45,6 +52,9 @@ fn ask(tag: usize, numbers: &Numbers, store: &mut [u8], call: &[u8], reply: &mut
     }
     if tag == Tag::CALL_ENTRY {
         return send(numbers, store, call, reply);
+    }
+    if tag == Tag::CONVERT_ENTRY {
+        return nfs3::nfs3_convert(old, store);
     }
     Answer {
         number: NO_ENTRY,
@@ -59,11 +69,13 @@ pub fn step(
     store: &mut [u8],
     call: &[u8],
     reply: &mut [u8],
+    old: &[u8],
 ) -> bool {
     let used = size(numbers[Tag::STORE_LENGTH]);
     let length = size(numbers[Tag::CALL_LENGTH]);
     let space = size(numbers[Tag::REPLY_LENGTH]);
-    if used > store.len() || length > call.len() || space > reply.len() {
+    let image = size(numbers[Tag::OLD_LENGTH]);
+    if used > store.len() || length > call.len() || space > reply.len() || image > old.len() {
         return false;
     }
     let answer = ask(
@@ -72,6 +84,7 @@ pub fn step(
         &mut store[0..used],
         &call[0..length],
         &mut reply[0..space],
+        &old[0..image],
     );
     let lanes = digest(&store[0..used]);
     numbers[Tag::NUMBER + Tag::FOUND] = answer.number;

@@ -5,6 +5,8 @@ mod entries;
 use entries::step;
 use vector_file::buffers::CALL_ROOM;
 use vector_file::buffers::Call;
+use vector_file::buffers::OLD_ROOM;
+use vector_file::buffers::Old;
 use vector_file::buffers::REPLY_ROOM;
 use vector_file::buffers::Reply;
 use vector_file::buffers::STORE_ROOM;
@@ -35,12 +37,13 @@ fn turn(
     call: &mut Call,
     reply: &mut Reply,
     want: &mut Reply,
+    old: &mut Old,
 ) -> bool {
     let row = read_row(fd);
     let good = if row.tag < Tag::FIRST_ENTRY {
-        take(fd, row, numbers, store, call, want)
+        take(fd, row, numbers, store, call, want, old)
     } else {
-        step(row.tag, numbers, store, call, reply)
+        step(row.tag, numbers, store, call, reply, old)
     };
     goes_on(row, good, numbers, reply, want)
 }
@@ -52,6 +55,7 @@ fn run(fd: i32) {
     let mut call = [0u8; CALL_ROOM];
     let mut reply = [SPACE_BYTE; REPLY_ROOM];
     let mut want = [SPACE_BYTE; REPLY_ROOM];
+    let mut old = [0u8; OLD_ROOM];
     let mut left: u64 = 10000000;
     while left > 0
         && turn(
@@ -61,6 +65,7 @@ fn run(fd: i32) {
             &mut call,
             &mut reply,
             &mut want,
+            &mut old,
         )
     {
         left -= 1;
