@@ -1,6 +1,6 @@
 /*
- * Calls the check and format from C, prints a line for each answer, and compares it and the bytes with those written out here from the rules of the
- * store. Exits 1 on a difference.
+ * Calls the check, format and the converter from C, prints a line for each answer, and compares it and the bytes with those written out here from the
+ * rules of the store. Exits 1 on a difference.
  */
 #include "same.h"
 
@@ -14,8 +14,8 @@ static void same_number(const char *what, struct nfs3_answer a, uint32_t number)
     same_answer(what, a, number, 0);
 }
 
-/* P=1, Q=0, R=0, stamp 0x01020304, clock 0x0A0B0C0D seconds and 999,999,999 nanoseconds: 100 bytes. */
-static const uint8_t smallest[100] = {
+/* P=1, Q=0, R=0, stamp 0x01020304, clock 0x0A0B0C0D seconds and 999,999,999 nanoseconds: 112 bytes. */
+static const uint8_t smallest[112] = {
     0, 0, 0, 1, 1, 2, 3, 4,                                                     /* volume: count 1, stamp */
     0, 0, 0, 1,                                                                 /* objects: 1 */
     0, 0, 0, 2, 0, 0, 0, 0, 0, 0, 1, 0xED,                                      /* a directory, generation 0, mode 493 */
@@ -25,21 +25,25 @@ static const uint8_t smallest[100] = {
     0x0A, 0x0B, 0x0C, 0x0D, 0x3B, 0x9A, 0xC9, 0xFF,                             /* ctime */
     255, 255, 255, 255, 255, 255, 255, 255, 255, 255, 255, 255, 255, 255, 255, 255, /* 16 block numbers, each 65535 */
     255, 255, 255, 255, 255, 255, 255, 255, 255, 255, 255, 255, 255, 255, 255, 255,
+    0, 0, 0, 0, 0, 0, 0, 0, 0, 0, 0, 0,                                         /* no verifier: 8 bytes and a flag of 0 */
     0, 0, 0, 0,                                                                 /* names: 0 */
     0, 0, 0, 0,                                                                 /* blocks: 0 */
 };
 
 /* The records of a store with P=3, Q=2, R=2: in the root the directory "d", and in that the file "f" of 600 bytes in the blocks 1 and 0. */
-enum { LENGTH = NFS3_STORE_LENGTH(3, 2, 2), DIRECTORY = 92, FILE_RECORD = 172, NAME_D = 256, NAME_F = 300 };
+enum { LENGTH = NFS3_STORE_LENGTH(3, 2, 2), DIRECTORY = 104, FILE_RECORD = 196, NAME_D = 292, NAME_F = 336 };
 
-static const uint8_t directory_record[80] = {
+/* Where the verifier and the flag stand in a record: both are 0 in these. */
+enum { VERIFIER = 80, FLAG = 88, RECORD = 92 };
+
+static const uint8_t directory_record[RECORD] = {
     0, 0, 0, 2, 0xFF, 0xFF, 0xFF, 0xFE, 0, 0, 0x0F, 0xFF, 0, 0, 0, 7, 0, 0, 0, 8, 0, 0, 0, 0,  /* generation 4,294,967,294, mode 4,095 */
     0, 0, 0, 1, 0, 0, 0, 0, 0, 0, 0, 2, 0, 0, 0, 0, 0, 0, 0, 3, 0x3B, 0x9A, 0xC9, 0xFF,
     255, 255, 255, 255, 255, 255, 255, 255, 255, 255, 255, 255, 255, 255, 255, 255,
     255, 255, 255, 255, 255, 255, 255, 255, 255, 255, 255, 255, 255, 255, 255, 255,
 };
 
-static const uint8_t file_record[80] = {
+static const uint8_t file_record[RECORD] = {
     0, 0, 0, 1, 0, 0, 0, 5, 0, 0, 1, 0xA4, 0, 0, 0, 7, 0, 0, 0, 8, 0, 0, 2, 0x58, /* a regular file, size 600 */
     0, 0, 0, 1, 0, 0, 0, 0, 0, 0, 0, 2, 0, 0, 0, 0, 0, 0, 0, 3, 0, 0, 0, 0,
     0, 1, 0, 0, 255, 255, 255, 255, 255, 255, 255, 255, 255, 255, 255, 255,
@@ -53,8 +57,8 @@ static uint8_t store[LENGTH];
 
 static void make_store(void) {
     same_answer("format of three objects", nfs3_format(store, LENGTH, 9, 3, 2, 2, 0, 0), NFS3_DONE, 0);
-    memcpy(store + DIRECTORY, directory_record, 80);
-    memcpy(store + FILE_RECORD, file_record, 80);
+    memcpy(store + DIRECTORY, directory_record, RECORD);
+    memcpy(store + FILE_RECORD, file_record, RECORD);
     memcpy(store + NAME_D, name_d, 44);
     memcpy(store + NAME_F, name_f, 44);
 }
@@ -67,23 +71,23 @@ static void changed(const char *what, size_t at, uint8_t byte, uint32_t number) 
 }
 
 static void formats(void) {
-    uint8_t buffer[100], before[100];
+    uint8_t buffer[112], before[112];
     memset(buffer, 0xA5, sizeof buffer);
     memcpy(before, buffer, sizeof buffer);
-    same_number("nanoseconds 1,000,000,000", nfs3_format(buffer, 100, 1, 1, 0, 0, 0, 1000000000), 3);
-    same_number("both faults", nfs3_format(buffer, 99, 1, 0, 0, 0, 0, 1000000000), 3);
+    same_number("nanoseconds 1,000,000,000", nfs3_format(buffer, 112, 1, 1, 0, 0, 0, 1000000000), 3);
+    same_number("both faults", nfs3_format(buffer, 111, 1, 0, 0, 0, 0, 1000000000), 3);
     same_number("no object", nfs3_format(buffer, 20, 1, 0, 0, 0, 0, 0), 6);
-    same_number("65 objects", nfs3_format(buffer, 100, 1, 65, 0, 0, 0, 0), 6);
-    same_number("129 names", nfs3_format(buffer, 100, 1, 1, 129, 0, 0, 0), 6);
-    same_number("1,025 blocks", nfs3_format(buffer, 100, 1, 1, 0, 1025, 0, 0), 6);
-    same_number("one byte less", nfs3_format(buffer, 99, 1, 1, 0, 0, 0, 0), 6);
-    same_bytes("refused formats", buffer, before, 100);
-    same_number("format", nfs3_format(buffer, 100, 0x01020304, 1, 0, 0, 0x0A0B0C0D, 999999999), 0);
-    same_bytes("format", buffer, smallest, 100);
-    same_number("what format left", nfs3_check(buffer, 100), 0);
-    for (size_t len = 0; len < 99; len++)
+    same_number("65 objects", nfs3_format(buffer, 112, 1, 65, 0, 0, 0, 0), 6);
+    same_number("129 names", nfs3_format(buffer, 112, 1, 1, 129, 0, 0, 0), 6);
+    same_number("1,025 blocks", nfs3_format(buffer, 112, 1, 1, 0, 1025, 0, 0), 6);
+    same_number("one byte less", nfs3_format(buffer, 111, 1, 1, 0, 0, 0, 0), 6);
+    same_bytes("refused formats", buffer, before, 112);
+    same_number("format", nfs3_format(buffer, 112, 0x01020304, 1, 0, 0, 0x0A0B0C0D, 999999999), 0);
+    same_bytes("format", buffer, smallest, 112);
+    same_number("what format left", nfs3_check(buffer, 112), 0);
+    for (size_t len = 0; len < 111; len++)
         same_answer("a shorter store", nfs3_check(buffer, len), NFS3_BAD_STORE, 0);
-    same_number("a shorter store, of any length", nfs3_check(buffer, 99), 1);
+    same_number("a shorter store, of any length", nfs3_check(buffer, 111), 1);
 }
 
 static void checks(void) {
@@ -103,6 +107,12 @@ static void checks(void) {
     changed("a block out of range", FILE_RECORD + 49, 2, 1);
     changed("a block twice", FILE_RECORD + 51, 1, 1);
     changed("an unused block number of 65534", FILE_RECORD + 53, 0xFE, 1);
+    changed("a verifier of zeros that is kept", FILE_RECORD + FLAG + 3, 1, 0);
+    changed("a flag of 2", FILE_RECORD + FLAG + 3, 2, 1);
+    changed("a flag of 256", FILE_RECORD + FLAG + 2, 1, 1);
+    changed("a verifier that is not kept", FILE_RECORD + VERIFIER, 1, 1);
+    changed("a directory with a verifier", DIRECTORY + FLAG + 3, 1, 1);
+    changed("the root with a verifier", 12 + FLAG + 3, 1, 1);
     changed("a name of length 2", NAME_F + 11, 2, 1);
     changed("a slash", NAME_F + 12, 0x2F, 1);
     changed("a dot", NAME_F + 12, 0x2E, 1);
@@ -114,17 +124,23 @@ static void checks(void) {
     changed("a directory in itself", NAME_D + 3, 1, 1);
     changed("a block's contents", LENGTH - 1, 1, 0);
     make_store();
+    store[FILE_RECORD + FLAG + 3] = 1;
+    store[FILE_RECORD + VERIFIER + 7] = 0xFF;
+    same_number("a verifier that is kept", nfs3_check(store, LENGTH), 0);
+    make_store();
     memset(store + NAME_F, 0, 44);
     same_number("an object with no name", nfs3_check(store, LENGTH), 1);
-    memset(store + FILE_RECORD, 0, 80);
+    memset(store + FILE_RECORD, 0, RECORD);
     store[FILE_RECORD + 4] = 0xFF;
     same_number("a free object with a generation", nfs3_check(store, LENGTH), 0);
+    store[FILE_RECORD + FLAG + 3] = 1;
+    same_number("a free object with a verifier", nfs3_check(store, LENGTH), 1);
 }
 
 /* Objects 1 and 2 are directories, each in the other: every rule holds but that parents lead to the root. */
 static void cycle(void) {
     make_store();
-    memcpy(store + FILE_RECORD, directory_record, 80);
+    memcpy(store + FILE_RECORD, directory_record, RECORD);
     same_number("a directory in a directory", nfs3_check(store, LENGTH), 0);
     store[NAME_D + 3] = 2;
     same_number("a cycle of two directories", nfs3_check(store, LENGTH), 1);
@@ -142,10 +158,89 @@ static void names(void) {
     same_number("a longer name", nfs3_check(store, LENGTH), 0);
 }
 
+enum { OLD_LENGTH = NFS3_OLD_STORE_LENGTH(3, 2, 2), OLD_RECORD = 80 };
+static uint8_t old[OLD_LENGTH + 1], target[LENGTH + 1], before[LENGTH + 1];
+
+/* Takes the store without the verifier and the flag of each object: in the old layout. The target gets other bytes. */
+static void make_old(void) {
+    make_store();
+    memcpy(old, store, 12);
+    for (size_t o = 0; o < 3; o++)
+        memcpy(old + 12 + OLD_RECORD * o, store + 12 + RECORD * o, OLD_RECORD);
+    memcpy(old + 12 + OLD_RECORD * 3, store + 12 + RECORD * 3, LENGTH - 12 - RECORD * 3);
+    old[OLD_LENGTH] = 0;
+    memset(target, 0xA5, sizeof target);
+    memcpy(before, target, sizeof target);
+}
+
+/* A conversion that changes nothing. */
+static void not_converted(const char *what, size_t old_len, size_t target_len, uint32_t number) {
+    same_number(what, nfs3_convert(old, old_len, target, target_len), number);
+    same_bytes(what, target, before, sizeof target);
+}
+
+/* The old store with one byte changed. */
+static void old_changed(const char *what, size_t at, uint8_t byte) {
+    make_old();
+    old[at] = byte;
+    not_converted(what, OLD_LENGTH, LENGTH, 1);
+}
+
+static void conversions(void) {
+    make_old();
+    same_number("the old store in the check", nfs3_check(old, OLD_LENGTH), 1);
+    same_number("conversion", nfs3_convert(old, OLD_LENGTH, target, LENGTH), 0);
+    same_bytes("conversion", target, store, LENGTH);
+    same_bytes("behind the target", target + LENGTH, before + LENGTH, 1);
+    same_number("what the conversion left", nfs3_check(target, LENGTH), 0);
+    make_old();
+    not_converted("a target of one byte less", OLD_LENGTH, LENGTH - 1, 6);
+    not_converted("a target of one byte more", OLD_LENGTH, LENGTH + 1, 6);
+    not_converted("a target of the old length", OLD_LENGTH, OLD_LENGTH, 6);
+    not_converted("no target", OLD_LENGTH, 0, 6);
+    for (size_t len = 0; len < OLD_LENGTH; len++)
+        same_answer("an old store that is cut", nfs3_convert(old, len, target, LENGTH), NFS3_BAD_STORE, 0);
+    not_converted("an old store that is cut, anywhere", OLD_LENGTH - 1, LENGTH, 1);
+    not_converted("an old store of one byte more", OLD_LENGTH + 1, LENGTH + 1, 1);
+    old_changed("an old store with another volume count", 3, 2);
+    old_changed("an old store with another count of objects", 11, 4);
+    old_changed("an old store whose root is a file", 15, 1);
+    old_changed("an old store with mode 8,191", 12 + OLD_RECORD + 10, 0x1F);
+    old_changed("an old store with a block twice", 12 + OLD_RECORD * 2 + 51, 1);
+    old_changed("an old store with a slash", 16 + OLD_RECORD * 3 + 12, 0x2F);
+    old_changed("an old store with a directory named twice", 16 + OLD_RECORD * 3 + 44 + 7, 1);
+    old[15] = 1;
+    not_converted("both faults", OLD_LENGTH, 0, 1);
+    make_old();
+    same_number("a store in the converter", nfs3_convert(store, LENGTH, target, LENGTH), 1);
+
+    static uint8_t smallest_old[100], made[112];
+    memcpy(smallest_old, smallest, 92);
+    same_number("the smallest", nfs3_convert(smallest_old, 100, made, NFS3_CONVERTED_LENGTH(100, 1)), 0);
+    same_bytes("the smallest", made, smallest, 112);
+}
+
+/*
+ * Bytes that are good in both layouts, as no store is that was made by format and calls: object 20 was removed, though no object before it was
+ * ever made. Its type and generation stand where the old layout has the counts of names, 0, and of blocks, 2.
+ */
+static void both_layouts(void) {
+    enum { BOTH = NFS3_STORE_LENGTH(23, 17, 0), MADE = NFS3_CONVERTED_LENGTH(BOTH, 23) };
+    static uint8_t both[BOTH], made[MADE];
+    same_answer("format of 23 objects", nfs3_format(both, BOTH, 9, 23, 17, 0, 0, 0), NFS3_DONE, 0);
+    same_number("a new store of 23 objects in the converter", nfs3_convert(both, BOTH, made, MADE), 1);
+    both[12 + RECORD * 20 + 7] = 2;
+    same_number("bytes of both layouts in the check", nfs3_check(both, BOTH), 0);
+    same_number("bytes of both layouts in the converter", nfs3_convert(both, BOTH, made, MADE), 0);
+    same_number("what the conversion left", nfs3_check(made, MADE), 0);
+}
+
 int main(void) {
     formats();
     checks();
     cycle();
     names();
+    conversions();
+    both_layouts();
     return end("check", steps);
 }

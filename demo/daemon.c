@@ -10,6 +10,8 @@
  * A Linux host mounts it, with N for the port, by
  *     mount -t nfs -o vers=3,proto=tcp,port=N,mountproto=tcp,mountport=N,nolock 127.0.0.1:/ FOLDER
  *
+ * A store of the old layout is converted when it is read, by --stamp too; the old file stays as STORE_FILE.old.
+ *
  * There is one thread and no allocation. A connection has room for one call and one reply, and the next call is read when the reply is sent.
  * Beside STORE_FILE stand STORE_FILE.lock and, within a save, STORE_FILE.new.
  */
@@ -103,7 +105,7 @@ static size_t store_len;
 static uint64_t verifier;
 
 static int directory; /* the folder of the file */
-static char name[NAME_MAX + 1], new_name[NAME_MAX + 1];
+static char name[NAME_MAX + 1], new_name[NAME_MAX + 1], old_name[NAME_MAX + 1];
 
 /* Finds the folder of the store's file, and makes sure that no other process has the store (duty 3). The lock ends with the process. */
 static void open_place(const char *path) {
@@ -113,6 +115,7 @@ static void open_place(const char *path) {
     int len = slash == NULL ? snprintf(folder, sizeof folder, ".") : snprintf(folder, sizeof folder, "%.*s", (int)(last - path), path);
     if (len >= (int)sizeof folder || *last == 0 || snprintf(name, sizeof name, "%s", last) >= (int)sizeof name ||
         snprintf(new_name, sizeof new_name, "%s.new", last) >= (int)sizeof new_name ||
+        snprintf(old_name, sizeof old_name, "%s.old", last) >= (int)sizeof old_name ||
         snprintf(lock, sizeof lock, "%s.lock", last) >= (int)sizeof lock)
         stop(path, "too long, or names no file");
     directory = open(folder, O_RDONLY | O_DIRECTORY | O_CLOEXEC);
@@ -124,25 +127,25 @@ static void open_place(const char *path) {
 }
 
 /*
- * Reads at most so many bytes of the store's file and gives their number, or -1 where there is no file. Brings them to stable storage. A link is
- * refused: it is a second name, with another lock.
+ * Reads at most so many bytes of a file in the store's folder and gives their number, or -1 where there is no file. Brings them to stable storage.
+ * A link is refused: it is a second name, with another lock.
  */
-static ssize_t read_file(uint8_t *bytes, size_t most) {
-    int fd = openat(directory, name, O_RDONLY | O_NOFOLLOW | O_CLOEXEC);
+static ssize_t read_file(const char *file, uint8_t *bytes, size_t most) {
+    int fd = openat(directory, file, O_RDONLY | O_NOFOLLOW | O_CLOEXEC);
     if (fd < 0 && errno == ENOENT)
         return -1;
     if (fd < 0)
-        failed(name);
+        failed(file);
     size_t len = 0;
     ssize_t n = 1;
     while (len < most && n > 0) {
         n = read(fd, bytes + len, most - len);
         if (n < 0)
-            failed(name);
+            failed(file);
         len += (size_t)n;
     }
     if (fsync(fd) != 0 || fsync(directory) != 0)
-        failed(name);
+        failed(file);
     close(fd);
     return (ssize_t)len;
 }
@@ -167,24 +170,52 @@ static void save(void) {
     memcpy(saved, store, store_len);
 }
 
-/* Duty 3. A store that fails its check is left as it is. */
+/* Duty 3: makes the store of the bytes of one in the old layout. False where they are none. */
+static bool convert(const uint8_t *old, size_t old_len) {
+    if (old_len < NFS3_FIXED_LENGTH)
+        return false;
+    store_len = NFS3_CONVERTED_LENGTH(old_len, get_word(old + NFS3_OBJECT_COUNT_OFFSET));
+    return store_len <= sizeof store && nfs3_convert(old, old_len, store, store_len).number == NFS3_DONE;
+}
+
+/* Duty 3: keeps the file of the old layout under a second name, on stable storage. A process that was stopped here may have done so before. */
+static void keep_old_file(const uint8_t *old, size_t old_len) {
+    static uint8_t other[NFS3_OLD_STORE_MOST + 1];
+    if (linkat(directory, name, directory, old_name, 0) != 0) {
+        if (errno != EEXIST)
+            failed(old_name);
+        if (read_file(old_name, other, sizeof other) != (ssize_t)old_len || memcmp(other, old, old_len) != 0)
+            stop(old_name, "another file than the store to be converted has this name; move it away");
+    }
+    if (fsync(directory) != 0)
+        failed(old_name);
+}
+
+/* Duty 3. A store of the old layout is converted; one that fails its check is left as it is. */
 static void load(void) {
     static uint8_t bytes[NFS3_STORE_MOST + 1];
-    ssize_t len = read_file(bytes, sizeof bytes);
+    ssize_t len = read_file(name, bytes, sizeof bytes);
     if (len < 0)
         stop(name, "no such file");
-    if (nfs3_check(bytes, (size_t)len).number != NFS3_DONE)
+    if (nfs3_check(bytes, (size_t)len).number == NFS3_DONE) {
+        store_len = (size_t)len;
+        memcpy(store, bytes, store_len);
+        memcpy(saved, bytes, store_len);
+    } else if (convert(bytes, (size_t)len)) {
+        keep_old_file(bytes, (size_t)len);
+        save();
+        if (can_report())
+            fprintf(stderr, "daemon: %s: converted from the old layout; the old file is %s\n", name, old_name);
+    } else {
         stop(name, "no store that passes its check");
-    store_len = (size_t)len;
-    memcpy(store, bytes, store_len);
-    memcpy(saved, bytes, store_len);
+    }
     put_random(&verifier, sizeof verifier); /* in a million starts two are the same with a chance below 1 in 30 million */
 }
 
 /* A stamp other than the one in the file, whatever the file is. The chance that it is one of n stamps before that is n in 4,294,967,296. */
 static uint32_t new_stamp(void) {
     uint8_t old[NFS3_STAMP_OFFSET + NFS3_STAMP_LENGTH];
-    bool is_old = read_file(old, sizeof old) == (ssize_t)sizeof old;
+    bool is_old = read_file(name, old, sizeof old) == (ssize_t)sizeof old;
     uint32_t stamp;
     do
         put_random(&stamp, sizeof stamp);

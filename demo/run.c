@@ -3,7 +3,9 @@
  * words of call and reply), and compares answers, replies and the store with bytes written out here from the rules and RFC 1813. Exits 1 on a
  * difference.
  *
- * Two bag tags are files of the root: 0123456789 and 123456789. The first is removed; its handle is stale then, and the second is as it was.
+ * Two bag tags are files of the root: 0123456789 and 123456789. The second is made EXCLUSIVE: sent again, its CREATE is answered in the same way,
+ * and another host's is refused. The first is removed; its handle is stale then, and the second is as it was. At last SETATTR gives the second a
+ * mode; from then on its CREATE is refused too.
  */
 #include "same.h"
 
@@ -19,8 +21,8 @@
 /* The head of a reply: xid, reply, accepted, no verifier, success. */
 #define REPLY(xid) W(xid), W(1), W(0), W(0), W(0), W(0)
 
-enum { GETATTR = 1, READ = 6, WRITE = 7, CREATE = 8, REMOVE = 12, READDIR = 16 };
-enum { OK = 0, STALE = 70 };
+enum { GETATTR = 1, SETATTR = 2, READ = 6, WRITE = 7, CREATE = 8, REMOVE = 12, READDIR = 16 };
+enum { OK = 0, EXIST = 17, STALE = 70 };
 
 /* A handle: its length, then the store's stamp, object and generation. */
 #define STAMP 0x01020304
@@ -39,18 +41,22 @@ enum { OK = 0, STALE = 70 };
 #define HYPER(n) W(0), W(n)
 #define TIME(seconds) W(seconds), W(0)
 
-/* Attributes (fattr3): type, mode, nlink, uid, gid, size, used, rdev, fsid, fileid, atime, mtime, ctime. A change sets mtime and ctime alike. */
-#define ATTRIBUTES(type, mode, nlink, size, used, fileid, atime, changed)                                                                     \
-    W(type), W(mode), W(nlink), W(0), W(0), HYPER(size), HYPER(used), W(0), W(0), HYPER(STAMP), HYPER(fileid), TIME(atime), TIME(changed),    \
-        TIME(changed)
-#define ROOT_ATTRIBUTES(changed) ATTRIBUTES(2, 493, 2, 512, 0, 1, 1000, changed)
-#define FILE_ATTRIBUTES(size, used, fileid, made, changed) ATTRIBUTES(1, 420, 1, size, used, fileid, made, changed)
+/* Attributes (fattr3): type, mode, nlink, uid, gid, size, used, rdev, fsid, fileid, atime, mtime, ctime. Most changes set mtime and ctime alike. */
+#define ATTRIBUTES(type, mode, nlink, size, used, fileid, atime, mtime, ctime)                                                                \
+    W(type), W(mode), W(nlink), W(0), W(0), HYPER(size), HYPER(used), W(0), W(0), HYPER(STAMP), HYPER(fileid), TIME(atime), TIME(mtime),      \
+        TIME(ctime)
+#define ROOT_ATTRIBUTES(changed) ATTRIBUTES(2, 493, 2, 512, 0, 1, 1000, changed, changed)
+#define FIRST_ATTRIBUTES(size, used, changed) ATTRIBUTES(1, 420, 1, size, used, 2, 1001, changed, changed)
+#define SECOND_ATTRIBUTES(size, used, changed) ATTRIBUTES(1, 0, 1, size, used, 3, 1002, changed, changed)
 
 /* Attributes before a change (wcc_attr), present. */
 #define BEFORE(size, changed) W(1), HYPER(size), TIME(changed), TIME(changed)
 
-/* CREATE's last arguments: GUARDED, mode 420, nothing else set. */
-#define GUARDED_420 W(1), W(1), W(420), W(0), W(0), W(0), W(0), W(0)
+/* CREATE's last arguments: GUARDED with mode 420 and nothing else set, and EXCLUSIVE with the verifier of this host, or of another. */
+#define MODE_420 W(1), W(420), W(0), W(0), W(0), W(0), W(0)
+#define GUARDED_420 W(1), MODE_420
+#define EXCLUSIVE W(2), W(0xFEDCBA98), W(0x76543210)
+#define EXCLUSIVE_OTHER W(2), W(0xFEDCBA98), W(0x76543211)
 
 /* An entry of READDIR before its name. */
 #define ENTRY(fileid) W(1), HYPER(fileid)
@@ -62,18 +68,18 @@ enum { OK = 0, STALE = 70 };
 
 /* Three objects, two names, two blocks. */
 enum { OBJECTS = 3, NAMES = 2, BLOCKS = 2, LENGTH = NFS3_STORE_LENGTH(OBJECTS, NAMES, BLOCKS) };
-enum { NAME_0 = 16 + 80 * OBJECTS, NAME_1 = NAME_0 + 44, BLOCK_0 = NAME_1 + 48, BLOCK_1 = BLOCK_0 + 512 };
+enum { RECORD = 92, VERIFIER_AT = 80, NAME_0 = 16 + RECORD * OBJECTS, NAME_1 = NAME_0 + 44, BLOCK_0 = NAME_1 + 48, BLOCK_1 = BLOCK_0 + 512 };
 #define NO_BLOCKS_4 255, 255, 255, 255, 255, 255, 255, 255
 
-/* The store at the end: object 1, its name and its block are free and zero, but for the generation, which is raised by one. */
+/* The store at the end: no verifier is kept; object 1, its name and its block are free and zero, but for the generation, which is raised by one. */
 static const uint8_t last[LENGTH] = {
     W(1), W(STAMP),
     W(OBJECTS),
     W(2), W(0), W(493), W(0), W(0), W(0), TIME(1000), TIME(1005), TIME(1005), NO_BLOCKS_4, NO_BLOCKS_4, NO_BLOCKS_4, NO_BLOCKS_4,
-    W(0), W(1),
-    [12 + 80 * 2] = W(1), W(0), W(420), W(0), W(0), W(10), TIME(1002), TIME(1004), TIME(1004),
+    [12 + RECORD * 1] = W(0), W(1),
+    [12 + RECORD * 2] = W(1), W(0), W(420), W(0), W(0), W(10), TIME(1002), TIME(1004), TIME(1008),
     0, 1, 255, 255, 255, 255, 255, 255, NO_BLOCKS_4, NO_BLOCKS_4, NO_BLOCKS_4,
-    W(NAMES),
+    [NAME_0 - 4] = W(NAMES),
     [NAME_1] = W(0), W(2), SECOND_NAME,
     [BLOCK_0 - 4] = W(BLOCKS),
     [BLOCK_1] = 'T', 'R', 'D', ' ', 'g', 'a', 't', 'e', ' ', '7',
@@ -101,6 +107,7 @@ static void print_text(const uint8_t *bytes, size_t len) {
 static const char *procedure_name(uint32_t procedure) {
     switch (procedure) {
     case GETATTR: return "GETATTR";
+    case SETATTR: return "SETATTR";
     case READ: return "READ";
     case WRITE: return "WRITE";
     case CREATE: return "CREATE";
@@ -113,6 +120,7 @@ static const char *procedure_name(uint32_t procedure) {
 static const char *status_name(uint32_t status) {
     switch (status) {
     case OK: return "OK";
+    case EXIST: return "EXIST";
     case STALE: return "STALE";
     default: return "another";
     }
@@ -145,6 +153,8 @@ static void tell_result(uint32_t procedure, size_t len) {
         printf("%u bytes: ", (unsigned)word(reply, 124));
         print_text(reply + 128, word(reply, 124));
     }
+    if (procedure == SETATTR && len == 144)
+        printf("mode %o", (unsigned)word(reply, 64));
     if (procedure == REMOVE && len == 144)
         printf("the name is free again");
     if (procedure == READDIR)
@@ -163,6 +173,8 @@ static void tell(const char *about, uint32_t procedure, struct nfs3_answer a) {
         tell_result(procedure, a.length);
     else if (word(reply, 24) == STALE)
         printf("the handle of a file that is no more");
+    else if (word(reply, 24) == EXIST)
+        printf("the name is taken");
     printf("\n");
 }
 
@@ -191,16 +203,16 @@ static void send(const char *about, uint32_t seconds, const uint8_t *call, size_
 
 static void make(void) {
     static const uint8_t create_first[] = { CALL(1, CREATE), ROOT, FIRST_NAME, GUARDED_420 };
-    static const uint8_t created_first[] = { REPLY(1), W(OK), W(1), FIRST, W(1), FILE_ATTRIBUTES(0, 0, 2, 1001, 1001),
+    static const uint8_t created_first[] = { REPLY(1), W(OK), W(1), FIRST, W(1), FIRST_ATTRIBUTES(0, 0, 1001),
                                              BEFORE(512, 1000), W(1), ROOT_ATTRIBUTES(1001) };
-    static const uint8_t create_second[] = { CALL(2, CREATE), ROOT, SECOND_NAME, GUARDED_420 };
-    static const uint8_t created_second[] = { REPLY(2), W(OK), W(1), SECOND, W(1), FILE_ATTRIBUTES(0, 0, 3, 1002, 1002),
+    static const uint8_t create_second[] = { CALL(2, CREATE), ROOT, SECOND_NAME, EXCLUSIVE };
+    static const uint8_t created_second[] = { REPLY(2), W(OK), W(1), SECOND, W(1), SECOND_ATTRIBUTES(0, 0, 1002),
                                               BEFORE(512, 1001), W(1), ROOT_ATTRIBUTES(1002) };
     static const uint8_t write_first[] = { CALL(3, WRITE), FIRST, HYPER(0), W(11), W(FILE_SYNC), FIRST_DATA };
-    static const uint8_t wrote_first[] = { REPLY(3), W(OK), BEFORE(0, 1001), W(1), FILE_ATTRIBUTES(11, 512, 2, 1001, 1003),
+    static const uint8_t wrote_first[] = { REPLY(3), W(OK), BEFORE(0, 1001), W(1), FIRST_ATTRIBUTES(11, 512, 1003),
                                            W(11), W(FILE_SYNC), W(0x11223344), W(0x55667788) };
     static const uint8_t write_second[] = { CALL(4, WRITE), SECOND, HYPER(0), W(10), W(FILE_SYNC), SECOND_DATA };
-    static const uint8_t wrote_second[] = { REPLY(4), W(OK), BEFORE(0, 1002), W(1), FILE_ATTRIBUTES(10, 512, 3, 1002, 1004),
+    static const uint8_t wrote_second[] = { REPLY(4), W(OK), BEFORE(0, 1002), W(1), SECOND_ATTRIBUTES(10, 512, 1004),
                                             W(10), W(FILE_SYNC), W(0x11223344), W(0x55667788) };
     SEND("0123456789", 1001, create_first, created_first);
     SEND("123456789", 1002, create_second, created_second);
@@ -208,14 +220,27 @@ static void make(void) {
     SEND("123456789", 1004, write_second, wrote_second);
 }
 
+/* Hosts that make the second tag EXCLUSIVE, while it is there: the one that made it, with its verifier, and another one. */
+static void make_again(void) {
+    static const uint8_t create_again[] = { CALL(15, CREATE), ROOT, SECOND_NAME, EXCLUSIVE };
+    static const uint8_t created_again[] = { REPLY(15), W(OK), W(1), SECOND, W(1), SECOND_ATTRIBUTES(10, 512, 1004),
+                                             BEFORE(512, 1002), W(1), ROOT_ATTRIBUTES(1002) };
+    static const uint8_t create_other[] = { CALL(16, CREATE), ROOT, SECOND_NAME, EXCLUSIVE_OTHER };
+    static const uint8_t not_created[] = { REPLY(16), W(EXIST), BEFORE(512, 1002), W(1), ROOT_ATTRIBUTES(1002) };
+    static const uint8_t kept[] = { W(0xFEDCBA98), W(0x76543210), W(1) };
+    SEND("123456789", 1005, create_again, created_again);
+    SEND("123456789", 1005, create_other, not_created);
+    same_bytes("the verifier in the store", store + 12 + RECORD * 2 + VERIFIER_AT, kept, sizeof kept);
+}
+
 static void look(void) {
     static const uint8_t list[] = { CALL(5, READDIR), ROOT, HYPER(0), HYPER(0), W(4096) };
     static const uint8_t listed[] = { REPLY(5), W(OK), W(1), ROOT_ATTRIBUTES(1002), HYPER(0), DOTS, ENTRY(2), FIRST_NAME, HYPER(3),
                                       ENTRY(3), SECOND_NAME, HYPER(4), W(0), W(1) };
     static const uint8_t read_first[] = { CALL(6, READ), FIRST, HYPER(0), W(4096) };
-    static const uint8_t got_first[] = { REPLY(6), W(OK), W(1), FILE_ATTRIBUTES(11, 512, 2, 1001, 1003), W(11), W(1), FIRST_DATA };
+    static const uint8_t got_first[] = { REPLY(6), W(OK), W(1), FIRST_ATTRIBUTES(11, 512, 1003), W(11), W(1), FIRST_DATA };
     static const uint8_t read_second[] = { CALL(7, READ), SECOND, HYPER(0), W(4096) };
-    static const uint8_t got_second[] = { REPLY(7), W(OK), W(1), FILE_ATTRIBUTES(10, 512, 3, 1002, 1004), W(10), W(1), SECOND_DATA };
+    static const uint8_t got_second[] = { REPLY(7), W(OK), W(1), SECOND_ATTRIBUTES(10, 512, 1004), W(10), W(1), SECOND_DATA };
     SEND("the root", 1005, list, listed);
     SEND("0123456789", 1005, read_first, got_first);
     SEND("123456789", 1005, read_second, got_second);
@@ -240,12 +265,21 @@ static void look_again(void) {
     static const uint8_t list[] = { CALL(12, READDIR), ROOT, HYPER(0), HYPER(0), W(4096) };
     static const uint8_t listed[] = { REPLY(12), W(OK), W(1), ROOT_ATTRIBUTES(1005), HYPER(0), DOTS, ENTRY(3), SECOND_NAME, HYPER(4), W(0), W(1) };
     static const uint8_t getattr_second[] = { CALL(13, GETATTR), SECOND };
-    static const uint8_t attributes_second[] = { REPLY(13), W(OK), FILE_ATTRIBUTES(10, 512, 3, 1002, 1004) };
+    static const uint8_t attributes_second[] = { REPLY(13), W(OK), SECOND_ATTRIBUTES(10, 512, 1004) };
     static const uint8_t read_second[] = { CALL(14, READ), SECOND, HYPER(0), W(4096) };
-    static const uint8_t got_second[] = { REPLY(14), W(OK), W(1), FILE_ATTRIBUTES(10, 512, 3, 1002, 1004), W(10), W(1), SECOND_DATA };
+    static const uint8_t got_second[] = { REPLY(14), W(OK), W(1), SECOND_ATTRIBUTES(10, 512, 1004), W(10), W(1), SECOND_DATA };
     SEND("the root", 1007, list, listed);
     SEND("123456789", 1007, getattr_second, attributes_second);
     SEND("123456789", 1007, read_second, got_second);
+}
+
+static void settle(void) {
+    static const uint8_t set_mode[] = { CALL(17, SETATTR), SECOND, MODE_420, W(0) };
+    static const uint8_t mode_set[] = { REPLY(17), W(OK), BEFORE(10, 1004), W(1), ATTRIBUTES(1, 420, 1, 10, 512, 3, 1002, 1004, 1008) };
+    static const uint8_t create_again[] = { CALL(18, CREATE), ROOT, SECOND_NAME, EXCLUSIVE };
+    static const uint8_t not_created[] = { REPLY(18), W(EXIST), BEFORE(512, 1005), W(1), ROOT_ATTRIBUTES(1005) };
+    SEND("123456789", 1008, set_mode, mode_set);
+    SEND("123456789", 1009, create_again, not_created);
 }
 
 int main(int argc, char **argv) {
@@ -257,9 +291,11 @@ int main(int argc, char **argv) {
     printf("format   %d objects, %d names, %d blocks: %d bytes\n", OBJECTS, NAMES, BLOCKS, LENGTH);
     same_answer("format", nfs3_format(store, LENGTH, STAMP, OBJECTS, NAMES, BLOCKS, 1000, 0), NFS3_DONE, 0);
     make();
+    make_again();
     look();
     take_away();
     look_again();
+    settle();
     printf("check    the store, and each of its %d bytes\n", LENGTH);
     same_answer("the check", nfs3_check(store, LENGTH), NFS3_DONE, 0);
     same_bytes("the store", store, last, LENGTH);

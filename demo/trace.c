@@ -5,6 +5,7 @@
  *     sync INODE DIGEST PATH      fsync or fdatasync of a file; the digest is of the bytes in the file
  *     syncdir PATH                fsync or fdatasync of a directory
  *     rename INODE DIGEST PATH    a file was renamed to this path
+ *     link INODE DIGEST PATH      a file got this path as a second one
  *     send INODE DIGEST           bytes are about to be sent on a socket; inode and digest are those of the file TRACE_STORE
  *     failed PATH                 fsync or fdatasync was made to fail
  *
@@ -125,16 +126,16 @@ int fdatasync(int fd) {
     return sync_with(NEXT(int (*)(int), "fdatasync"), fd);
 }
 
-/* ---- Renaming ---- */
+/* ---- Renaming and linking ---- */
 
-static void renamed(int directory, const char *path) {
+static void named(const char *what, int directory, const char *path) {
     char file[64], whole[4096];
     int fd = openat(directory, path, O_RDONLY | O_CLOEXEC);
     if (fd >= 0) {
         describe(fd, file);
         path_of(fd, whole);
         close(fd);
-        note("rename", file, whole);
+        note(what, file, whole);
     }
 }
 
@@ -142,7 +143,7 @@ int renameat2(int from, const char *old, int to, const char *path, unsigned flag
     moment();
     int result = NEXT(int (*)(int, const char *, int, const char *, unsigned), "renameat2")(from, old, to, path, flags);
     if (result == 0)
-        renamed(to, path);
+        named("rename", to, path);
     moment();
     return result;
 }
@@ -153,6 +154,19 @@ int renameat(int from, const char *old, int to, const char *path) {
 
 int rename(const char *old, const char *path) {
     return renameat2(AT_FDCWD, old, AT_FDCWD, path, 0);
+}
+
+int linkat(int from, const char *old, int to, const char *path, int flags) {
+    moment();
+    int result = NEXT(int (*)(int, const char *, int, const char *, int), "linkat")(from, old, to, path, flags);
+    if (result == 0)
+        named("link", to, path);
+    moment();
+    return result;
+}
+
+int link(const char *old, const char *path) {
+    return linkat(AT_FDCWD, old, AT_FDCWD, path, 0);
 }
 
 /* ---- Writing and sending ---- */

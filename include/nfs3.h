@@ -2,7 +2,7 @@
  * nfs3.h: a file store served over NFS version 3 (RFC 1813), for a daemon in C.
  *
  * The library answers RPC messages. It has no socket, no file and no clock: the daemon lends it the bytes of a call, of the store and of a
- * reply space, and tells it the time. The three functions at the end of this file are proved to give, for any bytes, exactly the answer, the
+ * reply space, and tells it the time. The four functions at the end of this file are proved to give, for any bytes, exactly the answer, the
  * reply and the store that the specification gives. What a daemon does around them is not proved: demo/daemon.c is an example of it, which is
  * tested (demo/daemon_test); its socket and its file are no part of the verified library. Paths are those of the library's repository.
  *
@@ -31,12 +31,20 @@
  *    store's own file, since each save puts another file in its place: lock a file beside it, which stays. Different daemons exclude each other
  *    only with the same lock; that of demo/daemon.c is flock of the store's name with ".lock" added. (A lock of fcntl ends when any descriptor of
  *    the lock file is closed.) Refuse or resolve a symbolic link: it is a second name with another lock, and a save replaces it. A hard link is
- *    one too: have none. Then read the file: its length is the store's; refuse more than NFS3_STORE_MOST. What a stopped save left beside it is
- *    never read. Ask nfs3_check: where the answer is not NFS3_DONE, stop and leave the file as it is. Before the first reply bring the file and
- *    its directory to stable storage (fsync of both): the process before may have been stopped within a save, and what is read now is told to
- *    hosts. Take a verifier that was never used before: 64 random bits, or a counter on stable storage.
+ *    one too: have none but that of a conversion (below). Then read the file: its length is the store's; refuse more than NFS3_STORE_MOST. What
+ *    a stopped save left beside it is never read. Ask nfs3_check: where the answer is not NFS3_DONE, it may be a store of the old layout
+ *    (below); else stop and leave the file as it is. Before the first reply bring the file and its directory to stable storage (fsync of both):
+ *    the process before may have been stopped within a save, and what is read now is told to hosts. Take a verifier that was never used before:
+ *    64 random bits, or a counter on stable storage.
  *    OTHERWISE: two processes save over each other; and a host that sees the same verifier before and after a restart concludes that nothing was
  *    lost in between, and does not send its writes again.
+ *
+ *    A store of the old layout (see "Editions") is converted once, at the start, under the lock. First nfs3_check, then nfs3_convert, never the
+ *    other way round. Where nfs3_convert answers NFS3_DONE, give the file a second name that no other file has (link), fsync the directory, and
+ *    save the new store under the store's name (duty 7). A stop at any point leaves the old store or the new one under the store's name, and the
+ *    old one under one of the two. Where a file has the second name already, go on only if it has the same bytes, as it has after such a stop.
+ *    Hosts go on with their handles and notice nothing. The file that is kept is an older copy from the first reply on: duty 2.
+ *    OTHERWISE: a stop while the old file is moved away, or written over, leaves no store at all.
  *
  * 4. Receiving. A call is one RPC message (RFC 5531).
  *    UDP: one datagram is one message. Receive it into more than NFS3_CALL_MOST bytes, or a longer one is cut short and taken for another call.
@@ -56,7 +64,10 @@
  *    bytes. To a call that is the same in both send the kept reply, without nfs3_call. Other bytes under the same xid are a new call. Keep at
  *    least the last 200 replies, of all hosts together, for at least 2 minutes, whichever ends first, by a clock that is never set
  *    (CLOCK_MONOTONIC); sending a kept reply does not renew it. Not for ever: a program that starts again may use its xids again. With several
- *    threads, a call that is still being answered is not done a second time. Replies that are kept in memory are lost when the daemon stops.
+ *    threads, a call that is still being answered is not done a second time. Replies that are kept in memory are lost when the daemon stops. One
+ *    call is recognised by the library too: an EXCLUSIVE CREATE, by the verifier that the host sends with it and the store keeps with the file.
+ *    With the same verifier it is answered OK with the same handle, after a restart too, until a SETATTR of the file is answered OK. Keep its
+ *    reply as well: hosts send that SETATTR at once.
  *    OTHERWISE: a host whose reply was lost is told EXIST for the lock file that it made itself, or NOENT for the file that it removed itself; a
  *    late WRITE undoes a newer one; and a REMOVE that was answered NOENT, sent again, removes a file that was made since.
  *
@@ -102,14 +113,18 @@
  *
  * Memory: they read and write the lent bytes and their own stack, and nothing else. There is no allocation, no static data but constants, no lock,
  *   no system call; they keep no pointer.
- * Time: each ends, whatever the bytes. A call checks the whole store first, which takes a few microseconds for the largest one.
+ * Time: each ends, whatever the bytes. A call checks the whole store first, which takes a few microseconds for the largest one; to convert that
+ *   takes some 20 microseconds.
  * Threads: they are reentrant, and may run at once on different stores. One store is used by one call at a time, and not saved within
  *   one; simplest is a lock that holds from the call until the store is saved.
- * Stack: at most NFS3_STACK bytes, see there.
+ * Stack: at most NFS3_STACK bytes, and NFS3_CONVERT_STACK for nfs3_convert, see there.
  * Pointers: not null, even where the length is 0; no alignment is needed; the buffers of one call do not overlap.
  * Platform: x86-64 with the System V calling convention (Linux). The bytes of a store do not depend on the platform.
- * Editions: the bytes of a store are those of one edition, and no version stands in them. In a later one object records may be longer; a
- *   converter would be declared in its nfs3.h.
+ * Editions: the bytes of a store are those of one layout, and no version stands in them. In the layout of this edition an object record has 92
+ *   bytes. In the OLD LAYOUT, that of the edition before, it has 80, and all else is the same; nfs3_convert makes a store of this layout of
+ *   one in the old layout. Tell them apart by asking nfs3_check first, and nfs3_convert where that fails. No store that was made by format
+ *   and calls, of either edition, is good in both layouts; bytes that were made in another way can be, and count as a store of this layout.
+ *   The edition before refuses a store of this layout.
  */
 #ifndef NFS3_H
 #define NFS3_H
@@ -146,15 +161,29 @@ extern "C" {
 
 /* The lengths that a store is made of: what is there in any store, and each object, name record and block. */
 #define NFS3_FIXED_LENGTH 20
-#define NFS3_OBJECT_LENGTH 80
+#define NFS3_OBJECT_LENGTH 92
 #define NFS3_NAME_RECORD_LENGTH 44
 #define NFS3_BLOCK_LENGTH 512
 
-/* The exact length of a store with so many objects, name records and blocks, and the greatest one: 535,060 bytes. */
+/* The exact length of a store with so many objects, name records and blocks, and the greatest one: 535,828 bytes. */
 #define NFS3_STORE_LENGTH(objects, names, blocks)                                                                                              \
     ((size_t)NFS3_FIXED_LENGTH + (size_t)NFS3_OBJECT_LENGTH * (objects) + (size_t)NFS3_NAME_RECORD_LENGTH * (names) +                          \
      (size_t)NFS3_BLOCK_LENGTH * (blocks))
 #define NFS3_STORE_MOST NFS3_STORE_LENGTH(NFS3_OBJECTS_MOST, NFS3_NAMES_MOST, NFS3_BLOCKS_MOST)
+
+/* The same for the old layout: the length of an object, that of a store with so many of each, and the greatest one: 535,060 bytes. */
+#define NFS3_OLD_OBJECT_LENGTH 80
+#define NFS3_OLD_STORE_LENGTH(objects, names, blocks)                                                                                          \
+    ((size_t)NFS3_FIXED_LENGTH + (size_t)NFS3_OLD_OBJECT_LENGTH * (objects) + (size_t)NFS3_NAME_RECORD_LENGTH * (names) +                      \
+     (size_t)NFS3_BLOCK_LENGTH * (blocks))
+#define NFS3_OLD_STORE_MOST NFS3_OLD_STORE_LENGTH(NFS3_OBJECTS_MOST, NFS3_NAMES_MOST, NFS3_BLOCKS_MOST)
+
+/* Where the number of objects stands in a store of either layout, most significant byte first, and its length. */
+#define NFS3_OBJECT_COUNT_OFFSET 8
+#define NFS3_OBJECT_COUNT_LENGTH 4
+
+/* The exact length of the store that nfs3_convert makes of one in the old layout with so many bytes and objects. */
+#define NFS3_CONVERTED_LENGTH(old_len, objects) ((size_t)(old_len) + (size_t)(NFS3_OBJECT_LENGTH - NFS3_OLD_OBJECT_LENGTH) * (objects))
 
 /* Where the stamp stands in a store, most significant byte first, and its length. */
 #define NFS3_STAMP_OFFSET 4
@@ -176,14 +205,21 @@ extern "C" {
 #define NFS3_CREDENTIAL_MOST 400
 
 /*
- * The stack that a function uses at most. Measured: about 2,500 bytes for a call, 1,900 for the check and 100 for a format, the most over all
- * calls, checks and formats of the vectors in crates/vectors/data, each run on a stack that was filled with one byte before; demo/stack does so
- * and fails where the bound is not twice as much. The frames of all functions in the library's machine code, added up, have below 5,000 bytes;
- * it has no recursion and calls nothing outside it but memset.
+ * The stack that a function uses at most, but for nfs3_convert. Measured: about 2,500 bytes for a call, 1,900 for the check and 100 for a format,
+ * the most over all calls, checks and formats of the vectors in crates/vectors/data, each run on a stack that was filled with one byte before;
+ * demo/stack does so and fails where the bound is not twice as much. The frames of these functions in the library's machine code, added up,
+ * have below 5,000 bytes; there is no recursion, and nothing outside the library is called but memset.
  */
 #define NFS3_STACK 8192
 
-/* The number of an answer, and the length of the reply: 0 for every number but NFS3_DONE, and for the check and format. */
+/*
+ * The stack that nfs3_convert uses at most. It makes the new store up to its blocks in its own frame, which has 11,540 bytes for that in each call,
+ * and checks it there before it writes to the target. Measured by demo/stack in the same way: about 13,600 bytes; it fails where the bound is not
+ * twice as much.
+ */
+#define NFS3_CONVERT_STACK 32768
+
+/* The number of an answer, and the length of the reply: 0 for every number but NFS3_DONE, and for the check, format and the converter. */
 struct nfs3_answer {
     uint32_t number;
     uint32_t length;
@@ -192,16 +228,19 @@ struct nfs3_answer {
 /*
  * The numbers of answers. All but NFS3_DONE leave every byte of every buffer as it was, and there is no reply.
  *   NFS3_DONE         of a call: save the store where it changed (duty 7), keep the reply where the procedure is one of the seven of duty 5, then
- *                     send it. Of the check: the store is good. Of format: it is made; save it.
- *   NFS3_BAD_STORE    the bytes are no store that passes its check. Send nothing and stop. At the start: it is another file, or a damaged one;
- *                     bring back a copy (duty 2). Later on: something else wrote into the store's memory.
+ *                     send it. Of the check: the store is good. Of format: it is made; save it. Of the converter: the new store is made; keep
+ *                     the old file and save the new one (duty 3).
+ *   NFS3_BAD_STORE    the bytes are no store that passes its check. Send nothing and stop. At the start: ask nfs3_convert (duty 3). Where that
+ *                     says the same, it is another file, or a damaged one; bring back a copy (duty 2). Later on: something else wrote into the
+ *                     store's memory.
  *   NFS3_SMALL_REPLY  the reply space has less than NFS3_REPLY_SPACE bytes: a fault of the daemon. Send nothing and stop.
  *   NFS3_BAD_CLOCK    the nanoseconds are NFS3_NANOSECONDS or more: a fault of the daemon. Send nothing and stop.
  *   NFS3_LONG_CALL    the call has more than NFS3_CALL_MOST bytes. Send nothing, report it; over TCP close the connection. No host that keeps to
  *                     what FSINFO told it sends such a call.
  *   NFS3_NO_CALL      the message is no RPC call with a complete header; an empty message or one of type REPLY is none either. Send nothing,
  *                     report it; over TCP close the connection, since the marks are no longer to be trusted; over UDP drop the datagram.
- *   NFS3_BAD_FORMAT   of format: a count is out of range, or the length is not NFS3_STORE_LENGTH of the counts.
+ *   NFS3_BAD_FORMAT   of format: a count is out of range, or the length is not NFS3_STORE_LENGTH of the counts. Of the converter: the old store is
+ *                     good, and the target's length is not NFS3_CONVERTED_LENGTH: a fault of the daemon. Stop; the old file is as it was.
  * Treat a number that is not among these like NFS3_BAD_STORE: later editions may add some.
  */
 enum nfs3_number {
@@ -235,6 +274,18 @@ struct nfs3_answer nfs3_check(const uint8_t *store, size_t store_len);
  */
 struct nfs3_answer nfs3_format(uint8_t *store, size_t store_len, uint32_t stamp, uint32_t objects, uint32_t names, uint32_t blocks,
                                uint32_t seconds, uint32_t nanoseconds);
+
+/*
+ * Makes of a store in the old layout the same store in this one: with the same stamp, counts, objects, generations, attributes, names and bytes of
+ * files, and no verifier of an EXCLUSIVE CREATE. So every handle goes on naming its object, and one that is STALE stays so.
+ * The first of these that holds: NFS3_BAD_STORE, where the old bytes are no store that passes the check of the old layout (any bytes may be
+ * lent); NFS3_BAD_FORMAT, where store_len is not exactly NFS3_CONVERTED_LENGTH; else NFS3_DONE, with every byte of the target written, and the
+ * check passes on it. The length in the answer is 0.
+ * How to call it: where the file has fewer than NFS3_FIXED_LENGTH bytes, or NFS3_CONVERTED_LENGTH of its length and of the number at
+ * NFS3_OBJECT_COUNT_OFFSET is above NFS3_STORE_MOST, it is no such store. Else lend that length of a target with NFS3_STORE_MOST bytes. The two
+ * buffers do not overlap: there is no conversion in place. Ask nfs3_check first (duty 3), and convert nothing that passes it.
+ */
+struct nfs3_answer nfs3_convert(const uint8_t *old, size_t old_len, uint8_t *store, size_t store_len);
 
 #ifdef __cplusplus
 }
