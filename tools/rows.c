@@ -3,7 +3,7 @@
  *
  *     rows small|full OPERATION TIMES
  *
- * Ends with status 1 where a call is not answered OK.
+ * EXCLUSIVE is a CREATE that comes again: the last file of the store is made by it. Ends with status 1 where a call is not answered OK.
  */
 #include "nfs3.h"
 
@@ -13,8 +13,8 @@
 
 enum { GETATTR = 1, SETATTR = 2, LOOKUP = 3, READ = 6, WRITE = 7, CREATE = 8, REMOVE = 12, READDIR = 16, FSSTAT = 18, STAMP = 7 };
 
-static uint8_t store[NFS3_STORE_MOST], reply[NFS3_REPLY_SPACE], call[NFS3_CALL_MOST];
-static size_t store_len, len;
+static uint8_t store[NFS3_STORE_MOST], old[NFS3_OLD_STORE_MOST], made[NFS3_STORE_MOST], reply[NFS3_REPLY_SPACE], call[NFS3_CALL_MOST];
+static size_t store_len, old_len, len;
 static unsigned wrong;
 
 static void word(uint32_t x) {
@@ -53,6 +53,13 @@ static void create(const char *name) {
     end();
 }
 
+static void create_exclusive(const char *name) {
+    begin(CREATE, 0);
+    opaque(name, strlen(name));
+    words((uint32_t[]){ 2, 0x01234567, 0x89ABCDEF }, 3);
+    end();
+}
+
 static void remove_name(const char *name) {
     begin(REMOVE, 0);
     opaque(name, strlen(name));
@@ -65,6 +72,16 @@ static void write_bytes(uint32_t object, uint32_t offset, uint32_t count) {
     words((uint32_t[]){ 0, offset, count, 2 }, 4);
     opaque(bytes, count);
     end();
+}
+
+/* The store in the old layout: without the last 12 bytes of each object, which are zero. */
+static void make_old(uint32_t objects) {
+    size_t head = NFS3_OBJECT_COUNT_OFFSET + NFS3_OBJECT_COUNT_LENGTH, behind = head + NFS3_OBJECT_LENGTH * objects;
+    memcpy(old, store, old_len = head);
+    for (uint32_t o = 0; o < objects; o++, old_len += NFS3_OLD_OBJECT_LENGTH)
+        memcpy(old + old_len, store + head + NFS3_OBJECT_LENGTH * o, NFS3_OLD_OBJECT_LENGTH);
+    memcpy(old + old_len, store + behind, store_len - behind);
+    old_len += store_len - behind;
 }
 
 static void turn(const char *operation, int full, const char *last) {
@@ -99,7 +116,12 @@ static void turn(const char *operation, int full, const char *last) {
                 end();
                 return;
             }
-        wrong = 1;
+        if (strcmp(operation, "convert") == 0)
+            wrong |= nfs3_convert(old, old_len, made, store_len).number;
+        else if (strcmp(operation, "EXCLUSIVE") == 0)
+            create_exclusive(last);
+        else
+            wrong = 1;
     }
 }
 
@@ -113,11 +135,15 @@ int main(int argc, char **argv) {
     wrong = nfs3_format(store, store_len, STAMP, objects, names, blocks, 1, 1).number;
     for (uint32_t file = 1; file <= (full ? objects - 1 : 1); file++) {
         snprintf(last, sizeof last, "file-number-%u", (unsigned)file - 1);
-        create(last);
+        if (strcmp(argv[2], "EXCLUSIVE") == 0 && file == (full ? objects - 1 : 1))
+            create_exclusive(last);
+        else
+            create(last);
         write_bytes(file, 0, NFS3_DATA_MOST);
         if (full)
             write_bytes(file, NFS3_DATA_MOST, NFS3_DATA_MOST);
     }
+    make_old(objects);
     for (int i = 0; i < times; i++)
         turn(argv[2], full, last);
     return wrong != 0;
