@@ -46,8 +46,8 @@ fn good_size(store: &[u8], o: ObjectNumber) -> bool
     kind == Kind::DIRECTORY && size == 0
 }
 
-// Whether an object keeps a verifier only where it may. Most keep none: both fields are read, and that is tested first. Another order, or this test
-// after that of the size, makes the check of a full store 2 to 5 % longer in instructions.
+// Whether an object keeps a verifier only where it may. Most keep none: both fields are read, and that is tested first. This test after that of the
+// size makes the check of a full store longer (docs/DECISIONS.md, "The verifier in the check").
 fn good_verifier(store: &[u8], o: ObjectNumber) -> bool
     requires { ⌜ objectStart (o .0) + objectLength ≤ length (now store) ⌝ }
     ensures { λ r. ⌜ r ≡ goodVerifier (objectAt (now (store .entry)) (o .0)) ⌝ }
