@@ -26,14 +26,11 @@ use Rattle.laws.proofs.Arguments.{PartWithin, NameWithin, Within, by-pr
 use Rattle.laws.proofs.Range.{Below, be-below}
 use Rattle.laws.proofs.Records.{FitsTime}
 use Rattle.laws.proofs.SetAttributes.{FitsNumber, FitsSetTime, FitsSettable}
-use Rattle.laws.proofs.Xdr.{bind-got, only-if-got, opaque-within}
+use Rattle.laws.proofs.Xdr.{same-value, bind-got, only-if-got, opaque-within}
 
 -- whatever a reader gives for a call of bytes is P
 abbrev pub Gives : {A : Type 0} → (A → Type 0) → Reader A → Type 0
 Gives {A} P r = (call : List ℕ) → Below 256 call → (at : ℕ) (a : A) (next : ℕ) → r call at ≡ got a next → P a
-
-same-got : {A : Type 0} (a b : A) (p q : ℕ) → got a p ≡ got b q → a ≡ b
-same-got a b p q e = cc
 
 module _ {A B : Type 0} (P : A → Type 0) (Q : B → Type 0) where
   gives-then : (r : Reader A) (k : A → Reader B) → Gives P r → ((a : A) → P a → Gives Q (k a)) → Gives Q (r >>= k)
@@ -41,7 +38,7 @@ module _ {A B : Type 0} (P : A → Type 0) (Q : B → Type 0) where
       bind-got (r call at) (λ a n. k a call n) x next e (λ a n u w. g a (f call b at a n u) call b n x next w)
 
 gives-done : {A : Type 0} (P : A → Type 0) (a : A) → P a → Gives P (done a)
-gives-done P a h call b at x next e = subst P (same-got a x at next e) h
+gives-done P a h call b at x next e = subst P (same-value a x at next e) h
 
 gives-any : {A : Type 0} (r : Reader A) → Gives (λ (a : A). Unit {0}) r
 gives-any r call b at x next e = tt
@@ -55,13 +52,13 @@ word-fits : Gives (λ (n : ℕ). n < 2 ^ 32) word
 unfolding word number
 word-fits call b at n next e =
     only-if-got (leb (at + 4) (length call)) at (got (beAt call at 4) (at + 4)) n next e
-    (λ _ u. subst (λ (m : ℕ). m < 2 ^ 32) (same-got (beAt call at 4) n (at + 4) next u) (be-below call at 4 b))
+    (λ _ u. subst (λ (m : ℕ). m < 2 ^ 32) (same-value (beAt call at 4) n (at + 4) next u) (be-below call at 4 b))
 
 long-fits : Gives (λ (n : ℕ). n < 2 ^ 64) long
 unfolding long number
 long-fits call b at n next e =
     only-if-got (leb (at + 8) (length call)) at (got (beAt call at 8) (at + 8)) n next e
-    (λ _ u. subst (λ (m : ℕ). m < 2 ^ 64) (same-got (beAt call at 8) n (at + 8) next u) (be-below call at 8 b))
+    (λ _ u. subst (λ (m : ℕ). m < 2 ^ 64) (same-value (beAt call at 8) n (at + 8) next u) (be-below call at 8 b))
 
 time-fits : Gives FitsTime time
 unfolding time
@@ -101,7 +98,7 @@ settable-fits call b at x next e =
     bind-got (setSize call n₃) _ x next f₃ (λ size n₄ e₄ f₄.
     bind-got (setTime call n₄) _ x next f₄ (λ atime n₅ e₅ f₅.
     bind-got (setTime call n₅) _ x next f₅ (λ mtime n₆ e₆ f₆.
-    subst FitsSettable (same-got (record { mode = mode; uid = uid; gid = gid; size = size; atime = atime; mtime = mtime }) x n₆ next f₆)
+    subst FitsSettable (same-value (record { mode = mode; uid = uid; gid = gid; size = size; atime = atime; mtime = mtime }) x n₆ next f₆)
     (record {
       mode = set-number-fits call b at mode n₁ e₁;
       uid = set-number-fits call b n₁ uid n₂ e₂;
@@ -170,7 +167,7 @@ unfolding nameIn
 name-within s at a q e =
     bind-got (handle s at) _ a q e (λ directory p₁ e₁ f₁.
     bind-got (unbounded s p₁) _ a q f₁ (λ name p₂ e₂ f₂.
-    subst (NameWithin (length s)) (same-got (record { directory = directory; name = name }) a p₂ q f₂)
+    subst (NameWithin (length s)) (same-value (record { directory = directory; name = name }) a p₂ q f₂)
     (handle-within s at directory p₁ e₁, unbounded-within s p₁ name p₂ e₂)))
 
 -- of a form: its rest gives such arguments, whatever its first field was, as long as that lies within the call
@@ -220,22 +217,22 @@ gained = by-procedure Gained (record {
   where
     -- the value at the end is what was read
     ends : (s : List ℕ) (x : Arguments) (n : ℕ) (a : Arguments) (q : ℕ) → got x n ≡ got a q → KnownRange s x → KnownRange s a
-    ends s x n a q f h = subst (KnownRange s) (same-got x a n q f) h
+    ends s x n a q f h = subst (KnownRange s) (same-value x a n q f) h
 
 -- after the arguments the call ends
 whole-known : (r : Reader Arguments) (s : List ℕ) (at : ℕ) → ((a : Arguments) (q : ℕ) → r s at ≡ got a q → KnownRange s a) → (a : Arguments) (q : ℕ)
     → whole r s at ≡ got a q → KnownRange s a
 whole-known r s at f a q e =
     bind-got (r s at) _ a q e (λ x n₁ e₁ f₁.
-    bind-got (end s n₁) _ a q f₁ (λ u n₂ e₂ f₂. subst (KnownRange s) (same-got x a n₂ q f₂) (f x n₁ e₁)))
+    bind-got (end s n₁) _ a q f₁ (λ u n₂ e₂ f₂. subst (KnownRange s) (same-value x a n₂ q f₂) (f x n₁ e₁)))
 
 formed-known : (p : ℕ) (f : Form) → Gained p f → (s : List ℕ) (at : ℕ) (a : Arguments) (q : ℕ) → formed f s at ≡ got a q → KnownRange s a
-formed-known p none g s at = whole-known (done Call.Null) s at (λ a q e. subst (KnownRange s) (same-got Call.Null a at q e) (tt, λ _. tt))
+formed-known p none g s at = whole-known (done Call.Null) s at (λ a q e. subst (KnownRange s) (same-value Call.Null a at q e) (tt, λ _. tt))
 formed-known p (handleThen rest) g s at = whole-known (handle >>= rest) s at (λ a q e.
     bind-got (handle s at) _ a q e (λ object n e₁ f₁. g s object (handle-within s at object n e₁) n a q f₁))
 formed-known p (nameThen rest) g s at = whole-known (nameIn >>= rest) s at (λ a q e.
     bind-got (nameIn s at) _ a q e (λ place n e₁ f₁. g s place (name-within s at place n e₁) n a q f₁))
-formed-known p unread g s at = λ a q e. subst (KnownRange s) (same-got Call.Unserved a at q e) (tt, λ _. tt)
+formed-known p unread g s at = λ a q e. subst (KnownRange s) (same-value Call.Unserved a at q e) (tt, λ _. tt)
 
 arguments-known : (p : ℕ) (s : List ℕ) (at : ℕ) (a : Arguments) (q : ℕ) → arguments p s at ≡ got a q → KnownRange s a
 unfolding arguments

@@ -12,8 +12,16 @@ use Rattle.kinds.specs.declared.call.Part.{Part}
 use Rattle.spec.specs.Bytes.{padding}
 use Rattle.spec.specs.Xdr.{bind, only-if, placed, check, word, bytes, pad, opaque}
 
-never : {A : Type 0} (p : ℕ) (a : A) (q : ℕ) → bad p ≡ got a q → ⊥
+-- a refusal is no value
+pub never : {A : Type 0} (p : ℕ) (a : A) (q : ℕ) → bad p ≡ got a q → ⊥
 never p a q e = let z : _≡_ {A = ℕ} 0 1 = cc in omega arith
+
+-- what was read is one value, and ends at one position
+pub same-value : {A : Type 0} (a b : A) (p q : ℕ) → got a p ≡ got b q → a ≡ b
+same-value a b p q e = cc
+
+pub same-end : {A : Type 0} (a b : A) (p q : ℕ) → got a p ≡ got b q → p ≡ q
+same-end a b p q e = cc
 
 -- of a sequence: its first reader succeeded, and the rest
 pub bind-got : {A B P : Type 0} (r : Read A) (k : A → ℕ → Read B) (b : B) (q : ℕ) → bind r k ≡ got b q
