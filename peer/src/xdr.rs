@@ -55,7 +55,7 @@ impl<'a> Reader<'a> {
     }
 
     /// An opaque field or string of variable length, at most `limit` bytes,
-    /// padded with zeros to a multiple of 4.
+    /// with pad bytes of any value up to a multiple of 4.
     #[inline]
     pub fn opaque(&mut self, limit: usize) -> Option<&'a [u8]> {
         let length = usize::try_from(self.word()?).ok()?;
@@ -63,11 +63,7 @@ impl<'a> Reader<'a> {
             return None;
         }
         let (bytes, after) = self.rest.split_at(length);
-        let padding = length.wrapping_neg() % 4;
-        if padding > after.len() || after[..padding].iter().any(|&byte| byte != 0) {
-            return None;
-        }
-        self.rest = &after[padding..];
+        self.rest = after.get(length.wrapping_neg() % 4..)?;
         Some(bytes)
     }
 

@@ -78,7 +78,7 @@ fn garbage_arguments() {
             assert_eq!(words(&lane.raw(&call).bytes), [3, 1, 0, 0, 0, 4]);
         }
     }
-    assert_eq!(kinds.len(), 7, "{kinds:?}");
+    assert_eq!(kinds.len(), 6, "{kinds:?}");
 }
 
 #[test]

@@ -140,11 +140,11 @@ fn no_complete_header() {
         assert_eq!(header_answer(&header.encode()), 5);
         assert_eq!(header_answer(&header.encode()[..8]), 5);
     }
-    // Padding of the credential and of the verifier.
+    // Any pad bytes of the credential and of the verifier make a header.
     for at in [28 + 4 + 5, 28 + 4 + 7, full.len() - 1] {
-        let mut spoiled = full.clone();
-        spoiled[at] = 1;
-        assert_eq!(header_answer(&spoiled), 5, "padding at {at}");
+        let mut padded = full.clone();
+        padded[at] = 1;
+        assert_eq!(header_answer(&padded), 0, "padding at {at}");
     }
 }
 

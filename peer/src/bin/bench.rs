@@ -35,6 +35,7 @@ mod measuring {
     use peer::generator::encode::{handle, Attributes, Request};
     use peer::generator::lane::*;
     use peer::generator::old_images::old_image;
+    use peer::generator::padding::{Padded, ARGUMENTS};
     use peer::layout::Shape;
     use peer::Answer;
 
@@ -440,6 +441,11 @@ mod measuring {
             let removed = remove(&root, b"another");
             ([made, removed.clone()], [kept, removed])
         };
+        // The name is the second padded field; its length is no multiple of 4.
+        let mut padded = Padded::of(&lookup(&root, &name), 77);
+        let pads = vec![0xFF; padded.count(ARGUMENTS + 1)];
+        assert!(!pads.is_empty());
+        padded.fill(ARGUMENTS + 1, &pads);
         let again = if full { &kept[1] } else { &kept[0] };
         let setup = if full { &kept[..] } else { &kept[..1] };
         let mix = vec![
@@ -459,6 +465,10 @@ mod measuring {
         vec![
             Operation::new("GETATTR", &[getattr(&file)]),
             Operation::new("LOOKUP", &[lookup(&root, &name)]),
+            Operation {
+                calls: vec![padded.bytes],
+                ..Operation::new("LOOKUP, pads 255", &[])
+            },
             Operation::new("READ 4,096", &[read(&file, 0, 4096)]),
             Operation::new("WRITE 512", &[write(&file, 0, &data)]),
             Operation::new("CREATE+REMOVE", &pair),

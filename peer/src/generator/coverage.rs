@@ -267,9 +267,9 @@ impl Coverage {
                 missing.push(format!("EXCLUSIVE {}", status_name(status.0)));
             }
         }
-        for &rule in rules::ALL {
+        for rule in rules::all() {
             let noted = self.notes.get(rules::GROUP);
-            if !noted.is_some_and(|labels| labels.contains_key(rule)) {
+            if !noted.is_some_and(|labels| labels.contains_key(&rule)) {
                 missing.push(format!("rule: {rule}"));
             }
         }

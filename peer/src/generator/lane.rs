@@ -124,7 +124,7 @@ impl<'d> Lane<'d> {
 
     /// Counts a rule that the script has just seen hold.
     pub fn rule(&mut self, label: &str) {
-        assert!(rules::ALL.contains(&label), "{label}");
+        assert!(rules::all().iter().any(|known| known == label), "{label}");
         self.driver.note(rules::GROUP, label);
     }
 

@@ -6,6 +6,7 @@ pub mod driver;
 pub mod encode;
 pub mod lane;
 pub mod old_images;
+pub mod padding;
 pub mod random;
 pub mod random_runs;
 pub mod recorder;

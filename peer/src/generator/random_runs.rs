@@ -2,9 +2,10 @@
 //! most handles are live, most names exist, some handles are stale.
 
 use super::driver::{Call, Driver, Format};
-use super::encode::{encode, handle, malformed, Attributes, Header, How, Request, Time};
+use super::encode::{handle, malformed, Attributes, Header, How, Request, Time};
 use super::lane::{exclusive, status_of, Lane};
 use super::old_images::{empty, old_image, Damaged};
+use super::padding::Padded;
 use super::random::Random;
 use super::view::View;
 use crate::layout::{
@@ -157,9 +158,15 @@ pub fn run(
 impl RandomRun<'_> {
     fn step(&mut self) {
         match self.random.below(100) {
-            0..=77 => {
+            0..=75 => {
                 let request = self.request();
                 self.send(&request);
+            }
+            76..=77 => {
+                let request = self.request();
+                let call = self.call(&request);
+                let bytes = self.cut(&call);
+                self.lane.raw(bytes);
             }
             78..=80 => self.send_again(),
             81..=82 => self.convert(),
@@ -185,10 +192,38 @@ impl RandomRun<'_> {
         View::of(self.lane.driver.store())
     }
 
+    /// The call of a request, seldom with a credential and a verifier.
+    fn call(&mut self, request: &Request) -> Padded {
+        let mut header = Header::new(self.lane.next_xid(), request.procedure());
+        if self.random.once_in(10) {
+            header.credential = (1, vec![0xC1; self.random.below(8)]);
+            header.verifier = (0, vec![0xC2; self.random.below(8)]);
+        }
+        self.padded(&header, request)
+    }
+
+    /// The call with this header; one of three has old memory as padding.
+    fn padded(&mut self, header: &Header, request: &Request) -> Padded {
+        let mut call = Padded::new(header, &request.fields());
+        if self.random.once_in(3) {
+            call.fill_all(&mut self.random);
+        }
+        call
+    }
+
+    /// The call cut inside one of its paddings, if it has any.
+    fn cut<'c>(&mut self, call: &'c Padded) -> &'c [u8] {
+        let places = call.padded();
+        if places.is_empty() {
+            return &call.bytes;
+        }
+        let place = self.random.pick(&places);
+        call.cut(place, self.random.between(1, call.count(place)))
+    }
+
     /// Sends a call and keeps the handle that its reply gives out.
     fn send(&mut self, request: &Request) {
-        let xid = self.lane.next_xid();
-        self.last = request.call(xid);
+        self.last = self.call(request).bytes;
         let outcome = self.lane.raw(&self.last);
         if status_of(&outcome.reply) != Some(0) {
             return;
@@ -250,7 +285,7 @@ impl RandomRun<'_> {
                 changed
             }
             _ => {
-                let length = random.pick(&[0, 4, 11, 13, 16, 32, 63, 64]);
+                let length = random.pick(&[0, 1, 4, 10, 11, 13, 14, 16, 32, 61, 63, 64]);
                 let mut changed = any;
                 changed.resize(length, 0);
                 changed
@@ -645,15 +680,14 @@ impl RandomRun<'_> {
     /// A sound call with some bytes changed, or spoiled arguments.
     fn changed_call(&mut self) {
         let request = self.request();
-        let xid = self.lane.next_xid();
         if self.random.once_in(2) {
             let spoiled = malformed(&request.fields());
             let at = self.random.below(spoiled.len());
-            let header = Header::new(xid, request.procedure());
+            let header = Header::new(self.lane.next_xid(), request.procedure());
             self.lane.raw(&header.call(&spoiled[at].1));
             return;
         }
-        let mut bytes = request.call(xid);
+        let mut bytes = self.call(&request).bytes;
         for _ in 0..self.random.between(1, 3) {
             // The arguments more often than the header.
             let start = if bytes.len() > 40 && !self.random.once_in(3) {
@@ -838,7 +872,7 @@ impl RandomRun<'_> {
     /// Odd reply spaces, clocks and call lengths.
     fn odd_entry(&mut self) {
         let request = self.request();
-        let mut bytes = request.call(9);
+        let mut bytes = self.call(&request).bytes;
         if self.random.once_in(6) {
             bytes.resize(self.random.pick(&[8191, 8192, 8193, 10_000]), 0);
         }
@@ -861,7 +895,7 @@ impl RandomRun<'_> {
         let request = self.request();
         let xid = self.lane.next_xid();
         let mut header = Header::new(xid, request.procedure());
-        let lengths = [0, 1, 3, 4, 20, 399, 400, 401, 500];
+        let lengths = [0, 1, 2, 3, 4, 21, 397, 398, 399, 400, 401, 500];
         let length = self.random.pick(&lengths);
         header.credential = (self.random.word(), vec![0xC1; length]);
         let length = self.random.pick(&lengths);
@@ -873,11 +907,13 @@ impl RandomRun<'_> {
             3 => header.version = self.random.pick(&[2, 4, 0]),
             _ => {}
         }
-        let mut bytes = header.call(&encode(&request.fields()));
-        if self.random.once_in(6) {
-            bytes.truncate(self.random.below(bytes.len()));
-        }
-        self.lane.raw(&bytes);
+        let call = self.padded(&header, &request);
+        let bytes = match self.random.below(6) {
+            0 => &call.bytes[..self.random.below(call.bytes.len())],
+            1 => self.cut(&call),
+            _ => &call.bytes,
+        };
+        self.lane.raw(bytes);
     }
 
     /// Seldom a new store in the same buffer, more often a refused format.

@@ -1,5 +1,9 @@
 //! The rules of document 02 that the scripts must show.
 
+use super::coverage::PROCEDURE_NAMES;
+use super::padding::{ARGUMENTS, CREDENTIAL};
+use crate::numbers::procedure;
+
 /// The group of labels for them.
 pub const GROUP: &str = "Rules of document 02";
 
@@ -7,7 +11,7 @@ pub const GROUP: &str = "Rules of document 02";
 macro_rules! labels {
     ($($name:ident = $label:literal;)*) => {
         $(pub const $name: &str = $label;)*
-        pub const ALL: &[&str] = &[$($name),*];
+        const LABELS: &[&str] = &[$($name),*];
     };
 }
 
@@ -60,4 +64,93 @@ labels! {
     ONE_BEFORE_SIX = "convert: 1 before 6";
     HANDLES_STAY = "convert: handles from before go on working";
     NOTHING_KEPT = "convert: a converted file keeps no verifier";
+    // Pad bytes of calls.
+    PADS_EVERYWHERE = "padding: at every place of a call at once";
+    PADS_COMPLETE_HANDLE = "padding: the rest of a handle, still BADHANDLE";
+    PADS_COMPLETE_NAME = "padding: the rest of another name, the name as sent counts";
+    PADS_DOTS = "padding: dots stay dots";
+    PADS_STORED_NAME = "padding: a stored name has zeros behind it";
+    PADS_LISTED = "padding: a listed name has zeros behind it";
+    PADS_READ = "padding: READ gives the data as written, zeros behind it";
+    PADS_GROWTH = "padding: growth behind the data reads zero";
+    PADS_BEHIND = "padding: bytes of the file behind the data stay";
+    PADS_LEFT_OVER = "padding: bytes left over behind it, GARBAGE_ARGS";
+    PADS_LATER_FAULT = "padding: a later field that cannot be read, GARBAGE_ARGS";
+    PADS_LONG_HANDLE = "padding: a handle over 64 bytes, GARBAGE_ARGS";
+    PADS_LONG_HEADER = "padding: a credential or verifier over 400 bytes, answer 5";
+    PADS_DENIED = "padding: another RPC version is denied, whole or cut";
+    PADS_PROGRAM = "padding: another program";
+    PADS_VERSION = "padding: another version of the program";
+    PADS_PROCEDURE = "padding: a procedure over 21";
+    PADS_UNREAD = "padding: NOTSUPP, arguments unread, whole or cut";
+    PADS_IN_STORE = "padding: a store's must be zero";
+    PADS_IN_OLD_IMAGE = "padding: an old image's must be zero";
+}
+
+/// How a call ends whose pad bytes are not zero.
+#[derive(Clone, Copy, PartialEq, Eq, Debug)]
+pub enum End {
+    Done,
+    Refused,
+    /// It is cut inside the padding.
+    Cut,
+}
+
+/// The padded fields in the arguments of a procedure, in their order.
+fn padded_fields(number: u32) -> &'static [&'static str] {
+    match number {
+        procedure::NULL
+        | procedure::READLINK
+        | procedure::SYMLINK
+        | procedure::MKNOD
+        | procedure::LINK
+        | procedure::READDIRPLUS => &[],
+        procedure::LOOKUP
+        | procedure::CREATE
+        | procedure::MKDIR
+        | procedure::REMOVE
+        | procedure::RMDIR => &["handle", "name"],
+        procedure::WRITE => &["handle", "data"],
+        procedure::RENAME => &["first handle", "first name", "second handle", "second name"],
+        _ => &["handle"],
+    }
+}
+
+/// The label for so many pad bytes at a place of a call.
+pub fn padding(number: u32, place: usize, count: usize, end: End) -> String {
+    let field = match place.checked_sub(ARGUMENTS) {
+        Some(at) => {
+            let field = padded_fields(number)[at];
+            format!("{} {field}", PROCEDURE_NAMES[number as usize])
+        }
+        None if place == CREDENTIAL => "credential".to_owned(),
+        None => "verifier".to_owned(),
+    };
+    let end = match end {
+        End::Done => "OK",
+        End::Refused => "refused",
+        End::Cut => "cut",
+    };
+    format!("padding of {count}: {field}, {end}")
+}
+
+/// Every label. A handle that has padding is never a good one.
+pub fn all() -> Vec<String> {
+    let mut labels: Vec<String> = LABELS.iter().map(|&label| label.to_owned()).collect();
+    for count in 1..=3 {
+        let mut add = |number: u32, place: usize, ends: &[End]| {
+            labels.extend(ends.iter().map(|&end| padding(number, place, count, end)));
+        };
+        for place in 0..ARGUMENTS {
+            add(procedure::NULL, place, &[End::Done, End::Refused, End::Cut]);
+        }
+        for number in 0..=procedure::LAST {
+            for (at, field) in padded_fields(number).iter().enumerate() {
+                let ends = [End::Refused, End::Cut, End::Done];
+                let possible = if field.ends_with("handle") { 2 } else { 3 };
+                add(number, ARGUMENTS + at, &ends[..possible]);
+            }
+        }
+    }
+    labels
 }

@@ -213,16 +213,6 @@ pub(super) fn headers(runs: &mut Runs<'_>) {
         };
         answer_five(&mut lane, "message type not 0", &other.encode());
     }
-    for (at, label) in [
-        (37, "credential padding"),
-        (38, "credential padding"),
-        (39, "credential padding"),
-        (bytes.len() - 1, "verifier padding"),
-    ] {
-        let mut spoiled = bytes.clone();
-        spoiled[at] = 1;
-        answer_five(&mut lane, label, &spoiled);
-    }
     for length in [0usize, 1, 2, 3, 4, 399, 400, 401, 402, 404, 1000] {
         for (is_verifier, label) in [(false, "credential"), (true, "verifier")] {
             let mut header = Header::new(9, 0);

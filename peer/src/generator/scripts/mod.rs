@@ -1,12 +1,14 @@
 //! Runs written out by hand: the examples of document 01, every refusal and
 //! RPC outcome, every status of every procedure, full stores, spent
-//! generations, damaged stores, the rules of EXCLUSIVE CREATE and conversions.
+//! generations, damaged stores, the rules of EXCLUSIVE CREATE, conversions and
+//! pad bytes that are not zero.
 
 mod conversions;
 mod damage;
 mod exclusive;
 mod limits;
 mod messages;
+mod padding;
 mod statuses;
 
 use super::driver::Driver;
@@ -86,6 +88,14 @@ pub fn all(runs: &mut Runs<'_>) {
     exclusive::keeping(runs);
     conversions::whole(runs);
     conversions::refused(runs);
+    padding::handles(runs);
+    padding::names(runs);
+    padding::other_names(runs);
+    padding::data(runs);
+    padding::headers(runs);
+    padding::unread(runs);
+    padding::later_faults(runs);
+    padding::lent_buffers(runs);
     messages::changed_bytes(runs);
     limits::largest_store(runs);
     limits::scattered_blocks(runs);
