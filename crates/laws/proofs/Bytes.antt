@@ -11,7 +11,7 @@ use native.Mathlib.Nat.{div-one, add-zero, mod-eq-of-lt, add-assoc, pow-succ', o
 use native.Mathlib.Numerals.{add-one, towards-suc}
 use lib.ListN.{take-append-drop, length, take, drop, getD, set, length-append, length-take, length-drop}
 use lib.Seq.{getD-take, set-split, append-snoc, take-suc, getD-drop, take-at, take-length, take-take, drop-drop, take-add, take-append-le}
-use lib.Seq.{drop-append-le, drop-append-add, drop-cons, sets-eq}
+use lib.Seq.{drop-append-le, drop-append-add, drop-cons, sets-eq, ext-getD}
 use lib.Arith.{mod-mul}
 use lib.Dec.{lit<, eqb}
 use Rattle.spec.specs.Bytes.{part, overlay, digits, beOf, bytesOf, beAt, sameBytes}
@@ -252,3 +252,15 @@ same-no xs ys f = is-false (sameBytes xs ys) (λ e. f (same-eq xs ys e))
 pub getD-part : (b : List ℕ) (at n i : ℕ) → i < n → getD (part b at n) i 0 ≡ getD b (at + i) 0
 unfolding part
 getD-part b at n i h = getD-take n (drop at b) i 0 h ∙ getD-drop at b i 0
+
+-- parts of two lists of one length with the same bytes there
+pub same-part : (s t : List ℕ) → length t ≡ length s → (at n : ℕ)
+    → ((i : ℕ) → at ≤ i → i < at + n → getD t i 0 ≡ getD s i 0) → part t at n ≡ part s at n
+unfolding part
+same-part s t e at n f =
+    ext-getD 0 (part t at n) (part s at n) (simp (length-take, length-drop) (rw e)) (λ k (b : k < length (part t at n)).
+    let l : k < n = omega (arith, short k b) in
+    getD-part t at n k l ∙ f (at + k) (omega arith) (omega arith) ∙ sym (getD-part s at n k l))
+  where
+    short : (k : ℕ) → k < length (part t at n) → k < n
+    short k b = let z : length (part t at n) ≤ n = simp length-take (omega arith) in omega arith

@@ -2,7 +2,7 @@
 use Prim.Native.Nat.{ℕ, _+_, _≤_}
 use mathlib.Core.Bool.{Bool, true, false}
 use mathlib.Core.List.{List}
-use mathlib.Core.Path.{_≡_, refl}
+use mathlib.Core.Path.{_≡_, refl, sym, ap, _∙_}
 use native.Mathlib.Omega.{arith}
 use borrow.Author.Tests.{leb-true}
 use lib.ListN.{length}
@@ -10,7 +10,7 @@ use lib.Dec.{leb}
 use Rattle.kinds.specs.Reading.{Read, got, bad}
 use Rattle.kinds.specs.declared.call.Part.{Part}
 use Rattle.spec.specs.Bytes.{padding}
-use Rattle.spec.specs.Xdr.{bind, only-if, placed, check, word, bytes, pad, opaque}
+use Rattle.spec.specs.Xdr.{bind, only-if, placed, check, word, bytes, opaque}
 
 -- a refusal is no value
 pub never : {A : Type 0} (p : ℕ) (a : A) (q : ℕ) → bad p ≡ got a q → ⊥
@@ -40,16 +40,45 @@ pub placed-got : {A : Type 0} (p : ℕ) (r : Read A) (a : A) (q : ℕ) → place
 placed-got p (got b at) a q e = e
 placed-got p (bad at) a q e = absurd (never p a q e)
 
--- a part that was read lies within the call, and is no longer than was allowed
-pub opaque-within : (most : ℕ) (s : List ℕ) (at : ℕ) (p : Part) (q : ℕ) → opaque most s at ≡ got p q
-    → (p .start + p .length ≤ length s) × (p .length ≤ most)
+-- a part that was read: its length, which is allowed, stands before it, and its padding behind it, within the call
+pub record OpaqueRead (most : ℕ) (s : List ℕ) (at : ℕ) (p : Part) (q : ℕ) : Type 0 where
+  pub n : ℕ
+  pub start : ℕ
+  pub length-read : word s at ≡ got n start
+  pub allowed : leb n most ≡ true
+  pub whole : p ≡ record { start = start; length = n }
+  pub ends : q ≡ start + n + padding n
+  pub fits : q ≤ length s
+
+pub opaque-read : (most : ℕ) (s : List ℕ) (at : ℕ) (p : Part) (q : ℕ) → opaque most s at ≡ got p q → OpaqueRead most s at p q
 unfolding opaque bytes
-opaque-within most s at p q e =
+opaque-read most s at p q e =
     bind-got (word s at) _ p q (placed-got at _ p q e) (λ n a₁ e₁ f₁.
     bind-got (check (leb n most) s a₁) _ p q f₁ (λ u a₂ e₂ f₂.
     bind-got (bytes n s a₂) _ p q f₂ (λ part a₃ e₃ f₃.
-    bind-got (pad (padding n) s a₃) _ p q f₃ (λ v a₄ e₄ f₄.
-    only-if-got (leb n most) _ _ _ _ e₂ (λ small _.
-    only-if-got (leb (a₂ + n) (length s)) _ _ _ _ e₃ (λ fits made.
-    let is : p ≡ record { start = a₂; length = n } = cc in
-    rw is (leb-true _ _ fits, leb-true _ _ small)))))))
+    bind-got (bytes (padding n) s a₃) _ p q f₃ (λ v a₄ e₄ f₄.
+    only-if-got (leb n most) _ _ _ _ e₂ (λ small here.
+    only-if-got (leb (a₂ + n) (length s)) _ _ _ _ e₃ (λ _ made.
+    only-if-got (leb (a₃ + padding n) (length s)) _ _ _ _ e₄ (λ inside behind.
+    let stays : a₁ ≡ a₂ = same-end _ _ _ _ here in
+    let body : a₂ + n ≡ a₃ = same-end _ _ _ _ made in
+    let pad : a₃ + padding n ≡ a₄ = same-end _ _ _ _ behind in
+    let last : a₄ ≡ q = same-end _ _ _ _ f₄ in
+    record {
+      n = n;
+      start = a₁;
+      length-read = e₁;
+      allowed = small;
+      whole = sym (same-value _ _ _ _ f₄) ∙ sym (same-value _ _ _ _ made) ∙ ap (λ (a : ℕ). record { start = a; length = n }) (sym stays);
+      ends = sym last ∙ sym pad ∙ ap (λ (a : ℕ). a + padding n) (sym body ∙ ap (λ (a : ℕ). a + n) (sym stays));
+      fits = omega (arith, leb-true (a₃ + padding n) (length s) inside);
+    })))))))
+
+-- it lies within the call, and is no longer than was allowed
+pub opaque-within : (most : ℕ) (s : List ℕ) (at : ℕ) (p : Part) (q : ℕ) → opaque most s at ≡ got p q
+    → (p .start + p .length ≤ length s) × (p .length ≤ most)
+opaque-within most s at p q e =
+    let o = opaque-read most s at p q e in (
+      omega (arith, ap (λ (r : Part). r .start + r .length) (o .whole), o .ends, o .fits),
+      omega (arith, ap (λ (r : Part). r .length) (o .whole), leb-true (o .n) most (o .allowed)),
+    )

@@ -11,7 +11,7 @@ use Rattle.spec.proofs.Setting.{removeCall, nameA, nameB, rootAlone, wi
 
 -- the file "a" made EXCLUSIVE with verifier 1 2, with room for blocks, and in a store that is full then
 abbrev pub made : Store
-made = after (exclusiveCall nameA 1 2 ∷ []) (fresh 2 1 16)
+made = after (exclusiveCall nameA 1 2 ∷ []) (fresh 2 1 2)
 
 abbrev pub madeFull : Store
 madeFull = after (exclusiveCall nameA 1 2 ∷ []) (fresh 2 1 0)
@@ -28,7 +28,7 @@ pub record Exclusive : Type 0 where
   -- "an absent name is made with unset attributes and its 8-byte verifier kept": type 1, generation 0, mode, uid, gid and size 0, times the
   -- clock, no blocks, the verifier, the flag
   pub record-made : part made (12 + 92) 92 ≡ words (1 ∷ 0 ∷ 0 ∷ 0 ∷ 0 ∷ 0 ∷ 5 ∷ 6 ∷ 5 ∷ 6 ∷ 5 ∷ 6 ∷ []) ++ replicate 32 255 ++ words (1 ∷ 2 ∷ 1 ∷ [])
-  pub made-length : served (exclusiveCall nameA 1 2) (fresh 2 1 16) .length ≡ 252
+  pub made-length : served (exclusiveCall nameA 1 2) (fresh 2 1 2) .length ≡ 252
   pub made-passes : check made ≡ 0
   -- "an existing regular file made that way with the same verifier is success": with that handle, and nothing changes, on a full store too
   pub sent-twice : again [] ≡ 0

@@ -1,5 +1,6 @@
 pub mod Conversion
 pub mod Edges
 pub mod Exclusive
+pub mod Padding
 pub mod Setting
 pub mod Starred

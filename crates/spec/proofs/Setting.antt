@@ -32,7 +32,7 @@ use Rattle.spec.specs.Room.{availableCount, availableObject, isUsedName,
 use Rattle.spec.specs.Room.{findName, subdirectories, parent, above, byteAt}
 use Rattle.spec.specs.Rpc.{denied, accepted, judge, mismatch}
 use Rattle.spec.specs.Serve.{Outcome, serve, check, formatted, format, convert}
-use Rattle.spec.specs.Xdr.{number, word, long, choice, flag, bytes, pad, opaque, end}
+use Rattle.spec.specs.Xdr.{number, word, long, choice, flag, bytes, opaque, end}
 
 -- a clock, a verifier and a reply space of 4,224 bytes whose bytes are not zero
 abbrev pub context : Context
@@ -201,5 +201,5 @@ unfolding handle unbounded nameIn time setNumber setSize setTime settable guard 
     checkRename renameEdit failRenaming rename fsstat fsinfo pathconf fattr3 postOp preOp wccData entryBytes entriesBytes resultBytes failShowing
     failChanging isLive isRegular isDirectory sizeOf held uses isFreeBlock freeBlocks freeBlockCount isAvailable availableCount availableObject
     isUsedName availableName freeNameCount isNaming namings isIn isNamed findName subdirectories parent above byteAt denied accepted judge mismatch
-    serve check formatted format convert number word long choice flag bytes pad opaque end
+    serve check formatted format convert number word long choice flag bytes opaque end
 computing = 0

@@ -8,7 +8,7 @@ use Rattle.kinds.specs.declared.call.Header.{Header}
 use Rattle.kinds.specs.declared.call.Header.the-variants as Header
 use Rattle.spec.specs.Xdr.{Reader, _>>=_, _>>_, done, word, choice, opaque}
 
--- opaque_auth: "a credential or verifier over 400 bytes or padded with other than zero" is no complete header; any flavor is accepted
+-- opaque_auth: "a credential or verifier over 400 bytes" is no complete header; any flavor is accepted, and any padding
 unfoldable pub credential : Reader Credential
 credential = do
   flavor ← word

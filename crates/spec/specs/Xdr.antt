@@ -87,19 +87,14 @@ optional value present absent = do
 unfoldable pub bytes : ℕ → Reader Part
 bytes n = field n (λ s at. record { start = at; length = n })
 
--- n bytes of padding: "nonzero padding" is refused
-unfoldable pub pad : ℕ → Reader (Unit {0})
-pad n = do
-  v ← number n
-  check (eqb v 0)
-
--- variable-length opaque data of at most so many bytes, padded to a multiple of four
+-- variable-length opaque data of at most so many bytes, padded to a multiple of four: "Whatever reads a padded field now accepts any pad
+-- bytes", "Missing pad bytes still refuse."
 unfoldable pub opaque : ℕ → Reader Part
 opaque most = item (do
   n ← word
   check (leb n most)
   part ← bytes n
-  pad (padding n)
+  bytes (padding n)
   done part)
 
 -- the maximum of opaque data that has none: its length is a word

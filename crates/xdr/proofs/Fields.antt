@@ -8,11 +8,11 @@ use native.Mathlib.Nat.{add-assoc}
 use native.Mathlib.Omega.{arith}
 use borrow.Author.Tests.{leb-true, le-leb, lt-leb}
 use lib.ListN.{length}
-use lib.Dec.{leb, eqb}
+use lib.Dec.{leb}
 use Rattle.kinds.specs.Reading.{Read, got, bad, placeOf}
 use Rattle.kinds.specs.declared.call.Part.{Part}
 use Rattle.spec.specs.Bytes.{beAt}
-use Rattle.spec.specs.Xdr.{bind, only-if, placed, number, bytes, pad}
+use Rattle.spec.specs.Xdr.{bind, only-if, placed, number, bytes}
 use Rattle.laws.proofs.Bytes.{lt-or-le}
 use Rattle.laws.proofs.Xdr.{only-if-got}
 
@@ -44,19 +44,17 @@ bytes-cut n s at q e = ⊎-elim (λ (h : length s < at + n). h) (λ (h : at + n 
     apart : {x : Part} {k : ℕ} → _≡_ {A = Read Part} (got x k) (bad q) → ⊥
     apart e = let z : _≡_ {A = ℕ} 0 1 = cc in omega arith
 
--- n bytes with p bytes of padding: where all stand in the call, the padding decides
+-- n bytes and p bytes of padding behind them: where all stand in the call, the n bytes are read
 pub padded-fits : (n p : ℕ) (s : List ℕ) (at : ℕ) → at + (n + p) ≤ length s
-    → bind (bytes n s at) (λ part next. bind (pad p s next) (λ _ last. got part last))
-    ≡ only-if (eqb (beAt s (at + n) p) 0) (at + (n + p)) (got (record { start = at; length = n }) (at + (n + p)))
-unfolding bytes pad number
-padded-fits n p s at h =
-    rw (← add-assoc at n p, le-leb (at + n) (length s) (omega arith), le-leb (at + n + p) (length s) (omega arith))
-    (sym (revalued {A = Unit {0}} (eqb (beAt s (at + n) p) 0) (at + n + p) (at + n + p) tt (record { start = at; length = n })))
+    → bind (bytes n s at) (λ part next. bind (bytes p s next) (λ _ last. got part last))
+    ≡ got (record { start = at; length = n }) (at + (n + p))
+unfolding bytes
+padded-fits n p s at h = rw (← add-assoc at n p, le-leb (at + n) (length s) (omega arith), le-leb (at + n + p) (length s) (omega arith))
 
 -- where they do not, they are refused
 pub padded-cut : (n p : ℕ) (s : List ℕ) (at place : ℕ) → length s < at + (n + p)
-    → placed place (bind (bytes n s at) (λ part next. bind (pad p s next) (λ _ last. got part last))) ≡ bad place
-unfolding bytes pad number
+    → placed place (bind (bytes n s at) (λ part next. bind (bytes p s next) (λ _ last. got part last))) ≡ bad place
+unfolding bytes
 padded-cut n p s at place h =
     ⊎-elim (λ (k : length s < at + n). rw (lt-leb _ _ k))
     (λ (k : at + n ≤ length s). rw (le-leb _ _ k, lt-leb (at + n + p) (length s) (omega arith))) (lt-or-le (length s) (at + n))

@@ -87,7 +87,7 @@ pub fn flag(s: &[u8], c: Cursor) -> FlagRead
     FlagRead::Got(n == 1, next)
 }
 
-// Variable-length opaque data of at most `most` bytes, with its padding.
+// Variable-length opaque data of at most `most` bytes, with its padding, which may be any bytes.
 pub fn opaque(s: &[u8], c: Cursor, most: usize) -> PartRead
     ensures { λ r. ⌜ partOf r ≡ opaque most (now (s .entry)) (c .at) ⌝ }
 {
@@ -103,9 +103,6 @@ pub fn opaque(s: &[u8], c: Cursor, most: usize) -> PartRead
         return PartRead::Bad(c.at);
     };
     let start = c1.at;
-    if !wire::is_zero(s, start + length, rest) {
-        return PartRead::Bad(c.at);
-    }
     PartRead::Got(Part { start, length }, next)
 }
 

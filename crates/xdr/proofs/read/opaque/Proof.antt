@@ -1,14 +1,11 @@
-use mathlib.Core.Bool.{true, false}
 use mathlib.Core.Path.{_≡_, sym, ap, _∙_}
-use Prim.Native.Nat.{ℕ, _+_, _≤_, _<_}
+use Prim.Native.Nat.{_+_, _≤_, _<_}
 use native.Mathlib.Omega.{arith}
-use lib.Dec.{eqb}
 use lib.ListN.{length}
-use borrow.Author.Tests.{le-leb, lt-leb, not-true, not-false}
+use borrow.Author.Tests.{le-leb, lt-leb}
 use Rattle.kinds.specs.Reading.{partOf}
-use Rattle.spec.specs.Bytes.{beAt, padding}
+use Rattle.spec.specs.Bytes.{padding}
 use Rattle.spec.specs.Xdr.{opaque}
-use Rattle.laws.proofs.Zeros.{zero-number}
 use Rattle.xdr.proofs.Fields.{bytes-fit, bytes-next, bytes-cut, padded-fits, padded-cut}
 use borrow.Author.Needs.{needs}
 use Rattle.xdr.proofs.read.opaque.Statement.{statement}
@@ -68,75 +65,29 @@ returns-3 c =
     )
     (sym (padded-cut n (padding n) s at (a .c .at) cut))
 
-add-is-zero : tie.Need-add-is-zero
-add-is-zero c =
-    let a = c .before .before .before .before .before .before .before .before .before .before .before .args in
-    let s = a .s .now in
-    let n = c .before .before .before .before .before .before .before .n .given .0 .0 in
-    let at = c .before .before .before .before .before .before .before .n .given .0 .1 .0 .at in
-    omega (arith, bytes-fit _ s at _ _ (sym (c .before .before .before .bytes .ensures) ∙ ap partOf (c .before .next .given .1)))
-
-is-zero-requires : tie.Need-is-zero-requires
-is-zero-requires c κs =
-    let a = c .before .before .before .before .before .before .before .before .before .before .before .args in
-    let s = a .s .now in
-    let n = c .before .before .before .before .before .before .before .n .given .0 .0 in
-    let at = c .before .before .before .before .before .before .before .n .given .0 .1 .0 .at in
-    omega (arith, bytes-fit _ s at _ _ (sym (c .before .before .before .bytes .ensures) ∙ ap partOf (c .before .next .given .1)))
-
 returns-4 : tie.Need-returns-4
 unfolding opaque
 returns-4 c =
-    let a = c .before .before .before .before .before .before .before .before .before .before .before .before .before .args in
+    let a = c .before .before .before .before .before .before .before .before .before .before .before .args in
     let s = a .s .now in
-    let n = c .before .before .before .before .before .before .before .before .before .n .given .0 .0 in
-    let at = c .before .before .before .before .before .before .before .before .before .n .given .0 .1 .0 .at in
+    let n = c .before .before .before .before .before .before .before .n .given .0 .0 in
+    let at = c .before .before .before .before .before .before .before .n .given .0 .1 .0 .at in
     let fits : at + (n + padding n) ≤ length s = omega (
       arith,
-      bytes-fit _ s at _ _ (sym (c .before .before .before .before .before .bytes .ensures) ∙ ap partOf
-          (c .before .before .before .next .given .1)),
-      c .before .before .before .before .before .before .padding .ensures,
+      bytes-fit _ s at _ _ (sym (c .before .before .before .bytes .ensures) ∙ ap partOf (c .before .next .given .1)),
+      c .before .before .before .before .padding .ensures,
     ) in
-    let zero : eqb (beAt s (at + n) (padding n)) 0 ≡ false =
-    ap (λ (p : ℕ). eqb (beAt s (at + n) p) 0) (sym (c .before .before .before .before .before .before .padding .ensures)) ∙ sym
-    (c .before .is-zero .ensures ∙ zero-number _ _ _) ∙ not-true _ (c .if2 .taken) in
-    rw (
-      ← c .before .before .before .before .before .before .before .before .before .before .before .word .ensures,
-      c .before .before .before .before .before .before .before .before .before .n .given .1,
-      le-leb _ _ (c .before .before .before .before .before .before .before .if1 .left),
-      padded-fits n (padding n) s at fits,
-      zero,
-    )
-
-returns-5 : tie.Need-returns-5
-unfolding opaque
-returns-5 c =
-    let a = c .before .before .before .before .before .before .before .before .before .before .before .before .before .args in
-    let s = a .s .now in
-    let n = c .before .before .before .before .before .before .before .before .before .n .given .0 .0 in
-    let at = c .before .before .before .before .before .before .before .before .before .n .given .0 .1 .0 .at in
-    let fits : at + (n + padding n) ≤ length s = omega (
-      arith,
-      bytes-fit _ s at _ _ (sym (c .before .before .before .before .before .bytes .ensures) ∙ ap partOf
-          (c .before .before .before .next .given .1)),
-      c .before .before .before .before .before .before .padding .ensures,
-    ) in
-    let zero : eqb (beAt s (at + n) (padding n)) 0 ≡ true =
-    ap (λ (p : ℕ). eqb (beAt s (at + n) p) 0) (sym (c .before .before .before .before .before .before .padding .ensures)) ∙ sym
-    (c .before .is-zero .ensures ∙ zero-number _ _ _) ∙ not-false _ (c .if2 .left) in
-    let behind : c .before .before .before .next .given .0 .1 .0 .at ≡ at + (n + padding n) =
+    let behind : c .before .next .given .0 .1 .0 .at ≡ at + (n + padding n) =
     omega (
       arith,
-      bytes-next _ s at _ _ (sym (c .before .before .before .before .before .bytes .ensures) ∙ ap partOf
-          (c .before .before .before .next .given .1)),
-      c .before .before .before .before .before .before .padding .ensures,
+      bytes-next _ s at _ _ (sym (c .before .before .before .bytes .ensures) ∙ ap partOf (c .before .next .given .1)),
+      c .before .before .before .before .padding .ensures,
     ) in
     rw (
-      ← c .before .before .before .before .before .before .before .before .before .before .before .word .ensures,
-      c .before .before .before .before .before .before .before .before .before .n .given .1,
-      le-leb _ _ (c .before .before .before .before .before .before .before .if1 .left),
+      ← c .before .before .before .before .before .before .before .before .before .word .ensures,
+      c .before .before .before .before .before .before .before .n .given .1,
+      le-leb _ _ (c .before .before .before .before .before .if1 .left),
       padded-fits n (padding n) s at fits,
-      zero,
       behind,
     )
 
@@ -156,7 +107,4 @@ opaque-spec =
     enum-known-next
     enum-told-2
     returns-3
-    add-is-zero
-    is-zero-requires
-    returns-4
-    returns-5)
+    returns-4)
