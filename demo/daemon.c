@@ -248,6 +248,14 @@ static bool is_call_to(uint32_t program, const uint8_t *call, size_t len) {
     return len >= 24 && get_word(call + 4) == RPC_CALL && get_word(call + 8) == RPC_VERSION && get_word(call + 12) == program;
 }
 
+/* The place after opaque data of at most so many bytes whose length word is at a place in the call; 0 where it is cut or too long. */
+static size_t after_opaque(const uint8_t *call, size_t len, size_t at, size_t most) {
+    if (at == 0 || at + 4 > len || get_word(call + at) > most)
+        return 0;
+    size_t end = at + 4 + ((size_t)get_word(call + at) + 3) / 4 * 4;
+    return end <= len ? end : 0;
+}
+
 /* ---- Replies that are kept (duty 5) ---- */
 
 /* So many, and for so long. */
@@ -279,6 +287,33 @@ static bool is_to_keep(const uint8_t *call, size_t len) {
            procedure == RMDIR || procedure == RENAME;
 }
 
+/* The place after opaque data, as above, whose padding is set to zero. */
+static size_t clear_opaque(uint8_t *call, size_t len, size_t at, size_t most) {
+    size_t end = after_opaque(call, len, at, most);
+    if (end != 0) {
+        size_t padding = at + 4 + get_word(call + at);
+        memset(call + padding, 0, end - padding);
+    }
+    return end;
+}
+
+/* Sets the padding of a call whose reply is kept to zero, field by field, as far as they can be read. */
+static void clear_padding(uint8_t *call, size_t len) {
+    uint32_t procedure = get_word(call + 20);
+    size_t at = clear_opaque(call, len, 28, NFS3_CREDENTIAL_MOST);
+    at = clear_opaque(call, len, at == 0 ? 0 : at + 4, NFS3_CREDENTIAL_MOST); /* behind the flavor */
+    at = clear_opaque(call, len, at, NFS3_HANDLE_MOST);
+    if (procedure == SETATTR)
+        return;
+    if (procedure == WRITE) /* behind offset, count and stable */
+        at = at == 0 ? 0 : at + 16;
+    at = clear_opaque(call, len, at, UINT32_MAX);
+    if (procedure == RENAME) {
+        at = clear_opaque(call, len, at, NFS3_HANDLE_MOST);
+        clear_opaque(call, len, at, UINT32_MAX);
+    }
+}
+
 static const struct kept *find_kept(uint32_t address, const uint8_t *call, size_t call_len) {
     time_t now = seconds_running();
     for (size_t i = 0; i < KEPT; i++) {
@@ -304,14 +339,6 @@ static void keep(uint32_t address, const uint8_t *call, size_t call_len, const u
 
 enum { MOUNT_PROGRAM = 100005, MOUNT_VERSION = 3, MOUNT_NULL = 0, MOUNT_MNT = 1, MOUNT_UMNT = 3, MOUNT_NOENT = 2, PATH_MOST = 1024 };
 enum { AUTH_NONE = 0, AUTH_SYS = 1 };
-
-/* The place after opaque data of at most so many bytes whose length word is at a place in the call; 0 where it is cut or too long. */
-static size_t after_opaque(const uint8_t *call, size_t len, size_t at, size_t most) {
-    if (at == 0 || at + 4 > len || get_word(call + at) > most)
-        return 0;
-    size_t end = at + 4 + ((size_t)get_word(call + at) + 3) / 4 * 4;
-    return end <= len ? end : 0;
-}
 
 /* The length of the reply to a call of MOUNT; 0 where the call has no complete header. */
 static size_t answer_mount(const uint8_t *call, size_t len, uint8_t *reply) {
@@ -396,7 +423,14 @@ static bool send_reply(struct connection *c) {
 static bool answer(struct connection *c) {
     uint8_t *reply = c->reply + MARK;
     size_t len;
-    const struct kept *k = find_kept(c->address, c->call, c->call_len);
+    static uint8_t cleared[NFS3_CALL_MOST]; /* the call with its padding set to zero, to be compared; the library gets it as it came */
+    const struct kept *k = NULL;
+    bool keeps = is_to_keep(c->call, c->call_len);
+    if (keeps) {
+        memcpy(cleared, c->call, c->call_len);
+        clear_padding(cleared, c->call_len);
+        k = find_kept(c->address, cleared, c->call_len);
+    }
     if (k != NULL) {
         len = k->reply_len;
         memcpy(reply, k->reply, len);
@@ -420,8 +454,8 @@ static bool answer(struct connection *c) {
         bool changed = memcmp(store, saved, store_len) != 0;
         if (changed)
             save();
-        if (is_to_keep(c->call, c->call_len))
-            keep(c->address, c->call, c->call_len, reply, len);
+        if (keeps)
+            keep(c->address, cleared, c->call_len, reply, len);
     }
     put_word(c->reply, LAST_FRAGMENT | (uint32_t)len);
     c->reply_len = MARK + len;

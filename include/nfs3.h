@@ -58,16 +58,18 @@
  *    OTHERWISE: a host that reads no replies, or only opens connections, takes all memory or descriptors, and a save fails.
  *
  * 5. Resent calls. The library keeps no replies. Hosts send a call again when its reply is late or lost, over TCP on a new connection: from the
- *    same address, often from another port, with the same bytes; the first 4 of them are the call's number, the xid. Keep the reply to every call
- *    of SETATTR, WRITE, CREATE, MKDIR, REMOVE, RMDIR and RENAME (2, 7, 8, 9, 12, 13, 14; the words at bytes 12, 16 and 20 of a call are its
+ *    same address, often from another port, with the same bytes; the first 4 of them are the call's number, the xid. Keep the reply to every
+ *    call of SETATTR, WRITE, CREATE, MKDIR, REMOVE, RMDIR and RENAME (2, 7, 8, 9, 12, 13, 14; the words at bytes 12, 16 and 20 of a call are its
  *    program, version and procedure) that is answered NFS3_DONE, whatever its status, with the host's address, without the port, and the call's
- *    bytes. To a call that is the same in both send the kept reply, without nfs3_call. Other bytes under the same xid are a new call. Keep at
- *    least the last 200 replies, of all hosts together, for at least 2 minutes, whichever ends first, by a clock that is never set
- *    (CLOCK_MONOTONIC); sending a kept reply does not renew it. Not for ever: a program that starts again may use its xids again. With several
- *    threads, a call that is still being answered is not done a second time. Replies that are kept in memory are lost when the daemon stops. One
- *    call is recognised by the library too: an EXCLUSIVE CREATE, by the verifier that the host sends with it and the store keeps with the file.
- *    With the same verifier it is answered OK with the same handle, after a restart too, until a SETATTR of the file is answered OK. Keep its
- *    reply as well: hosts send that SETATTR at once.
+ *    bytes. To a call that is the same in both send the kept reply, without nfs3_call. Other bytes under the same xid are a new call, but not
+ *    other PADDING: the 0 to 3 bytes behind the bodies of credential and verifier, and behind each handle, each name and the data of WRITE, up
+ *    to a multiple of 4. A careless host leaves old memory there, which may be other memory the next time; so compare copies of calls whose
+ *    padding is set to zero (nfs3_call takes them as they came). Keep at least the last 200 replies, of all hosts together, for at least 2
+ *    minutes, whichever ends first, by a clock that is never set (CLOCK_MONOTONIC); sending a kept reply does not renew it. Not for ever: a
+ *    program that starts again may use its xids again. With several threads, a call that is still being answered is not done a second time.
+ *    Replies that are kept in memory are lost when the daemon stops. One call is recognised by the library too: an EXCLUSIVE CREATE, by the
+ *    verifier that the host sends with it and the store keeps with the file. With the same verifier it is answered OK with the same handle,
+ *    after a restart too, until a SETATTR of the file is answered OK. Keep its reply as well: hosts send that SETATTR at once.
  *    OTHERWISE: a host whose reply was lost is told EXIST for the lock file that it made itself, or NOENT for the file that it removed itself; a
  *    late WRITE undoes a newer one; and a REMOVE that was answered NOENT, sent again, removes a file that was made since.
  *
@@ -257,7 +259,8 @@ enum nfs3_number {
  * Answers one RPC call from the store, which it may change.
  * The first of these that holds: NFS3_SMALL_REPLY, NFS3_BAD_CLOCK, NFS3_LONG_CALL, NFS3_BAD_STORE, NFS3_NO_CALL; else NFS3_DONE, with the reply
  * in the first bytes of its space and no byte after it changed. A call that is not understood or not allowed is answered NFS3_DONE too: its
- * reply says so. WRITE and COMMIT send the verifier to the host, most significant byte first.
+ * reply says so. WRITE and COMMIT send the verifier to the host, most significant byte first. The padding of a call's fields (duty 5) must be
+ * there, and may be any bytes: neither the answer nor the reply nor the store depends on them. A reply is padded with zeros.
  */
 struct nfs3_answer nfs3_call(const uint8_t *call, size_t call_len, uint8_t *store, size_t store_len, uint8_t *reply, size_t reply_len,
                              uint32_t seconds, uint32_t nanoseconds, uint64_t verifier);
