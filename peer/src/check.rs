@@ -24,7 +24,7 @@ pub struct Survey {
     /// Free objects whose generation may still be given out.
     pub available: u64,
     /// Directories that hold at least one name.
-    pub occupied: u64,
+    occupied: u64,
     /// The directory of each live object but the root.
     pub parents: [u8; MAX_OBJECTS],
     /// The name record of each live object but the root.
@@ -271,6 +271,12 @@ impl Survey {
     #[inline(always)]
     pub fn is_live(&self, object: Object) -> bool {
         (self.directories | self.files) >> object.0 & 1 != 0
+    }
+
+    /// Whether the object is a directory that holds at least one name.
+    #[inline(always)]
+    pub fn is_occupied(&self, object: Object) -> bool {
+        self.occupied >> object.0 & 1 != 0
     }
 
     /// The directory that holds the object; the root's is the root.

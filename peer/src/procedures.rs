@@ -1,7 +1,7 @@
 //! The procedures of NFS version 3.
 //!
 //! Each procedure reads all its arguments before it looks at the store, makes
-//! its tests in the order of document 01, changes the store only when every
+//! its tests in the order of the papers, changes the store only when every
 //! test has passed, and writes its result. `None` means that the arguments
 //! are not exactly of their type; then nothing has been written.
 
@@ -483,7 +483,7 @@ fn rmdir(reader: &mut Reader<'_>, volume: &mut Volume<'_>, reply: &mut Reply<'_>
         refuse_dots(&text, Status::INVAL)?;
         let found = volume.find(directory, &text).ok_or(Status::NOENT)?;
         want_directory(volume, found)?;
-        if volume.survey.occupied >> found.0 & 1 != 0 {
+        if volume.survey.is_occupied(found) {
             return Err(Status::NOTEMPTY);
         }
         volume.remove(directory, found);
@@ -527,10 +527,7 @@ fn try_rename(
     refuse_dots(&old_text, Status::INVAL)?;
     refuse_dots(&new_text, Status::INVAL)?;
     let object = volume.find(from, &old_text).ok_or(Status::NOENT)?;
-    if volume.find(to, &new_text).is_some() {
-        return Err(Status::EXIST);
-    }
-    // The target directory and all that hold it, up to the root. The moved
+    // The second directory and all that hold it, up to the root. The moved
     // object is never the root. A file is none of these.
     let mut above = to;
     while above != ROOT {
@@ -539,8 +536,24 @@ fn try_rename(
         }
         above = volume.survey.parent(above);
     }
+    if let Some(target) = volume.find(to, &new_text) {
+        if target == object {
+            return Ok(());
+        }
+        if !replaceable(volume, object, target) {
+            return Err(Status::EXIST);
+        }
+        volume.remove(to, target);
+    }
     volume.rename(object, from, to, new_name);
     Ok(())
+}
+
+/// Whether RENAME may put an object in the place of another one: both are
+/// files, or both are directories and the target is empty.
+fn replaceable(volume: &Volume<'_>, object: Object, target: Object) -> bool {
+    let survey = &volume.survey;
+    survey.is_directory(object) == survey.is_directory(target) && !survey.is_occupied(target)
 }
 
 fn readdir(reader: &mut Reader<'_>, volume: &Volume<'_>, reply: &mut Reply<'_>) -> Option<()> {

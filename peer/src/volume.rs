@@ -286,7 +286,7 @@ impl<'a> Volume<'a> {
         self.touch(directory);
     }
 
-    /// Gives an object another name, maybe in another directory, in the name
+    /// Gives an object a name that the directory `to` has not, in the name
     /// record it has. Sets the object's change time and the times of both
     /// directories.
     pub fn rename(&mut self, object: Object, from: Object, to: Object, name: &[u8]) {

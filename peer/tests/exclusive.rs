@@ -287,7 +287,7 @@ fn other_calls_keep() {
             },
             status::OK,
         ),
-        (rename(&root(), b"new", &root(), b"new"), status::EXIST),
+        (rename(&root(), b"new", &root(), b"new"), status::OK),
     ] {
         lane.tick();
         assert_eq!(lane.status(&request), wanted, "{request:?}");

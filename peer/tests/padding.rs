@@ -286,7 +286,9 @@ fn names() {
             (rmdir(root, filled), status::NOTEMPTY),
             (rename(root, named, root, none), status::OK),
             (rename(root, empty, &full, named), status::OK),
+            (rename(root, named, root, named), status::OK),
             (rename(root, named, root, empty), status::EXIST),
+            (rename(root, empty, root, filled), status::EXIST),
             (rename(root, none, root, named), status::NOENT),
             (rename(root, filled, &full, none), status::INVAL),
         ];

@@ -1,11 +1,14 @@
 //! Random runs on the peer alone: what holds for every call, whatever it is.
 
+use std::collections::BTreeMap;
+
 mod common;
 use common::plain::{plain_check, plain_old_check};
+use common::plain_rename::plain_rename;
 use common::store_of;
 use peer::generator::driver::{Call, Driver, Format, Outcome, Peer};
 use peer::generator::lane::status_of;
-use peer::generator::random_runs::{self, Extent};
+use peer::generator::random_runs::{self, Extent, RENAMES};
 use peer::generator::scripts::{self, Runs};
 use peer::Answer;
 
@@ -18,6 +21,10 @@ struct Tester {
     damaged: usize,
     /// Conversions answered 0, 1 and 6.
     converted: [usize; 3],
+    /// RENAMEs that were made a second time.
+    renamed: usize,
+    /// RENAMEs of random runs onto names that exist, by kind and status.
+    renames: BTreeMap<String, usize>,
 }
 
 impl Driver for Tester {
@@ -77,6 +84,14 @@ impl Driver for Tester {
             1..=5 => assert!(reply.is_empty()),
             other => panic!("answer {other}"),
         }
+        if status_of(reply).is_some() {
+            let renamed = plain_rename(&before, call.bytes, call.seconds, call.nanoseconds);
+            if let Some((store, result)) = renamed {
+                assert!(self.peer.store == store);
+                assert_eq!(reply[24..], result);
+                self.renamed += 1;
+            }
+        }
         if status_of(reply) == Some(0) {
             self.changed += usize::from(before != self.peer.store);
         } else {
@@ -107,6 +122,12 @@ impl Driver for Tester {
     fn store(&self) -> &[u8] {
         &self.peer.store
     }
+
+    fn note(&mut self, group: &'static str, label: &str) {
+        if group == RENAMES {
+            *self.renames.entry(label.to_owned()).or_default() += 1;
+        }
+    }
 }
 
 #[test]
@@ -119,6 +140,7 @@ fn scripted_runs() {
     scripts::all(&mut runs);
     assert!(tester.calls > 3000 && tester.changed > 300 && tester.damaged > 200);
     assert!(tester.converted[0] > 200 && tester.converted[1] > 500 && tester.converted[2] > 6);
+    assert!(tester.renamed > 400);
 }
 
 #[test]
@@ -137,4 +159,25 @@ fn random_runs() {
     random_runs::run(&mut tester, 0, 95, Extent::Largest, 40, 5000);
     assert!(tester.calls > 10_000 && tester.changed > 1500 && tester.damaged > 200);
     assert!(tester.converted[0] > 100 && tester.converted[1] > 50);
+    assert!(tester.renamed > 1000);
+    // Each kind of RENAME onto a name that exists has one status.
+    let renames: Vec<(&str, usize)> = tester
+        .renames
+        .iter()
+        .map(|(label, &count)| (&label[..], count))
+        .collect();
+    let wanted = [
+        ("below itself, INVAL", 50),
+        ("directory over a full one, EXIST", 15),
+        ("directory over an empty one, OK", 100),
+        ("directory over file, EXIST", 15),
+        ("file over directory, EXIST", 15),
+        ("file over file, OK", 150),
+        ("onto itself, OK", 50),
+    ];
+    assert_eq!(renames.len(), wanted.len(), "{renames:?}");
+    for ((label, count), (wanted, least)) in renames.into_iter().zip(wanted) {
+        assert_eq!(label, wanted);
+        assert!(count >= least, "{label}: {count}");
+    }
 }

@@ -441,6 +441,15 @@ mod measuring {
             let removed = remove(&root, b"another");
             ([made, removed.clone()], [kept, removed])
         };
+        // There too, a file goes over another and is made anew; elsewhere a new
+        // file goes over the one of the turn before.
+        let over = if full {
+            let made = guarded(&root, &name, Attributes::size(8192));
+            [rename(&root, &name, &root, &file_name(last - 1)), made]
+        } else {
+            let made = guarded(&root, b"another", Attributes::default());
+            [made, rename(&root, b"another", &root, b"target")]
+        };
         // The name is the second padded field; its length is no multiple of 4.
         let mut padded = Padded::of(&lookup(&root, &name), 77);
         let pads = vec![0xFF; padded.count(ARGUMENTS + 1)];
@@ -448,6 +457,7 @@ mod measuring {
         padded.fill(ARGUMENTS + 1, &pads);
         let again = if full { &kept[1] } else { &kept[0] };
         let setup = if full { &kept[..] } else { &kept[..1] };
+        let target = guarded(&root, b"target", Attributes::default());
         let mix = vec![
             getattr(&file),
             lookup(&root, &file_name(0)),
@@ -477,6 +487,11 @@ mod measuring {
                 setup: setup.to_vec(),
                 ..Operation::new("EXCLUSIVE again", std::slice::from_ref(again))
             },
+            Operation {
+                setup: if full { vec![] } else { vec![target] },
+                ..Operation::new("CREATE+RENAME over", &over)
+            },
+            Operation::new("RENAME onto itself", &[rename(&root, &name, &root, &name)]),
             Operation::new("READDIR", &[readdir(&root, 0, 0, 4096)]),
             Operation::new("mix of 12 calls", &mix),
         ]
@@ -484,7 +499,7 @@ mod measuring {
 
     fn line(store: &str, operation: &str, peer: f64, library: f64) -> f64 {
         let ratio = library / peer;
-        println!("{store:<6} {operation:<16} {peer:>10.0} {library:>12.0} {ratio:>8.2}");
+        println!("{store:<6} {operation:<18} {peer:>10.0} {library:>12.0} {ratio:>8.2}");
         ratio
     }
 
@@ -515,7 +530,7 @@ mod measuring {
         ];
         let mut largest = 0f64;
         println!("Nanoseconds for one turn, the best of {REPETITIONS}; ratio is library / peer.");
-        println!("store  operation              peer      library    ratio");
+        println!("store  operation                peer      library    ratio");
         for (label, shape, store) in &stores {
             let (peer, other) = check_times(store);
             largest = largest.max(line(label, "check", peer, other));
@@ -552,7 +567,7 @@ mod measuring {
         let (peer, other) = check_times(&store);
         println!();
         println!("62 directories one in another, and one that is moved into the innermost.");
-        println!("store  operation              peer      library    ratio");
+        println!("store  operation                peer      library    ratio");
         line("deep", "check", peer, other);
         let root = handle(STAMP, 0, 0);
         let there = rename(&root, b"moved", &inner, b"moved").call(77);

@@ -374,9 +374,9 @@ mod comparison {
             &self.peer.store
         }
 
-        /// Of the labels only the rules are counted.
+        /// Of the labels only the rules and the random RENAMEs are counted.
         fn note(&mut self, group: &'static str, label: &str) {
-            if group == rules::GROUP {
+            if group == rules::GROUP || group == random_runs::RENAMES {
                 self.coverage.note(group, label);
             }
         }

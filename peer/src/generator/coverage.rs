@@ -5,6 +5,7 @@ use std::fmt::Write;
 
 use super::driver::Outcome;
 use super::lane::status_of;
+use super::random_runs::{meetings, RENAMES};
 use super::rules;
 use crate::arguments::{How, Place};
 use crate::numbers::{message, procedure, Status};
@@ -250,6 +251,11 @@ impl Coverage {
         }
     }
 
+    fn noted(&self, group: &str, label: &str) -> bool {
+        let labels = self.notes.get(group);
+        labels.is_some_and(|labels| labels.contains_key(label))
+    }
+
     /// What should have been reached and was not.
     pub fn missing(&self) -> Vec<String> {
         let mut missing = Vec::new();
@@ -268,9 +274,13 @@ impl Coverage {
             }
         }
         for rule in rules::all() {
-            let noted = self.notes.get(rules::GROUP);
-            if !noted.is_some_and(|labels| labels.contains_key(&rule)) {
+            if !self.noted(rules::GROUP, &rule) {
                 missing.push(format!("rule: {rule}"));
+            }
+        }
+        for meeting in meetings() {
+            if !self.noted(RENAMES, &meeting) {
+                missing.push(format!("random RENAME: {meeting}"));
             }
         }
         for (number, name) in PROCEDURE_NAMES.iter().enumerate() {
@@ -323,7 +333,15 @@ impl Coverage {
             .keys()
             .filter(|&&status| expected_of_exclusive().all(|known| known.0 != status))
             .map(|status| format!("EXCLUSIVE {status}"));
-        pairs.chain(exclusive).collect()
+        let known = meetings();
+        let renames = self
+            .notes
+            .get(RENAMES)
+            .into_iter()
+            .flat_map(|labels| labels.keys())
+            .filter(|&label| !known.contains(label))
+            .map(|label| format!("random RENAME: {label}"));
+        pairs.chain(exclusive).chain(renames).collect()
     }
 
     /// The tables as text.

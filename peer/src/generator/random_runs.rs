@@ -1,17 +1,18 @@
 //! Random runs that know the state of the store, so that calls go deep:
 //! most handles are live, most names exist, some handles are stale.
 
+use super::coverage::status_name;
 use super::driver::{Call, Driver, Format};
 use super::encode::{handle, malformed, Attributes, Header, How, Request, Time};
-use super::lane::{exclusive, status_of, Lane};
+use super::lane::{exclusive, mkdir, rename, status_of, Lane};
 use super::old_images::{empty, old_image, Damaged};
 use super::padding::Padded;
 use super::random::Random;
-use super::view::View;
+use super::view::{Named, View};
 use crate::layout::{
     object_field, Shape, MAX_BLOCKS, MAX_NAMES, MAX_OBJECTS, OBJECTS_AT, OBJECT_BYTES,
 };
-use crate::numbers::procedure;
+use crate::numbers::{procedure, Status};
 use crate::old_check;
 
 /// How large the store of a run is.
@@ -30,9 +31,10 @@ pub enum Extent {
 impl Extent {
     fn shape(self, random: &mut Random) -> Shape {
         let (objects, names, blocks) = match self {
+            // Seldom too few records for two names.
             Extent::Small => (
-                random.between(1, 8),
-                random.between(0, 9),
+                random.between(1, 8).max(random.between(1, 8)),
+                random.between(0, 9).max(random.between(0, 9)),
                 random.between(0, 12),
             ),
             Extent::Middle => (
@@ -104,6 +106,9 @@ const ODD_SIZES: [u64; 8] = [
 /// Verifiers of EXCLUSIVE CREATE, so few that they come again by chance.
 const VERIFIERS: [[u8; 8]; 4] = [[0; 8], *b"verifier", *b"verifies", [0xFF; 8]];
 
+/// The group of labels for what random RENAMEs do.
+pub const RENAMES: &str = "RENAME in random runs";
+
 /// The largest store that takes part in conversions.
 const LARGEST_CONVERTED: usize = 50_000;
 
@@ -116,12 +121,62 @@ enum Existing {
     Directory,
 }
 
+/// The kinds of RENAME onto a name that exists.
+const ITSELF: &str = "onto itself";
+const BELOW: &str = "below itself";
+const FILES: &str = "file over file";
+const FILE_ON_DIRECTORY: &str = "file over directory";
+const DIRECTORY_ON_FILE: &str = "directory over file";
+const ON_FULL: &str = "directory over a full one";
+const ON_EMPTY: &str = "directory over an empty one";
+
+/// Each of them with its status, as they are counted.
+pub fn meetings() -> [String; 7] {
+    [
+        (ITSELF, Status::OK),
+        (BELOW, Status::INVAL),
+        (FILES, Status::OK),
+        (FILE_ON_DIRECTORY, Status::EXIST),
+        (DIRECTORY_ON_FILE, Status::EXIST),
+        (ON_FULL, Status::EXIST),
+        (ON_EMPTY, Status::OK),
+    ]
+    .map(|(kind, status)| met(kind, status.0))
+}
+
+fn met(kind: &str, status: u32) -> String {
+    format!("{kind}, {}", status_name(status))
+}
+
+/// What meets in a RENAME onto a name that exists.
+struct Meeting {
+    kind: &'static str,
+    /// The handle of the object that has the second name.
+    target: Vec<u8>,
+}
+
+/// Where a RENAME goes that is to meet a name.
+#[derive(Clone, Copy, PartialEq, Eq)]
+enum Goal {
+    /// An object that can be replaced.
+    Replaceable,
+    /// Any object.
+    Any,
+    /// The moved object itself.
+    Itself,
+    /// An object below the moved directory.
+    Below,
+}
+
 /// A random run under way.
 pub struct RandomRun<'d> {
     lane: Lane<'d>,
     random: Random,
     /// Every handle that a reply gave out.
     handles: Vec<Vec<u8>>,
+    /// The handle of an object that RENAME has just replaced, for the next
+    /// request that asks for a handle.
+    replaced: Option<Vec<u8>>,
     /// The last call that was sent whole.
     last: Vec<u8>,
     /// The largest data of a WRITE, and the largest count of a READ.
@@ -147,6 +202,7 @@ pub fn run(
         lane,
         random,
         handles: Vec::new(),
+        replaced: None,
         last: Vec::new(),
         transfer,
     };
@@ -223,9 +279,19 @@ impl RandomRun<'_> {
 
     /// Sends a call and keeps the handle that its reply gives out.
     fn send(&mut self, request: &Request) {
+        let meeting = self.meeting(request);
         self.last = self.call(request).bytes;
         let outcome = self.lane.raw(&self.last);
-        if status_of(&outcome.reply) != Some(0) {
+        let status = status_of(&outcome.reply);
+        if let (Some(meeting), Some(status)) = (meeting, status) {
+            let label = met(meeting.kind, status);
+            self.lane.driver.note(RENAMES, &label);
+            if status == 0 && meeting.kind != ITSELF {
+                self.keep(&meeting.target);
+                self.replaced = self.random.once_in(2).then_some(meeting.target);
+            }
+        }
+        if status != Some(0) {
             return;
         }
         let at = match request.procedure() {
@@ -233,14 +299,54 @@ impl RandomRun<'_> {
             procedure::CREATE | procedure::MKDIR => 36,
             _ => return,
         };
-        let given = outcome.reply[at..at + 12].to_vec();
-        if !self.handles.contains(&given) {
-            self.handles.push(given);
+        self.keep(&outcome.reply[at..at + 12]);
+    }
+
+    fn keep(&mut self, given: &[u8]) {
+        if !self.handles.iter().any(|known| known == given) {
+            self.handles.push(given.to_vec());
         }
+    }
+
+    /// What meets if the request is a RENAME of a name that exists onto
+    /// another one that exists.
+    fn meeting(&self, request: &Request) -> Option<Meeting> {
+        let Request::Rename {
+            from,
+            from_name,
+            to,
+            to_name,
+        } = request
+        else {
+            return None;
+        };
+        let view = self.view()?;
+        let moved = view.find(from, from_name)?;
+        let target = view.find(to, to_name)?;
+        let directories = (
+            view.is_directory(moved.child),
+            view.is_directory(target.child),
+        );
+        let kind = match directories {
+            _ if moved.child == target.child => ITSELF,
+            (true, _) if view.is_within(target.directory, moved.child) => BELOW,
+            (false, false) => FILES,
+            (false, true) => FILE_ON_DIRECTORY,
+            (true, false) => DIRECTORY_ON_FILE,
+            (true, true) if view.is_occupied(target.child) => ON_FULL,
+            (true, true) => ON_EMPTY,
+        };
+        Some(Meeting {
+            kind,
+            target: view.handle(target.child)?.to_vec(),
+        })
     }
 
     /// A handle, mostly live and of the wanted kind.
     fn handle(&mut self, view: &View, directory: bool) -> Vec<u8> {
+        if let Some(replaced) = self.replaced.take() {
+            return replaced;
+        }
         let random = &mut self.random;
         let right: Vec<&[u8]> = view
             .live
@@ -424,7 +530,7 @@ impl RandomRun<'_> {
                     how,
                 }
             }
-            14..=21 => {
+            14..=22 => {
                 let directory = self.handle(&view, true);
                 let existing = self.existing_once_in(6);
                 let name = self.name(&view, &directory, existing);
@@ -435,8 +541,8 @@ impl RandomRun<'_> {
                     attributes,
                 }
             }
-            22..=35 => self.write_request(&view),
-            36..=43 => {
+            23..=34 => self.write_request(&view),
+            35..=40 => {
                 let file = self.handle(&view, false);
                 let offset = self.size();
                 let count = match self.random.below(8) {
@@ -457,7 +563,7 @@ impl RandomRun<'_> {
                     count,
                 }
             }
-            44..=53 => {
+            41..=49 => {
                 let directory = self.random.once_in(5);
                 let object = self.handle(&view, directory);
                 let attributes = self.attributes(if directory { 1 } else { 8 });
@@ -475,7 +581,7 @@ impl RandomRun<'_> {
                     guard,
                 }
             }
-            54..=61 => {
+            50..=56 => {
                 let directory = self.handle(&view, true);
                 let existing = self
                     .random
@@ -483,27 +589,15 @@ impl RandomRun<'_> {
                 let name = self.name(&view, &directory, existing);
                 Request::Lookup { directory, name }
             }
-            62..=68 => {
+            57..=62 => {
                 let (directory, name) = self.place(&view, Existing::File);
                 Request::Remove { directory, name }
             }
-            69..=72 => {
+            63..=66 => {
                 let (directory, name) = self.place(&view, Existing::Directory);
                 Request::Rmdir { directory, name }
             }
-            73..=82 => {
-                let wanted = self.random.pick(&[Existing::File, Existing::Directory]);
-                let (from, from_name) = self.place(&view, wanted);
-                let to = self.handle(&view, true);
-                let existing = self.existing_once_in(5);
-                let to_name = self.name(&view, &to, existing);
-                Request::Rename {
-                    from,
-                    from_name,
-                    to,
-                    to_name,
-                }
-            }
+            67..=82 => self.rename_request(&view),
             83..=88 => {
                 let directory = self.handle(&view, true);
                 let cookie = match self.random.below(6) {
@@ -572,6 +666,92 @@ impl RandomRun<'_> {
                 }
             }
         }
+    }
+
+    /// A RENAME, mostly onto a name that exists.
+    fn rename_request(&mut self, view: &View) -> Request {
+        let goal = match self.random.below(16) {
+            0..=7 => Some(Goal::Replaceable),
+            8..=9 => Some(Goal::Any),
+            10 => Some(Goal::Itself),
+            11 => Some(Goal::Below),
+            _ => None,
+        };
+        if let Some(request) = goal.and_then(|goal| self.rename_onto(view, goal)) {
+            return request;
+        }
+        if goal == Some(Goal::Replaceable) {
+            return self.another(view);
+        }
+        let wanted = self.random.pick(&[Existing::File, Existing::Directory]);
+        let (from, from_name) = self.place(view, wanted);
+        let to = self.handle(view, true);
+        let existing = self.existing_once_in(5);
+        let to_name = self.name(view, &to, existing);
+        Request::Rename {
+            from,
+            from_name,
+            to,
+            to_name,
+        }
+    }
+
+    /// A CREATE or MKDIR in a live directory, so that there is something to
+    /// replace.
+    fn another(&mut self, view: &View) -> Request {
+        let directories: Vec<&[u8]> = view
+            .live
+            .iter()
+            .filter(|seen| seen.directory)
+            .map(|seen| &seen.handle[..])
+            .collect();
+        let directory = self.random.pick(&directories);
+        let name = self.random.pick(&NAMES);
+        if self.random.once_in(2) {
+            mkdir(directory, name, Attributes::default())
+        } else {
+            exclusive(directory, name, self.random.pick(&VERIFIERS))
+        }
+    }
+
+    /// A RENAME of a name that exists onto one that exists, if there is such a
+    /// pair.
+    fn rename_onto(&mut self, view: &View, goal: Goal) -> Option<Request> {
+        let fits = |moved: &Named, target: &Named| match goal {
+            Goal::Replaceable => {
+                moved.child != target.child
+                    && view.is_directory(moved.child) == view.is_directory(target.child)
+                    && !view.is_occupied(target.child)
+                    && !view.is_within(target.directory, moved.child)
+            }
+            Goal::Any => moved.child != target.child,
+            Goal::Itself => moved.child == target.child,
+            Goal::Below => view.is_within(target.directory, moved.child),
+        };
+        let pairs_of = |directory: bool| -> Vec<(&Named, &Named)> {
+            let moved = view.names.iter();
+            moved
+                .filter(|moved| view.is_directory(moved.child) == directory)
+                .flat_map(|moved| view.names.iter().map(move |target| (moved, target)))
+                .filter(|(moved, target)| fits(moved, target))
+                .collect()
+        };
+        // Files are more than directories; both kinds are moved.
+        let directory = self.random.once_in(2);
+        let mut pairs = pairs_of(directory);
+        if pairs.is_empty() {
+            pairs = pairs_of(!directory);
+        }
+        if pairs.is_empty() {
+            return None;
+        }
+        let (moved, target) = self.random.pick(&pairs);
+        Some(rename(
+            view.handle(moved.directory)?,
+            &moved.name,
+            view.handle(target.directory)?,
+            &target.name,
+        ))
     }
 
     fn write_request(&mut self, view: &View) -> Request {

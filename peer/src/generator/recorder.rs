@@ -12,8 +12,8 @@ const SEED: u64 = 1813;
 /// Random runs after the scripted ones: extent, how many, steps in each, the
 /// largest transfer.
 const RANDOM_RUNS: [(Extent, usize, usize, usize); 5] = [
-    (Extent::Small, 48, 60, 250),
-    (Extent::Middle, 22, 110, 250),
+    (Extent::Small, 36, 60, 250),
+    (Extent::Middle, 17, 110, 250),
     (Extent::Middle, 3, 50, 5000),
     (Extent::Wide, 4, 120, 200),
     (Extent::Largest, 2, 60, 600),

@@ -85,6 +85,98 @@ labels! {
     PADS_UNREAD = "padding: NOTSUPP, arguments unread, whole or cut";
     PADS_IN_STORE = "padding: a store's must be zero";
     PADS_IN_OLD_IMAGE = "padding: an old image's must be zero";
+    // RENAME over a file.
+    OVER_FILE = "rename: file over file, one directory";
+    OVER_FILE_ELSEWHERE = "rename: file over file, two directories";
+    OVER_LATER_RECORD = "rename: the target's name record after the moved one's";
+    OVER_EARLIER_RECORD = "rename: the target's name record before the moved one's";
+    OVER_LATER_OBJECT = "rename: the target's object after the moved one";
+    OVER_EARLIER_OBJECT = "rename: the target's object before the moved one";
+    OVER_LARGER = "rename: over a larger file";
+    OVER_SMALLER = "rename: over a smaller file";
+    OVER_EQUAL = "rename: over a file of the same size";
+    OVER_EMPTY = "rename: over an empty file";
+    OVER_BY_EMPTY = "rename: an empty file over one with bytes";
+    OVER_TAIL = "rename: bytes behind the target's end are zeroed with their block";
+    OVER_FREE_BLOCKS = "rename: bytes of other free blocks stay";
+    OVER_MOVED_VERIFIER = "rename: the moved file keeps its verifier";
+    OVER_TARGET_VERIFIER = "rename: the target's verifier is gone";
+    OVER_SENT_AGAIN = "rename: sent again after success, NOENT";
+    // RENAME over a directory.
+    OVER_DIRECTORY = "rename: directory over an empty one, one directory";
+    OVER_DIRECTORY_ELSEWHERE = "rename: directory over an empty one, two directories";
+    OVER_BY_FULL = "rename: a directory that is not empty over an empty one";
+    OVER_DOT_DOT = "rename: the dots of the moved directory lead to the second one";
+    OVER_LINKS = "rename: one directory has a subdirectory less";
+    OVER_LINKS_ELSEWHERE = "rename: the first directory has a subdirectory less, the second as many";
+    OVER_EMPTIED = "rename: over a directory that was emptied";
+    OVER_DEEP = "rename: over an empty directory at the deepest place";
+    // Targets that stay.
+    OVER_FULL = "rename: directory over one that is not empty, EXIST";
+    OVER_PARENT = "rename: over the directory that holds it, EXIST";
+    OVER_ABOVE = "rename: over a directory farther above it, EXIST";
+    FILE_OVER_DIRECTORY = "rename: file over directory, empty or not, EXIST";
+    DIRECTORY_OVER_FILE = "rename: directory over file, EXIST";
+    // The same object.
+    SAME_FILE = "rename: a file onto itself, OK, nothing changes";
+    SAME_DIRECTORY = "rename: an empty directory onto itself, OK, nothing changes";
+    SAME_FULL = "rename: a directory that is not empty onto itself, OK, nothing changes";
+    SAME_WITHOUT_ROOM = "rename: onto itself in a full store, OK";
+    // A directory into itself or below.
+    BELOW_DIRECTORY = "rename: below itself onto an empty directory, INVAL";
+    BELOW_FULL = "rename: below itself onto a directory that is not empty, INVAL";
+    BELOW_FILE = "rename: below itself onto a file, INVAL";
+    BELOW_ITSELF = "rename: into itself onto a name in it, INVAL";
+    BELOW_DEEP = "rename: far below itself onto a name there, INVAL";
+    // The order of the tests.
+    RENAME_HANDLES = "rename: both handles and NOTDIR before the names";
+    RENAME_NAMES = "rename: both name tests before the dots";
+    RENAME_DOTS = "rename: dots before NOENT and the target";
+    RENAME_NOENT = "rename: NOENT before the target";
+    // The room of a target.
+    OVER_NO_OBJECT = "rename: replacing without a free object";
+    OVER_NO_NAME = "rename: replacing without a free name";
+    OVER_NO_BLOCK = "rename: replacing without a free block";
+    OVER_FREED_OBJECT = "rename: the freed object is taken when it is the lowest";
+    OVER_FREED_NAME = "rename: the freed name record is taken when it is the lowest";
+    OVER_FREED_BLOCKS = "rename: the freed blocks are taken when they are the lowest";
+    OVER_LOWER_FIRST = "rename: lower free ones are taken before the freed ones";
+    OVER_LARGEST = "rename: replacing in the largest store";
+    // The target's handle, and the moved one's.
+    OVER_REUSED = "rename: the target's record used again has the next generation";
+    OVER_SPENT = "rename: a target of the last generation, its record is not available";
+    OVER_MOVED_HANDLE = "rename: the moved object's handle stays good, with its bytes";
+    // Times.
+    OVER_CLOCK = "rename: times from the clock of the call, earlier ones too";
+}
+
+/// The procedures that take a handle, but for those that are not served.
+const WITH_HANDLE: [u32; 16] = [
+    procedure::GETATTR,
+    procedure::SETATTR,
+    procedure::LOOKUP,
+    procedure::ACCESS,
+    procedure::READ,
+    procedure::WRITE,
+    procedure::CREATE,
+    procedure::MKDIR,
+    procedure::REMOVE,
+    procedure::RMDIR,
+    procedure::RENAME,
+    procedure::READDIR,
+    procedure::FSSTAT,
+    procedure::FSINFO,
+    procedure::PATHCONF,
+    procedure::COMMIT,
+];
+
+/// The label for a call with the handle of a replaced object, before or after
+/// its record is used again.
+pub fn replaced_handle(number: u32, directory: bool, reused: bool) -> String {
+    let kind = if directory { "directory" } else { "file" };
+    let state = if reused { "used again" } else { "free" };
+    let name = PROCEDURE_NAMES[number as usize];
+    format!("rename: handle of a replaced {kind}, record {state}: {name} STALE")
 }
 
 /// How a call ends whose pad bytes are not zero.
@@ -150,6 +242,11 @@ pub fn all() -> Vec<String> {
                 let possible = if field.ends_with("handle") { 2 } else { 3 };
                 add(number, ARGUMENTS + at, &ends[..possible]);
             }
+        }
+    }
+    for number in WITH_HANDLE {
+        for (directory, reused) in [(false, false), (false, true), (true, false), (true, true)] {
+            labels.push(replaced_handle(number, directory, reused));
         }
     }
     labels

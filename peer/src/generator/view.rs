@@ -94,6 +94,24 @@ impl View {
             .map(|seen| &seen.handle[..])
     }
 
+    /// The name record of a name in a directory.
+    pub fn find(&self, directory: &[u8], name: &[u8]) -> Option<&Named> {
+        self.names
+            .iter()
+            .find(|named| named.name == name && self.handle(named.directory) == Some(directory))
+    }
+
+    /// Whether the object holds a name.
+    pub fn is_occupied(&self, object: usize) -> bool {
+        self.names.iter().any(|named| named.directory == object)
+    }
+
+    /// Whether a directory is the given one or lies below it.
+    pub fn is_within(&self, directory: usize, top: usize) -> bool {
+        let above = self.names.iter().find(|named| named.child == directory);
+        directory == top || above.is_some_and(|named| self.is_within(named.directory, top))
+    }
+
     /// Whether the object is a live directory.
     pub fn is_directory(&self, object: usize) -> bool {
         self.live

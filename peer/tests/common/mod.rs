@@ -3,6 +3,7 @@
 #![allow(dead_code)]
 
 pub mod plain;
+pub mod plain_rename;
 
 use peer::generator::encode::{handle, Attributes, How, Request};
 use peer::layout::Shape;

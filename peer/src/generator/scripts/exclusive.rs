@@ -302,7 +302,7 @@ pub(super) fn keeping(runs: &mut Runs<'_>) {
         (commit(&file, 0, 0), Status::OK, rules::WRITE),
         (
             rename(&root, b"kept", &root, b"kept"),
-            Status::EXIST,
+            Status::OK,
             rules::RENAME,
         ),
         (

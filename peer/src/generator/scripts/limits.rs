@@ -3,6 +3,7 @@
 use super::*;
 use crate::generator::encode::{handle, Attributes};
 use crate::generator::lane::*;
+use crate::generator::rules;
 use crate::numbers::Status;
 
 pub(super) fn full_stores(runs: &mut Runs<'_>) {
@@ -227,6 +228,17 @@ pub(super) fn largest_store(runs: &mut Runs<'_>) {
         &root,
         b"five",
     ));
+    // Over a file of 16 blocks, at both ends of the records.
+    for (from, to) in [(62, 0), (1, 61)] {
+        let [from, to] = [from, to].map(|number| format!("{number:032}"));
+        rename::replaced(
+            &mut lane,
+            (&root, from.as_bytes()),
+            (&root, to.as_bytes()),
+            &[rules::OVER_LARGEST],
+        );
+        lane.create(&root, from.as_bytes(), 8192);
+    }
     lane.done(&remove(&root, format!("{:032}", 30).as_bytes()));
     let again = lane.create(&root, b"again", 8192);
     assert_eq!(again, handle(STAMP, 31, 1));
@@ -253,19 +265,20 @@ pub(super) fn largest_store(runs: &mut Runs<'_>) {
     conversions::largest(runs, shape, &store);
 
     let mut lane = runs.open("deepest chain of directories", (64, 128, 2));
-    let mut directory = root.clone();
+    let mut chain = vec![root.clone()];
     for number in 0..63 {
         let name = format!("{number}");
-        directory = lane.mkdir(&directory, name.as_bytes());
+        chain.push(lane.mkdir(&chain[number], name.as_bytes()));
     }
     lane.driver.check();
     lane.expect(
         "RENAME INVAL: below itself, deepest chain",
-        &rename(&root, b"0", &directory, b"x"),
+        &rename(&root, b"0", &chain[63], b"x"),
         Status::INVAL,
     );
-    lane.done(&lookup(&directory, b".."));
-    lane.done(&rmdir(&handle(STAMP, 62, 0), b"62"));
+    lane.done(&lookup(&chain[63], b".."));
+    lane.done(&rmdir(&chain[62], b"62"));
+    rename::deepest(&mut lane, &chain[..63], b"61");
     let first = lane.name_at(0);
     for target in [1, 40, 62] {
         lane.patch_word(first, target);

@@ -1,7 +1,7 @@
 //! Runs written out by hand: the examples of document 01, every refusal and
 //! RPC outcome, every status of every procedure, full stores, spent
-//! generations, damaged stores, the rules of EXCLUSIVE CREATE, conversions and
-//! pad bytes that are not zero.
+//! generations, damaged stores, the rules of EXCLUSIVE CREATE, conversions, pad
+//! bytes that are not zero and RENAME over names that exist.
 
 mod conversions;
 mod damage;
@@ -9,6 +9,7 @@ mod exclusive;
 mod limits;
 mod messages;
 mod padding;
+mod rename;
 mod statuses;
 
 use super::driver::Driver;
@@ -96,6 +97,17 @@ pub fn all(runs: &mut Runs<'_>) {
     padding::unread(runs);
     padding::later_faults(runs);
     padding::lent_buffers(runs);
+    rename::files(runs);
+    rename::directories(runs);
+    rename::targets_that_stay(runs);
+    rename::same_object(runs);
+    rename::below_itself(runs);
+    rename::order(runs);
+    rename::full_stores(runs);
+    rename::lowest_numbers(runs);
+    rename::old_handles(runs);
+    rename::spent_generations(runs);
+    rename::clocks(runs);
     messages::changed_bytes(runs);
     limits::largest_store(runs);
     limits::scattered_blocks(runs);

@@ -270,7 +270,8 @@ pub(super) fn names(runs: &mut Runs<'_>) {
             rename(&full, &first, &root, &directory),
             rmdir(&root, &directory),
             remove(&root, &other),
-            remove(&root, &second),
+            rename(&root, &second, &root, &third),
+            rename(&root, &third, &root, &third),
             remove(&root, &third),
         ] {
             done(&mut lane, pads, &request);
