@@ -16,20 +16,22 @@ use Rattle.spec.specs.Handles.{before, change}
 use Rattle.spec.specs.Image.{Store, objects}
 use Rattle.spec.specs.Procedures.{cut, act}
 use Rattle.spec.specs.Procedures.Names.{touchDirectory}
-use Rattle.spec.specs.Procedures.Removal.{checkRemove, checkRmdir, checkRename, removeFrom, remove, rmdir, renameEdit, rename}
-use Rattle.laws.proofs.ActGood.{act-good}
+use Rattle.spec.specs.Procedures.Removal.{checkRemove, checkRmdir, removeFrom, remove, rmdir, Onto, newName, sameObject, replacing, checkRename, renameEdit}
+use Rattle.spec.specs.Procedures.Removal.{rename}
+use Rattle.laws.proofs.ActGood.{replaced, act-good}
 use Rattle.laws.proofs.Bytes.{part-length}
 use Rattle.laws.proofs.GoodRecords.{GoodRecords, StillGood, GoodClock, used-at}
-use Rattle.laws.proofs.Passed.{EntryPassed, remove-passed, rmdir-passed, rename-passed, found-record}
+use Rattle.laws.proofs.Passed.{EntryPassed, remove-passed, rmdir-passed, RenamePassed, rename-passed, found-record}
 use Rattle.laws.proofs.Range.{Below}
 use Rattle.laws.proofs.Valid.{Valid}
 use Rattle.results.specs.Meaning.{changeIn}
 use Rattle.results.specs.Writable.{Showable}
-use Rattle.edit_entries.specs.Records.{RemovableAt, MovableAt}
+use Rattle.edit_entries.specs.Records.{RemovableAt, RenamableAt}
 use Rattle.check_remove.specs.Meaning.{removableOf}
-use Rattle.check_rename.specs.Meaning.{renamableOf}
+use Rattle.check_rename.specs.Meaning.{ontoOf, renamableOf}
 use Rattle.check_remove.specs.declared.Removable.{Removable}
 use Rattle.check_remove.specs.declared.Removable.the-variants as Removable
+use Rattle.check_rename.specs.declared.Onto as check-rename
 use Rattle.check_rename.specs.declared.Renamable.{Renamable}
 use Rattle.check_rename.specs.declared.Renamable.the-variants as Renamable
 
@@ -49,9 +51,11 @@ pub record Removing (s : Store) (c : Context) (d n : ℕ) : Type 0 where
   pub at : RemovableAt s d n
   pub still : StillGood s (touchDirectory (removeObject s n) c d)
 
-pub record Moving (s : Store) (c : Context) (d e n size : ℕ) (title : List ℕ) : Type 0 where
-  pub at : MovableAt s d e n size
-  pub still : StillGood s (renameEdit s c d e n title)
+pub record Renaming (s : Store) (c : Context) (d e n size : ℕ) (t : Onto) (title : List ℕ) : Type 0 where
+  pub directory : d < objects s
+  pub target : e < objects s
+  pub at : RenamableAt s d e n size t
+  pub still : StillGood s (renameEdit s c d e n t title)
 
 entry-at : (s : Store) (h text : List ℕ) (d n : ℕ) → EntryPassed s h text d n → RemovableAt s d n
 entry-at s h text d n p =
@@ -75,21 +79,43 @@ module _ (s : Store) (c : Context) (v : Valid s) (g : GoodRecords s) (k : GoodCl
         still = rw e at (act-good s c v (g .sound .bytes) k call (Arguments.Rmdir p) w tt);
       }
 
-  moving : (q : NameIn) (d e n : ℕ) → q .name .start + q .name .length ≤ length call
-      → checkRename s (cut call (p .directory)) (cut call (p .name)) (cut call (q .directory)) (cut call (q .name)) ≡ passed (d, e, n)
-      → Moving s c d e n (q .name .length) (cut call (q .name))
-  unfolding act rename
-  moving q d e n fits x =
-      let y = rename-passed s (cut call (p .directory)) (cut call (p .name)) (cut call (q .directory)) (cut call (q .name)) (d, e, n) x in
-      let r = found-record s d (cut call (p .name)) n (y .found) in
+  renamable-at : (h text j title : List ℕ) (d e n size : ℕ) (t : Onto) → size ≤ 32 → RenamePassed s h text j title d e n t → RenamableAt s d e n size t
+  renamable-at h text j title d e n size newName short y =
+      let r = found-record s d text n (y .found) in
       record {
-        at = record {
-          directory = y .reached .below;
-          target = y .target-reached .below;
-          name = r .0;
-          child = used-at s g n (r .0) (r .1) .0;
-          short = omega (arith, y .target-good .short, part-length call (q .name .start) (q .name .length) fits);
+        directory = y .reached .below;
+        target = y .target-reached .below;
+        name = r .0;
+        child = used-at s g n (r .0) (r .1) .0;
+        short = short;
+      }
+  renamable-at h text j title d e n size sameObject short y = tt
+  renamable-at h text j title d e n size (replacing m) short y =
+      let (r, x) = replaced s c v (g .sound .bytes) k h text j title d e n m y in
+      let w = found-record s e title m (y .target .found) in
+      record {
+        removable = record { directory = y .target-reached .below; name = w .0; used = w .1 };
+        good = r .good;
+        movable = record {
+          directory = x .below;
+          target = x .beyond;
+          name = x .name;
+          child = used-at (removeObject s m) (r .good) n (x .name) (x .used) .0;
+          short = short;
         };
+      }
+
+  renaming : (q : NameIn) (d e n : ℕ) (t : Onto) → q .name .start + q .name .length ≤ length call
+      → checkRename s (cut call (p .directory)) (cut call (p .name)) (cut call (q .directory)) (cut call (q .name)) ≡ passed (d, e, n, t)
+      → Renaming s c d e n (q .name .length) t (cut call (q .name))
+  unfolding act rename
+  renaming q d e n t fits x =
+      let y = rename-passed s (cut call (p .directory)) (cut call (p .name)) (cut call (q .directory)) (cut call (q .name)) (d, e, n, t) x in
+      record {
+        directory = y .reached .below;
+        target = y .target-reached .below;
+        at = renamable-at (cut call (p .directory)) (cut call (p .name)) (cut call (q .directory)) (cut call (q .name)) d e n (q .name .length) t
+            (omega (arith, y .target-good .short, part-length call (q .name .start) (q .name .length) fits)) y;
         still = rw x at (act-good s c v (g .sound .bytes) k call (Arguments.Rename p q) w tt);
       }
 
@@ -102,8 +128,8 @@ module _ (s : Store) (c : Context) (v : Valid s) (g : GoodRecords s) (k : GoodCl
       → removableOf r ≡ checkRmdir s (cut call (p .directory)) (cut call (p .name)) → Removing s c (d .0) (n .0)
   rmdir-found r d n is e = removing-directory (d .0) (n .0) (sym e ∙ ap removableOf is)
 
-  pub rename-found : (q : NameIn) → q .name .start + q .name .length ≤ length call → (r : Renamable) (d e : ObjectNumber) (n : NameNumber)
-      → r ≡ Renamable.At d e n
+  pub rename-found : (q : NameIn) → q .name .start + q .name .length ≤ length call
+      → (r : Renamable) (d e : ObjectNumber) (n : NameNumber) (t : check-rename.Onto) → r ≡ Renamable.At d e n t
       → renamableOf r ≡ checkRename s (cut call (p .directory)) (cut call (p .name)) (cut call (q .directory)) (cut call (q .name))
-      → Moving s c (d .0) (e .0) (n .0) (q .name .length) (cut call (q .name))
-  rename-found q fits r d e n is x = moving q (d .0) (e .0) (n .0) fits (sym x ∙ ap renamableOf is)
+      → Renaming s c (d .0) (e .0) (n .0) (q .name .length) (ontoOf t) (cut call (q .name))
+  rename-found q fits r d e n t is x = renaming q (d .0) (e .0) (n .0) (ontoOf t) fits (sym x ∙ ap renamableOf is)

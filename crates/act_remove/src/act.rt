@@ -1,8 +1,9 @@
 // What REMOVE, RMDIR and RENAME do: their checks, their edits of the store, and their result.
 ghost use mathlib.Core.Path.{_≡_};
-ghost use Prim.Native.Nat.{_+_, _≤_};
+ghost use Prim.Native.Nat.{_+_, _<_, _≤_};
 ghost use lib.ListN.{length};
 ghost use Rattle.spec.specs.Edits.{removeObject};
+ghost use Rattle.spec.specs.Image.{objects};
 ghost use Rattle.spec.specs.Procedures.{cut};
 ghost use Rattle.spec.specs.Procedures.Attributes.{edited};
 ghost use Rattle.spec.specs.Procedures.Names.{touchDirectory};
@@ -12,12 +13,14 @@ ghost use Rattle.laws.proofs.Valid.{Valid};
 ghost use Rattle.results.specs.Meaning.{resultOf};
 ghost use Rattle.results.specs.Writable.{Writable};
 ghost use Rattle.results.specs.Does.{Does};
-ghost use Rattle.edit_entries.specs.Records.{RemovableAt, MovableAt};
+ghost use Rattle.check_rename.specs.Meaning.{ontoOf};
+ghost use Rattle.edit_entries.specs.Records.{RemovableAt, RenamableAt};
 use check_handles::failure::fail_changing;
 use check_handles::failure::handle_change;
 use check_remove::Removable;
 use check_remove::check_remove;
 use check_remove::check_rmdir;
+use check_rename::Onto;
 use check_rename::Renamable;
 use check_rename::check_rename;
 use edit_entries::remove_edit;
@@ -107,18 +110,21 @@ fn rename_entry(
     d: ObjectNumber,
     e: ObjectNumber,
     n: NameNumber,
+    onto: Onto,
     call: &[u8],
     name: Part,
 ) -> Reply
     requires { ⌜ GoodRecords (now store) ⌝ }
-    requires { ⌜ MovableAt (now store) (d .0) (e .0) (n .0) (name .length) ⌝ }
+    requires { ⌜ d .0 < objects (now store) ⌝ }
+    requires { ⌜ e .0 < objects (now store) ⌝ }
+    requires { ⌜ RenamableAt (now store) (d .0) (e .0) (n .0) (name .length) (ontoOf onto) ⌝ }
     requires { ⌜ name .start + name .length ≤ length (now call) ⌝ }
-    requires { ⌜ StillGood (now store) (renameEdit (now store) context (d .0) (e .0) (n .0) (cut (now call) name)) ⌝ }
-    ensures { λ r. ⌜ Does (renamedTo (now (store .entry)) (d .0) (e .0) (renameEdit (now (store .entry)) context (d .0) (e .0) (n .0) (cut (now (call .entry)) name))) r (now (store .exit)) ⌝ }
+    requires { ⌜ StillGood (now store) (renameEdit (now store) context (d .0) (e .0) (n .0) (ontoOf onto) (cut (now call) name)) ⌝ }
+    ensures { λ r. ⌜ Does (renamedTo (now (store .entry)) (d .0) (e .0) (renameEdit (now (store .entry)) context (d .0) (e .0) (n .0) (ontoOf onto) (cut (now (call .entry)) name))) r (now (store .exit)) ⌝ }
 {
     let from = before(store, d);
     let to = before(store, e);
-    rename_edit(store, context, d, e, n, call, name);
+    rename_edit(store, context, d, e, n, onto, call, name);
     let source = ObjectChange {
         before: from,
         object: d,
@@ -149,7 +155,7 @@ pub fn rename(store: &mut [u8], context: Context, call: &[u8], p: NameIn, q: Nam
     let name = q.name;
     let checked = check_rename(store, call, p, q);
     match checked {
-        Renamable::At(d, e, n) => rename_entry(store, context, d, e, n, call, name),
+        Renamable::At(d, e, n, onto) => rename_entry(store, context, d, e, n, onto, call, name),
         Renamable::Refused(status) => fail_renaming(store, call, source, target, status),
     }
 }

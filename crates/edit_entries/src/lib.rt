@@ -1,4 +1,4 @@
-// What REMOVE, RMDIR and RENAME do to the store: an entry of a directory is removed or moved, and times are set.
+// What REMOVE, RMDIR and RENAME do to the store: an entry of a directory is removed, moved or put in the place of another, and times are set.
 ghost use mathlib.Core.Path.{_≡_};
 ghost use Prim.Native.Nat.{_+_, _≤_};
 ghost use lib.ListN.{length};
@@ -7,9 +7,11 @@ ghost use Rattle.spec.specs.Edits.{setAttributes, mtimeAndCtime, removeObject};
 ghost use Rattle.spec.specs.Image.{objectStart};
 ghost use Rattle.spec.specs.Procedures.{cut};
 ghost use Rattle.spec.specs.Procedures.Names.{touchDirectory};
-ghost use Rattle.spec.specs.Procedures.Removal.{renameEdit};
+ghost use Rattle.spec.specs.Procedures.Removal.{moveEdit, renameEdit};
 ghost use Rattle.laws.proofs.GoodRecords.{GoodRecords};
-ghost use Rattle.edit_entries.specs.Records.{RemovableAt, MovableAt};
+ghost use Rattle.check_rename.specs.Meaning.{ontoOf};
+ghost use Rattle.edit_entries.specs.Records.{RemovableAt, MovableAt, RenamableAt};
+use check_rename::Onto;
 use check_settable::only_ctime;
 use edit_attributes::set_attributes;
 use edit_attributes::touch;
@@ -42,7 +44,7 @@ pub fn remove_edit(store: &mut [u8], context: Context, d: ObjectNumber, n: NameN
 }
 
 // The name record is rewritten in place; the object's ctime and both directories' times are set.
-pub fn rename_edit(
+fn move_edit(
     store: &mut [u8],
     context: Context,
     source: ObjectNumber,
@@ -54,7 +56,7 @@ pub fn rename_edit(
     requires { ⌜ GoodRecords (now store) ⌝ }
     requires { ⌜ MovableAt (now store) (source .0) (target .0) (n .0) (name .length) ⌝ }
     requires { ⌜ name .start + name .length ≤ length (now call) ⌝ }
-    ensures { λ _. ⌜ now (store .exit) ≡ renameEdit (now (store .entry)) context (source .0) (target .0) (n .0) (cut (now (call .entry)) name) ⌝ }
+    ensures { λ _. ⌜ now (store .exit) ≡ moveEdit (now (store .entry)) context (source .0) (target .0) (n .0) (cut (now (call .entry)) name) ⌝ }
 {
     let clock = context.clock;
     let child = name_child(store, n);
@@ -62,4 +64,30 @@ pub fn rename_edit(
     set_attributes(store, clock, child, only_ctime());
     touch_directory(store, clock, source);
     touch_directory(store, clock, target);
+}
+
+// An object that is replaced is removed first; where the new name is one of the same object's, nothing is done.
+pub fn rename_edit(
+    store: &mut [u8],
+    context: Context,
+    source: ObjectNumber,
+    target: ObjectNumber,
+    n: NameNumber,
+    onto: Onto,
+    call: &[u8],
+    name: Part,
+)
+    requires { ⌜ GoodRecords (now store) ⌝ }
+    requires { ⌜ RenamableAt (now store) (source .0) (target .0) (n .0) (name .length) (ontoOf onto) ⌝ }
+    requires { ⌜ name .start + name .length ≤ length (now call) ⌝ }
+    ensures { λ _. ⌜ now (store .exit) ≡ renameEdit (now (store .entry)) context (source .0) (target .0) (n .0) (ontoOf onto) (cut (now (call .entry)) name) ⌝ }
+{
+    match onto {
+        Onto::NewName => move_edit(store, context, source, target, n, call, name),
+        Onto::SameObject => {}
+        Onto::Replacing(m) => {
+            remove_object(store, m);
+            move_edit(store, context, source, target, n, call, name);
+        }
+    }
 }

@@ -2,6 +2,7 @@
 use mathlib.Core.Path.{_≡_, refl, sym, ap, ap₂, _∙_}
 use mathlib.Core.Logic.{_≢_, by-cases}
 use mathlib.Core.Bool.{Bool, true, false, _&&_, _||_, cond}
+use mathlib.Core.Option.{some, none}
 use mathlib.Core.List.{List, [], _∷_, _++_, map}
 use Prim.Native.Nat.{ℕ, _<_, _+_}
 use native.Mathlib.Decide.{ℕ-discrete, decLt}
@@ -12,7 +13,9 @@ use Rattle.spec.specs.Bytes.{sameBytes}
 use Rattle.spec.specs.Count.{bit, times}
 use Rattle.laws.proofs.Bytes.{same-yes}
 use Rattle.laws.proofs.Count.{and-both, true-false, by-bool}
+use Rattle.laws.proofs.Tests.{or-none}
 use Rattle.history.specs.Book.{Standing, asRoot, under, Line, Book, handleBytes, stands, isAt, someAt, strikeLines, moveLine, moveLines}
+use Rattle.history.specs.Book.{handleUnder}
 use Rattle.history.proofs.Sum.{or-right, ind, ind-same, ind-yes, ind-no, ind-true}
 use Rattle.history.proofs.Lists.{same-true, All, without, without-same, without-other, all-times, times-without, times-without-other}
 use Rattle.history.proofs.View.{View, LiveIn, UsedIn, At, entriesAt, SameRecord, no-entry}
@@ -273,3 +276,38 @@ module _ (P Q σ : ℕ) (v : View) (T : Tree P Q v) (b : Book) (A : Agrees σ v 
           (at-yes (handleIn σ v d) t (lineOf σ v p) (let x = a .1 in let y = a .2 in cc)))
           (λ n. ap (λ (x : Bool). isAt (handleIn σ v d) t (lineOf σ v p) || x) (go ks (omega (arith, ap bit (ne-eqb p q n))))
           ∙ or-right (isAt (handleIn σ v d) t (lineOf σ v p)) true refl)
+
+  -- and the line has the handle of the record's object
+  pub handle-at : (q : ℕ) → At v q d t → handleUnder (handleIn σ v d) t b ≡ some (handleIn σ v (v .child q))
+  unfolding handleUnder times
+  handle-at q a =
+      ap (handleUnder (handleIn σ v d) t) (A .lines)
+      ∙ go (A .order) (all-used v (A .order) (A .each)) (omega (arith, A .each q, ind-yes (used? v q) (a .0)))
+    where
+      go : (ks : List ℕ) → All (UsedIn v) ks → 0 < times q ks
+          → handleUnder (handleIn σ v d) t (map (lineOf σ v) ks ++ (rootLine σ v ∷ [])) ≡ some (handleIn σ v (v .child q))
+      go [] h l = absurd (omega arith)
+      go (p ∷ ks) h l =
+          let rest = handleUnder (handleIn σ v d) t (map (lineOf σ v) ks ++ (rootLine σ v ∷ [])) in
+          by-cases (ℕ-discrete p q)
+          (λ e. ap (λ (x : Bool). cond x (some (handleIn σ v (v .child p))) rest) (at-yes (handleIn σ v d) t (lineOf σ v p) (let x = a .1 in let y = a .2 in cc))
+          ∙ ap (λ (x : ℕ). some (handleIn σ v (v .child x))) e)
+          (λ n. ap (λ (x : Bool). cond x (some (handleIn σ v (v .child p))) rest)
+          (at-no (handleIn σ v d) t (lineOf σ v p) (λ x. n (one-entry P Q v (T .flat) d t p q (line-at p (h .0) x) a)))
+          ∙ go ks (h .1) (omega (arith, ap bit (ne-eqb p q n))))
+
+-- where no line has a directory and a name, none is struck, and there is no handle
+module _ (d t : List ℕ) where
+  pub strike-none : (b : Book) → someAt d t b ≡ false → strikeLines d t b ≡ b
+  unfolding someAt strikeLines
+  strike-none [] e = refl
+  strike-none (l ∷ ls) e =
+      let (x, y) = or-none (isAt d t l) (someAt d t ls) e in
+      ap (λ (z : Bool). cond z (strikeLines d t ls) (l ∷ strikeLines d t ls)) x ∙ ap (λ (z : Book). l ∷ z) (strike-none ls y)
+
+  pub handle-none : (b : Book) → someAt d t b ≡ false → handleUnder d t b ≡ none
+  unfolding someAt handleUnder
+  handle-none [] e = refl
+  handle-none (l ∷ ls) e =
+      let (x, y) = or-none (isAt d t l) (someAt d t ls) e in
+      ap (λ (z : Bool). cond z (some (l .handle)) (handleUnder d t ls)) x ∙ handle-none ls y

@@ -6,7 +6,6 @@ use mathlib.Core.Option.{some, none}
 use mathlib.Core.List.{List, List·Memᴰ·head}
 use Prim.Native.Nat.{ℕ, _<_}
 use native.Mathlib.Omega.{arith}
-use lib.Dec.{lit<}
 use Rattle.kinds.specs.declared.object.Context.{Context}
 use Rattle.kinds.specs.declared.call.NameIn.{NameIn}
 use Rattle.kinds.specs.declared.call.Settable.{Settable}
@@ -30,7 +29,7 @@ use Rattle.laws.proofs.GoodRecords.{GoodClock}
 use Rattle.laws.proofs.NewObject.{new-kind, new-fresh, file-kind, file-fresh}
 use Rattle.laws.proofs.Passed.{Reached, NewRoom, ExistingPassed, CreatePassed, create-passed, MkdirPassed, mkdir-passed}
 use Rattle.laws.proofs.Range.{Below}
-use Rattle.laws.proofs.RecordRange.{below-part}
+use Rattle.laws.proofs.RecordRange.{cut-below}
 use Rattle.laws.proofs.SetAttributes.{FitsSettable, Allowed}
 use Rattle.laws.proofs.Valid.{GoodName}
 use Rattle.history.specs.Book.{under, Ledger, handleBytes, madeHandle, isOk, add, noted, note}
@@ -53,9 +52,6 @@ pub record Made (σ p q r : ℕ) (s t : Store) (L : Ledger) (h text reply : List
 
 module _ (σ p q r : ℕ) (s : Store) (L : Ledger) (I : Inv σ p q r s L) (c : Context) (clock : GoodClock (c .clock)) (call reply : List ℕ)
     (bytes : Below 256 call) where
-  cut-below : (x : _) → Below 256 (cut call x)
-  cut-below x = below-part 256 call (x .start) (x .length) (lit< tt) bytes
-
   -- the handle of CREATE's or MKDIR's reply
   pub made-handle : (a : Arguments) (t : Store) (o d : ℕ) → Answer call reply a (created (handleOf t o) (attributes t o) (change s t d))
       → madeHandle reply ≡ handleOf t o
@@ -110,10 +106,10 @@ module _ (σ p q r : ℕ) (s : Store) (L : Ledger) (I : Inv σ p q r s L) (c : C
         let v = newFile (c .clock) manner in
         let size = settableIn manner .size in
         let u = newEdit s c v size o n d text in
-        let b = cut-below (place .directory) in
+        let b = cut-below call (place .directory) bytes in
         let gap = no-name s (I .valid .good-names) d text z in
         let facts = new-made σ p q r s L I c clock 1 o n d text v size (file-fresh (c .clock) manner clock fits ok) (file-kind (c .clock) manner) room
-        (ok .size) good (cut-below (place .name)) (directory-kind σ p q r s L I c clock h text d w dk b) gap (λ _. refl) in
+        (ok .size) good (cut-below call (place .name) bytes) (directory-kind σ p q r s L I c clock h text d w dk b) gap (λ _. refl) in
         let book : withLine σ s L o 1 d text ≡ note call reply L =
         sym (note-created u o d A ∙ ap (λ (x : List ℕ). add x 1 h text L) (facts .handle) ∙ line-added σ p q r s L I c clock h text d w dk b o 1 gap) in
         record {
@@ -130,7 +126,7 @@ module _ (σ p q r : ℕ) (s : Store) (L : Ledger) (I : Inv σ p q r s L) (c : C
     made-there d o m w dk ok z is x A =
         let size = settableIn manner .size in
         let u = existingEdit s c o size in
-        let b = cut-below (place .directory) in
+        let b = cut-below call (place .directory) bytes in
         let (ml, at) = found-name s (I .valid .good-names) d text m z in
         let l = live-in s o (subst (LiveIn (view s)) (child-at s m ml ∙ is) (tree σ p q r s L I .flat .ends m (at .0))) in
         let step = existing-keeps σ p q r s L I c clock o size (kind-at s o l ∙ x .regular) (ok .size) (x .room) in
@@ -181,11 +177,11 @@ module _ (σ p q r : ℕ) (s : Store) (L : Ledger) (I : Inv σ p q r s L) (c : C
     mkdir-new d o n w A =
         let v = newObject (c .clock) 2 a in
         let u = newEdit s c v (a .size) o n d name in
-        let b = cut-below (place .directory) in
+        let b = cut-below call (place .directory) bytes in
         let gap = no-name s (I .valid .good-names) d name (w .fresh) in
         let room : NewRoom s (sizeSet (a .size) 0) o n = subst (λ (z : ℕ). NewRoom s z o n) (sym (not-given (a .size) (w .no-size))) (w .room) in
         let facts = new-made σ p q r s L I c clock 2 o n d name v (a .size) (new-fresh (c .clock) 2 a clock (_⊎_.inr refl) fits (w .allowed))
-        (new-kind (c .clock) 2 a) room (w .allowed .size) (w .good) (cut-below (place .name))
+        (new-kind (c .clock) 2 a) room (w .allowed .size) (w .good) (cut-below call (place .name) bytes)
         (directory-kind σ p q r s L I c clock g name d (w .reached) (w .directory) b) gap (λ given. true-false (sym given ∙ w .no-size)) in
         let shown = made-handle (Call.Mkdir place a) u o d A ∙ facts .handle in
         let book : withLine σ s L o 2 d name ≡ note call reply L =

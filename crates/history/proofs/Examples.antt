@@ -1,12 +1,13 @@
 -- The book over bytes, by computation: a file is made, a request is refused, the file is renamed and removed, and its handle is stale; its record
 -- is counted once, and there is no room for a second file while it is there. EXCLUSIVE CREATE that is sent twice has one line and one handle, also
--- where the first one took the last room.
+-- where the first one took the last room. A file is renamed onto another one, whose line is struck, and onto its own name.
 use Prim.Native.Nat.{ℕ}
 use mathlib.Core.Path.{_≡_, refl}
 use mathlib.Core.Bool.{true}
 use mathlib.Core.List.{List, [], _∷_}
 use Rattle.spec.proofs.Setting.{context, space, fresh, getattrCall, createCall, removeCall, renameCall, exclusiveCall, nameA, nameB, computing}
 use Rattle.history.specs.Book.{Line, asRoot, under, handleBytes, firstLedger, someAt, add, strikeLines, strike, moveLine, moveLines, move}
+use Rattle.history.specs.Book.{handleUnder, replace}
 use Rattle.history.specs.Book.{asked, statusIn, isStatus, isOk, madeHandle, noted, note}
 use Rattle.history.specs.Run.{Request, State, replyTo, step, run}
 use Rattle.history.specs.Statement.{someLine, linedObjects}
@@ -44,6 +45,16 @@ exclusive = request (exclusiveCall nameA 1 2)
 abbrev filled : State
 filled = run start (exclusive ∷ [])
 
+-- the files "a" and "b" in a store that they fill; "a" is renamed onto "b"
+abbrev both : State
+both = run (record { store = fresh 3 2 0; ledger = firstLedger 9 }) (request (createCall nameA) ∷ request (createCall nameB) ∷ [])
+
+abbrev replacedFile : List ℕ
+replacedFile = handleBytes 9 2 0
+
+abbrev replaced : State
+replaced = run both (request (renameCall 0 nameA 0 nameB) ∷ [])
+
 pub record Examples : Type 0 where
   pub made : run start (refusedRequest ∷ request (createCall nameA) ∷ []) .ledger .book ≡ fileLine nameA ∷ rootLine ∷ []
   pub renamed : run start (request (createCall nameA) ∷ request (renameCall 0 nameA 0 nameB) ∷ []) .ledger .book ≡ fileLine nameB ∷ rootLine ∷ []
@@ -56,9 +67,13 @@ pub record Examples : Type 0 where
   pub oneHandle : madeHandle (replyTo (filled .store) exclusive) ≡ file
   pub noRoomAsked : isStatus 0 (replyTo (filled .store) exclusive) ≡ true
   pub roomAsked : isStatus 28 (replyTo (filled .store) (request (exclusiveCall nameB 1 2))) ≡ true
+  pub replacedLine : replaced .ledger ≡ record { book = fileLine nameB ∷ rootLine ∷ []; given = replacedFile ∷ file ∷ root ∷ [] }
+  pub replacedStale : statusIn (replyTo (replaced .store) (request (getattrCall 2))) ≡ 70
+  pub replacedRoom : run replaced (request (createCall nameA) ∷ []) .ledger .given ≡ handleBytes 9 2 1 ∷ replacedFile ∷ file ∷ root ∷ []
+  pub ontoItself : run both (request (renameCall 0 nameA 0 nameA) ∷ []) .ledger ≡ both .ledger
 
 pub examples : Examples
-unfolding computing someAt add strikeLines strike moveLine moveLines move asked isStatus isOk noted note replyTo step run someLine linedObjects
+unfolding computing someAt add strikeLines strike moveLine moveLines move handleUnder replace asked isStatus isOk noted note replyTo step run someLine linedObjects
 examples =
     record {
       made = refl;
@@ -72,4 +87,8 @@ examples =
       oneHandle = refl;
       noRoomAsked = refl;
       roomAsked = refl;
+      replacedLine = refl;
+      replacedStale = refl;
+      replacedRoom = refl;
+      ontoItself = refl;
     }

@@ -32,6 +32,7 @@ pub mod Making
 pub mod Lines
 pub mod Create
 pub mod Removing
+pub mod Renaming
 pub mod Next
 -- The fields of the statement, and demand 3.
 pub mod Counts

@@ -5,12 +5,10 @@ use mathlib.Core.List.{List, [], _∷_, List·Memᴰ, List·Memᴰ·head, List·
 use Prim.Native.Nat.{ℕ, _<_}
 use native.Mathlib.Decide.{ℕ-discrete, decLt}
 use native.Mathlib.Omega.{arith}
-use lib.Dec.{lit<}
 use lib.ListN.{length}
 use Rattle.kinds.specs.declared.object.Context.{Context}
 use Rattle.kinds.specs.declared.object.Object.{Object}
 use Rattle.kinds.specs.declared.object.Time.{Time}
-use Rattle.kinds.specs.declared.call.Part.{Part}
 use Rattle.kinds.specs.declared.call.Arguments.{Arguments}
 use Rattle.kinds.specs.declared.call.Arguments.the-variants as Call
 use Rattle.spec.specs.Count.{times}
@@ -21,7 +19,7 @@ use Rattle.laws.proofs.Error.{getattr-store, lookup-store, access-store, read-s
 use Rattle.laws.proofs.Formatted.{FormatAsked, formatted-stamp, formatted-objects, formatted-names, formatted-blocks, formatted-below, formatted-root}
 use Rattle.laws.proofs.Formatted.{formatted-free, formatted-name, formatted-valid}
 use Rattle.laws.proofs.Range.{Below}
-use Rattle.laws.proofs.RecordRange.{below-part}
+use Rattle.laws.proofs.RecordRange.{cut-below}
 use Rattle.laws.proofs.GoodRecords.{GoodClock}
 use Rattle.laws.proofs.Valid.{passes-valid}
 use Rattle.history.specs.Book.{Ledger, noted, note, firstLedger, handleBytes, asRoot}
@@ -40,7 +38,8 @@ use Rattle.history.proofs.Ranges.{asked-fits}
 use Rattle.history.proofs.Noted.{Answer, note-quiet}
 use Rattle.history.proofs.Sizes.{setattr-keeps, write-keeps}
 use Rattle.history.proofs.Create.{create-made, mkdir-made}
-use Rattle.history.proofs.Removing.{remove-owes, rmdir-owes, rename-owes}
+use Rattle.history.proofs.Removing.{remove-owes, rmdir-owes}
+use Rattle.history.proofs.Renaming.{rename-owes}
 
 module _ (σ p q r : ℕ) (s : Store) (L : Ledger) (I : Inv σ p q r s L) where
   still : Owes σ p q r s s L
@@ -51,9 +50,6 @@ module _ (σ p q r : ℕ) (s : Store) (L : Ledger) (I : Inv σ p q r s L) where
   quiet t M e f = subst (λ (u : Store). Owes σ p q r s u M) (sym e) (subst (Owes σ p q r s s) (sym f) still)
 
   module _ (c : Context) (clock : GoodClock (c .clock)) (call reply : List ℕ) (bytes : Below 256 call) where
-    cut-below : (x : Part) → Below 256 (cut call x)
-    cut-below x = below-part 256 call (x .start) (x .length) (lit< tt) bytes
-
     -- what an act owes, by what was asked
     pub act-owes : (a : Arguments) → FitsArguments a → Answer call reply a (act s c call a .result) → Owes σ p q r s (act s c call a .store) (note call reply L)
     unfolding act noted
@@ -68,7 +64,7 @@ module _ (σ p q r : ℕ) (s : Store) (L : Ledger) (I : Inv σ p q r s L) where
     act-owes (Call.Read h o n) f A = quiet _ _ (read-store s (cut call h) o n) (note-quiet call reply (Call.Read h o n) L (A .reads) refl)
     act-owes (Call.Write h o n b) f A =
         subst (Owes σ p q r s _) (sym (note-quiet call reply (Call.Write h o n b) L (A .reads) refl))
-        (write-keeps σ p q r s L I c clock (cut call h) o n (cut call b) (cut-below b) .owes)
+        (write-keeps σ p q r s L I c clock (cut call h) o n (cut call b) (cut-below call b bytes) .owes)
     act-owes (Call.Create x m) f A = create-made σ p q r s L I c clock call reply bytes x m f A .owes
     act-owes (Call.Mkdir x a) f A = mkdir-made σ p q r s L I c clock call reply bytes x a f A .owes
     act-owes (Call.Remove x) f A = remove-owes σ p q r s L I c clock call reply bytes x A

@@ -19,7 +19,10 @@ use Rattle.spec.specs.Replies.{resultBytes}
 use Rattle.spec.specs.Results.{Result, null, dead, changed, showingOf, changingOf, failShowing, failChanging, renamed, wrote, created}
 use Rattle.spec.specs.Rpc.{accepted}
 use Rattle.laws.proofs.Error.{statusOf}
-use Rattle.history.specs.Book.{under, Ledger, asked, isOk, someAt, add, noted, note}
+use Rattle.spec.specs.Bytes.{sameBytes}
+use Rattle.laws.proofs.Bytes.{same-yes, same-no}
+use Rattle.history.specs.Book.{under, Book, Ledger, asked, isOk, someAt, add, strike, move, handleUnder, areSame, replace, noted, note}
+use Rattle.history.proofs.Agree.{strike-none, handle-none}
 use Rattle.history.proofs.Replies.{answered-ok}
 
 -- a call with these arguments was answered with this result
@@ -116,3 +119,33 @@ add-new h kind d text L e = rw e
 pub add-old : (h : List ℕ) (kind : ℕ) (d text : List ℕ) (L : Ledger) → someAt d text (L .book) ≡ true → add h kind d text L ≡ L
 unfolding add
 add-old h kind d text L e = rw e
+
+-- ---- RENAME
+are-none : (x : Option (List ℕ)) → areSame x none ≡ false
+are-none none = refl
+are-none (some g) = refl
+
+module _ (h text g title : List ℕ) (L : Ledger) where
+  -- no line has the second pair
+  pub replace-new : someAt g title (L .book) ≡ false → replace h text g title L ≡ move h text g title L
+  unfolding replace strike
+  replace-new e =
+      ap (λ (x : Option (List ℕ)). cond (areSame (handleUnder h text (L .book)) x) L (move h text g title (strike g title L)))
+      (handle-none g title (L .book) e)
+      ∙ ap (λ (t : Bool). cond t L (move h text g title (strike g title L))) (are-none (handleUnder h text (L .book)))
+      ∙ ap (λ (b : Book). move h text g title (record { book = b; given = L .given })) (strike-none g title (L .book) e)
+
+  -- both pairs have a line, with handles j and k
+  replace-by : (j k : List ℕ) → handleUnder h text (L .book) ≡ some j → handleUnder g title (L .book) ≡ some k
+      → replace h text g title L ≡ cond (sameBytes j k) L (move h text g title (strike g title L))
+  unfolding replace
+  replace-by j k e f = λ i. cond (areSame (e i) (f i)) L (move h text g title (strike g title L))
+
+  pub replace-same : (j : List ℕ) → handleUnder h text (L .book) ≡ some j → handleUnder g title (L .book) ≡ some j → replace h text g title L ≡ L
+  replace-same j e f =
+      replace-by j j e f ∙ ap (λ (t : Bool). cond t L (move h text g title (strike g title L))) (same-yes j j refl)
+
+  pub replace-over : (j k : List ℕ) → handleUnder h text (L .book) ≡ some j → handleUnder g title (L .book) ≡ some k → j ≢ k
+      → replace h text g title L ≡ move h text g title (strike g title L)
+  replace-over j k e f n =
+      replace-by j k e f ∙ ap (λ (t : Bool). cond t L (move h text g title (strike g title L))) (same-no j k n)

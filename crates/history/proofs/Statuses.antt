@@ -27,10 +27,11 @@ use Rattle.spec.specs.Procedures.Data.{reachRegular, grown, checkWrite}
 use Rattle.spec.specs.Procedures.Listing.{entries, entriesAbove, isNothing, fitting, checkListing, checkReaddirIn, checkReaddir}
 use Rattle.spec.specs.Procedures.Names.{childOf, lookIn, checkIn, checkLookup, roomForNew, isNew, settableIn, isTaken, checkExisting, targetOf, checkNew}
 use Rattle.spec.specs.Procedures.Names.{checkHow, checkCreate, checkMkdir}
-use Rattle.spec.specs.Procedures.Removal.{checkEntry, checkRemove, hasEntries, checkRmdir, isWithin, checkMove, checkRename}
+use Rattle.spec.specs.Procedures.Removal.{checkEntry, checkRemove, hasEntries, checkRmdir, isWithin, isReplaceable, checkReplace, onto, checkMove}
+use Rattle.spec.specs.Procedures.Removal.{checkRename}
 use Rattle.spec.specs.Results.{Entry}
 use Rattle.spec.specs.Room.{isLive, isRegular, isDirectory, sizeOf, availableObject, availableName, findName, parent}
-use Rattle.laws.proofs.Count.{and-both, true-false}
+use Rattle.laws.proofs.Count.{by-bool, and-both, true-false}
 use Rattle.laws.proofs.Resent.{same-size}
 
 -- P holds of the status, where the checks refuse
@@ -167,6 +168,14 @@ module _ (P : ℕ → Type 0) (plain : (n : ℕ) → Plain n → P n) (s : Store
       tells-if P (not (isDirectory s (nameAt s n .child))) NOTDIR _ (λ _. notdir) (λ _.
       tells-if P (hasEntries s (nameAt s n .child)) NOTEMPTY _ (λ _. plain NOTEMPTY (lit< tt, lit< tt, omega arith)) (λ _. tells-passed P _))))
 
+  onto-tells : (o : ℕ) (found : Option ℕ) → Tells P (onto s o found)
+  unfolding checkReplace
+  onto-tells o none = tells-passed P _
+  onto-tells o (some m) =
+      by-bool (eqb (nameAt s m .child) o)
+      (λ t. rw t (tells-passed P _))
+      (λ t. rw t (tells-if P (not (isReplaceable s o (nameAt s m .child))) EXIST _ (λ _. exist) (λ _. tells-passed P _)))
+
   pub rename-tells : (h text g title : List ℕ) → Tells P (checkRename s h text g title)
   unfolding checkRename checkMove
   rename-tells h text g title =
@@ -176,8 +185,9 @@ module _ (P : ℕ → Type 0) (plain : (n : ℕ) → Plain n → P n) (s : Store
       tells-bind P (checkName title) _ (name-tells title) (λ _ _.
       tells-if P (isDots text || isDots title) INVAL _ (λ _. inval) (λ _.
       tells-bind P (present NOENT (findName s d text)) _ (tells-present P NOENT (findName s d text) noent) (λ n _.
-      tells-bind P (absent EXIST (findName s e title)) _ (tells-absent P EXIST (findName s e title) exist) (λ _ _.
-      tells-if P (isWithin s (nameAt s n .child) e) INVAL _ (λ _. inval) (λ _. tells-passed P _))))))))
+      tells-if P (isWithin s (nameAt s n .child) e) INVAL _ (λ _. inval) (λ _.
+      tells-bind P (onto s (nameAt s n .child) (findName s e title)) _ (onto-tells (nameAt s n .child) (findName s e title)) (λ _ _.
+      tells-passed P _))))))))
 
   listing-tells : (head each limit : ℕ) (es : List Entry) → Tells P (checkListing head each limit es)
   unfolding checkListing

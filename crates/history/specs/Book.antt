@@ -51,7 +51,7 @@ firstLedger stamp =
       given = handleBytes stamp 0 0 ∷ [];
     }
 
--- ---- the three steps of the book
+-- ---- the steps of the book
 abbrev pub stands : List ℕ → List ℕ → Standing → Bool
 stands d text asRoot = false
 stands d text (under e name) = sameBytes e d && sameBytes name text
@@ -91,6 +91,23 @@ moveLines d text e title (l ∷ ls) = moveLine d text e title l ∷ moveLines d 
 unfoldable pub move : List ℕ → List ℕ → List ℕ → List ℕ → Ledger → Ledger
 unfolding moveLines
 move d text e title L = record { book = moveLines d text e title (L .book); given = L .given }
+
+-- the handle of the line with the directory handle d and the name `text`
+unfoldable pub handleUnder : List ℕ → List ℕ → Book → Option (List ℕ)
+handleUnder d text [] = none
+handleUnder d text (l ∷ ls) = cond (isAt d text l) (some (l .handle)) (handleUnder d text ls)
+
+-- both pairs have a line, and the two lines have one handle
+abbrev pub areSame : Option (List ℕ) → Option (List ℕ) → Bool
+areSame none h = false
+areSame (some g) none = false
+areSame (some g) (some h) = sameBytes g h
+
+-- E3: "From and to being the same object is success with nothing changed, .. demand 3's book included."; "A removed target's .. line in the book [is]
+-- treated as REMOVE or RMDIR would": the line with the second pair is struck, then the line with the first gets it
+unfoldable pub replace : List ℕ → List ℕ → List ℕ → List ℕ → Ledger → Ledger
+replace d text e title L =
+    cond (areSame (handleUnder d text (L .book)) (handleUnder e title (L .book))) L (move d text e title (strike e title L))
 
 -- ---- what a call asks, and what a reply says, by their bytes alone
 abbrev pub argumentsGot : Read Arguments → Option Arguments
@@ -142,7 +159,7 @@ noted call reply L (some (Call.Mkdir p a)) = add (madeHandle reply) DIRECTORY (c
 noted call reply L (some (Call.Remove p)) = strike (cut call (p .directory)) (cut call (p .name)) L
 noted call reply L (some (Call.Rmdir p)) = strike (cut call (p .directory)) (cut call (p .name)) L
 noted call reply L (some (Call.Rename p q)) =
-    move (cut call (p .directory)) (cut call (p .name)) (cut call (q .directory)) (cut call (q .name)) L
+    replace (cut call (p .directory)) (cut call (p .name)) (cut call (q .directory)) (cut call (q .name)) L
 noted call reply L (some Call.Null) = L
 noted call reply L (some (Call.Getattr h)) = L
 noted call reply L (some (Call.Setattr h a g)) = L

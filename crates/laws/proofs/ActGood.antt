@@ -11,7 +11,6 @@ use borrow.Author.Tests.{eqb-false}
 use Rattle.kinds.specs.Numbers.{REGULAR, DIRECTORY, mostTransferBytes, mostFileBytes}
 use Rattle.kinds.specs.declared.object.Object.{Object}
 use Rattle.kinds.specs.declared.object.Context.{Context}
-use Rattle.kinds.specs.declared.call.Part.{Part}
 use Rattle.kinds.specs.declared.call.SetSize.{SetSize}
 use Rattle.kinds.specs.declared.call.SetSize.the-variants as SetSize
 use Rattle.kinds.specs.declared.call.Settable.{Settable}
@@ -27,7 +26,8 @@ use Rattle.spec.specs.Procedures.Attributes.{isGiven, sizeSet, sizeTouches, res
 use Rattle.spec.specs.Procedures.Data.{grown, checkWrite, writeEdit, writeStore, writeDone, write}
 use Rattle.spec.specs.Procedures.Names.{newObject, touchDirectory, newEdit, createdIn, Target, new, existing, settableIn, existingEdit, newFile}
 use Rattle.spec.specs.Procedures.Names.{createEdit, checkCreate, create, checkMkdir, mkdir}
-use Rattle.spec.specs.Procedures.Removal.{checkRemove, checkRmdir, removeFrom, remove, rmdir, checkRename, renameEdit, failRenaming, renamedTo, rename}
+use Rattle.spec.specs.Procedures.Removal.{checkRemove, checkRmdir, removeFrom, remove, rmdir, Onto, newName, sameObject, replacing, checkRename, moveEdit}
+use Rattle.spec.specs.Procedures.Removal.{renameEdit, failRenaming, renamedTo, rename}
 use Rattle.spec.specs.Results.{Result, Done, failChanging, settle}
 use Rattle.spec.specs.Room.{sizeOf, need, freeBlockCount}
 use Rattle.spec.specs.Serve.{serve}
@@ -46,9 +46,10 @@ use Rattle.laws.proofs.Kept.{kept-refl}
 use Rattle.laws.proofs.MoveName.{move-name}
 use Rattle.laws.proofs.NewObject.{FreshObject, new-fresh, file-kind, file-fresh}
 use Rattle.laws.proofs.Passed.{SetattrPassed, setattr-passed, WritePassed, write-passed, NewRoom, CreatePassed, create-passed, mkdir-passed}
-use Rattle.laws.proofs.Passed.{RemovePassed, remove-passed, RmdirPassed, rmdir-passed, RenamePassed, rename-passed, found-record, no-entries}
+use Rattle.laws.proofs.Passed.{RemovePassed, remove-passed, RmdirPassed, rmdir-passed, replaced-alone, RenamePassed, rename-passed, found-record}
+use Rattle.laws.proofs.Passed.{no-entries}
 use Rattle.laws.proofs.Range.{Below, below-take}
-use Rattle.laws.proofs.RecordRange.{below-part}
+use Rattle.laws.proofs.RecordRange.{cut-below}
 use Rattle.laws.proofs.RemoveObject.{remove-object}
 use Rattle.laws.proofs.Resize.{resize-size, resize-tree}
 use Rattle.laws.proofs.SameReads.{freeBlockCount-reads}
@@ -121,6 +122,43 @@ module _ (s : Store) (g : GoodRecords s) (c : Context) (k : GoodClock (c .clock)
       still-trans s u (writeEdit s c o offset xs) i
       (set-attributes-still u (q .good) (c .clock) o mtimeAndCtime (below-after s u i o l) (rw same (omega arith)) k mtime-and-ctime-fits
       mtime-and-ctime-allowed)
+
+-- what a move of name record n from directory d to directory e asks of a store
+pub record Movable (s : Store) (d e n : ℕ) : Type 0 where
+  pub name : n < names s
+  pub used : Used s n
+  pub below : d < objects s
+  pub directory : objectAt s d .kind ≡ DIRECTORY
+  pub beyond : e < objects s
+  pub target-directory : objectAt s e .kind ≡ DIRECTORY
+
+module _ (s : Store) (g : GoodRecords s) (c : Context) (k : GoodClock (c .clock)) where
+  move-edit : (d e n : ℕ) (title : List ℕ) → GoodName title → Below 256 title → Movable s d e n → StillGood s (moveEdit s c d e n title)
+  unfolding moveEdit
+  move-edit d e n title good w p =
+      let l = p .name in
+      let u = p .used in
+      let sound = g .sound in
+      let shape = sound .shaped in
+      let clock = clock-fits (c .clock) k in
+      let o = nameAt s n .child in
+      let x = used-at s g n l u in
+      let below = p .below in
+      let beyond = p .beyond in
+      let t₁ = moveName s n e title in
+      let r₁ = move-name-still s g n e title l u beyond (p .target-directory) good w in
+      let m = move-name s n e title sound l (omega arith) (good .short) w in
+      let same : (y : ℕ) → y < objects s → objectAt t₁ y .kind ≡ objectAt s y .kind = λ y z. ap (λ (q : Object). q .kind) (m .each-object y z) in
+      let t₂ = setAttributes t₁ (c .clock) o onlyCtime in
+      let q₂ = below-after s t₁ r₁ o (x .0) in
+      let a₂ = set-attributes-still t₁ (r₁ .good) (c .clock) o onlyCtime q₂ (rw (same o (x .0)) (x .1)) k only-ctime-fits only-ctime-allowed in
+      let b₂ = set-attributes-structure t₁ (c .clock) o onlyCtime (r₁ .good .sound) q₂ clock only-ctime-fits .tree in
+      let r₂ = still-trans s t₁ t₂ r₁ a₂ in
+      let kind₂ : (y : ℕ) → y < objects s → objectAt t₂ y .kind ≡ objectAt s y .kind = λ y z. b₂ .kind y (below-after s t₁ r₁ y z) ∙ same y z in
+      let t₃ = touchDirectory t₂ c d in
+      let r₃ = touch-after s t₂ r₂ c d k below (kind₂ d below) (p .directory) in
+      let b₃ = set-attributes-structure t₂ (c .clock) d mtimeAndCtime (r₂ .good .sound) (below-after s t₂ r₂ d below) clock mtime-and-ctime-fits .tree in
+      touch-after s t₃ r₃ c e k beyond (b₃ .kind e (below-after s t₂ r₂ e beyond) ∙ kind₂ e beyond) (p .target-directory)
 
 module _ (s : Store) (c : Context) (v : Valid s) (b : Below 256 s) (k : GoodClock (c .clock)) where
   records : GoodRecords s
@@ -277,44 +315,64 @@ module _ (s : Store) (c : Context) (v : Valid s) (b : Below 256 s) (k : GoodCloc
   rmdir-good h text = removal h (checkRmdir s h text) (λ p e. removed-directory h text (p .0) (p .1) (rmdir-passed s h text p e))
 
   -- ---- RENAME
-  rename-edit : (h text g title : List ℕ) (d e n : ℕ) → Below 256 title → RenamePassed s h text g title d e n → StillGood s (renameEdit s c d e n title)
-  unfolding renameEdit
-  rename-edit h text g title d e n w p =
-      let (l, u, i, j) = found-record s d text n (p .found) in
-      let sound = records .sound in
-      let shape = sound .shaped in
-      let clock = clock-fits (c .clock) k in
-      let o = nameAt s n .child in
-      let x = used-at s records n l u in
-      let below = p .reached .below in
-      let beyond = p .target-reached .below in
-      let t₁ = moveName s n e title in
-      let r₁ = move-name-still s records n e title l u beyond (p .target-directory) (p .target-good) w in
-      let m = move-name s n e title sound l (omega arith) (p .target-good .short) w in
-      let same : (y : ℕ) → y < objects s → objectAt t₁ y .kind ≡ objectAt s y .kind = λ y z. ap (λ (q : Object). q .kind) (m .each-object y z) in
-      let t₂ = setAttributes t₁ (c .clock) o onlyCtime in
-      let q₂ = below-after s t₁ r₁ o (x .0) in
-      let a₂ = set-attributes-still t₁ (r₁ .good) (c .clock) o onlyCtime q₂ (rw (same o (x .0)) (x .1)) k only-ctime-fits only-ctime-allowed in
-      let b₂ = set-attributes-structure t₁ (c .clock) o onlyCtime (r₁ .good .sound) q₂ clock only-ctime-fits .tree in
-      let r₂ = still-trans s t₁ t₂ r₁ a₂ in
-      let kind₂ : (y : ℕ) → y < objects s → objectAt t₂ y .kind ≡ objectAt s y .kind = λ y z. b₂ .kind y (below-after s t₁ r₁ y z) ∙ same y z in
-      let t₃ = touchDirectory t₂ c d in
-      let r₃ = touch-after s t₂ r₂ c d k below (kind₂ d below) (p .directory) in
-      let b₃ = set-attributes-structure t₂ (c .clock) d mtimeAndCtime (r₂ .good .sound) (below-after s t₂ r₂ d below) clock mtime-and-ctime-fits .tree in
-      touch-after s t₃ r₃ c e k beyond (b₃ .kind e (below-after s t₂ r₂ e beyond) ∙ kind₂ e beyond) (p .target-directory)
+  movable : (h text j title : List ℕ) (d e n : ℕ) (t : Onto) → RenamePassed s h text j title d e n t → Movable s d e n
+  movable h text j title d e n t p =
+      let (l, u, i, q) = found-record s d text n (p .found) in
+      record {
+        name = l;
+        used = u;
+        below = p .reached .below;
+        directory = p .directory;
+        beyond = p .target-reached .below;
+        target-directory = p .target-directory;
+      }
 
-  rename-good : (h text g title : List ℕ) → Below 256 title → StillGood s (rename s c h text g title .store)
+  -- the object that gives way is removed, and what the move asks for is left
+  pub replaced : (h text j title : List ℕ) (d e n m : ℕ) → RenamePassed s h text j title d e n (replacing m)
+      → StillGood s (removeObject s m) × Movable (removeObject s m) d e n
+  replaced h text j title d e n m p =
+      let t = removeObject s m in
+      let o = nameAt s m .child in
+      let (l, u, i, _) = found-record s d text n (p .found) in
+      let (a, b, x, _) = found-record s e title m (p .target .found) in
+      let w = used-at s records m a b in
+      let live = live-at s records o (w .0) (w .1) in
+      let alone : (y : ℕ) → y < names s → Used s y → nameAt s y .directory ≢ o =
+      λ y z q. replaced-alone s (v .good-names) (nameAt s n .child) o y (p .target .gives-way) z q in
+      let r = remove-object-still s records m a b (λ y z q j. (λ e. q (one-naming s (v .good-names) (v .named) y m z a j b e), alone y z j)) in
+      let f = remove-object s m o refl (records .sound) a (w .0) (live .generation) (held-range s o live) in
+      let kept = f .other-names n l (λ q. p .target .other (ap (λ (y : ℕ). nameAt s y .child) (sym q))) in
+      let kind : (y : ℕ) → y < objects s → y ≢ o → objectAt t y .kind ≡ objectAt s y .kind =
+      λ y z q. ap (λ (x : Object). x .kind) (f .other-objects y z q) in (
+        r,
+        record {
+          name = omega (arith, r .shape .names);
+          used = omega (arith, kept .long);
+          below = below-after s t r d (p .reached .below);
+          directory = kind d (p .reached .below) (λ q. alone n l u (i ∙ q)) ∙ p .directory;
+          beyond = below-after s t r e (p .target-reached .below);
+          target-directory = kind e (p .target-reached .below) (λ q. alone m a b (x ∙ q)) ∙ p .target-directory;
+        },
+      )
+
+  rename-edit : (h text j title : List ℕ) (d e n : ℕ) (t : Onto) → Below 256 title → RenamePassed s h text j title d e n t
+      → StillGood s (renameEdit s c d e n t title)
+  rename-edit h text j title d e n newName w p = move-edit s records c k d e n title (p .target-good) w (movable h text j title d e n newName p)
+  rename-edit h text j title d e n sameObject w p = still-refl s records
+  rename-edit h text j title d e n (replacing m) w p =
+      let (r, q) = replaced h text j title d e n m p in
+      let t = removeObject s m in
+      still-trans s t (moveEdit t c d e n title) r (move-edit t (r .good) c k d e n title (p .target-good) w q)
+
+  rename-good : (h text j title : List ℕ) → Below 256 title → StillGood s (rename s c h text j title .store)
   unfolding rename
-  rename-good h text g title w =
-      settle-good (failRenaming s h g) (checkRename s h text g title) (λ p. renamedTo s (p .0) (p .1) (renameEdit s c (p .0) (p .1) (p .2) title))
-      (λ p e. rename-edit h text g title (p .0) (p .1) (p .2) w (rename-passed s h text g title p e))
+  rename-good h text j title w =
+      settle-good (failRenaming s h j) (checkRename s h text j title) (λ p. renamedTo s (p .0) (p .1) (renameEdit s c (p .0) (p .1) (p .2) (p .3) title))
+      (λ p e. rename-edit h text j title (p .0) (p .1) (p .2) (p .3) w (rename-passed s h text j title p e))
 
   -- ---- every call
   as-it-was : (t : Store) → t ≡ s → StillGood s t
   as-it-was t e = rw e (still-refl s records)
-
-  bytes-of : (call : List ℕ) (p : Part) → Below 256 call → Below 256 (cut call p)
-  bytes-of call p f = below-part 256 call (p .start) (p .length) (lit< tt) f
 
   pub act-good : (call : List ℕ) (a : Arguments) → Below 256 call → FitsArguments a → StillGood s (act s c call a .store)
   unfolding act
@@ -324,13 +382,13 @@ module _ (s : Store) (c : Context) (v : Valid s) (b : Below 256 s) (k : GoodCloc
   act-good call (Arguments.Lookup p) w f = as-it-was _ (lookup-store s (cut call (p .directory)) (cut call (p .name)))
   act-good call (Arguments.Access h bits) w f = as-it-was _ (access-store s (cut call h) bits)
   act-good call (Arguments.Read h offset count) w f = as-it-was _ (read-store s (cut call h) offset count)
-  act-good call (Arguments.Write h offset count bytes) w f = write-good (cut call h) offset count (cut call bytes) (bytes-of call bytes w)
-  act-good call (Arguments.Create p manner) w f = create-good (cut call (p .directory)) (cut call (p .name)) manner (bytes-of call (p .name) w) f
-  act-good call (Arguments.Mkdir p a) w f = mkdir-good (cut call (p .directory)) (cut call (p .name)) a (bytes-of call (p .name) w) f
+  act-good call (Arguments.Write h offset count bytes) w f = write-good (cut call h) offset count (cut call bytes) (cut-below call bytes w)
+  act-good call (Arguments.Create p manner) w f = create-good (cut call (p .directory)) (cut call (p .name)) manner (cut-below call (p .name) w) f
+  act-good call (Arguments.Mkdir p a) w f = mkdir-good (cut call (p .directory)) (cut call (p .name)) a (cut-below call (p .name) w) f
   act-good call (Arguments.Remove p) w f = remove-good (cut call (p .directory)) (cut call (p .name))
   act-good call (Arguments.Rmdir p) w f = rmdir-good (cut call (p .directory)) (cut call (p .name))
   act-good call (Arguments.Rename p q) w f =
-      rename-good (cut call (p .directory)) (cut call (p .name)) (cut call (q .directory)) (cut call (q .name)) (bytes-of call (q .name) w)
+      rename-good (cut call (p .directory)) (cut call (p .name)) (cut call (q .directory)) (cut call (q .name)) (cut-below call (q .name) w)
   act-good call (Arguments.Readdir h cookie verifier count) w f = as-it-was _ (readdir-store s (cut call h) cookie verifier count)
   act-good call (Arguments.Fsstat h) w f = as-it-was _ (fsstat-store s (cut call h))
   act-good call (Arguments.Fsinfo h) w f = as-it-was _ (fsinfo-store s (cut call h))

@@ -126,7 +126,7 @@ module _ (s : Store) (c : Context) where
   rename-error : (h text g title : List ℕ) → KeptUnlessOK s (rename s c h text g title)
   unfolding rename
   rename-error h text g title =
-      settle-ok s (failRenaming s h g) (checkRename s h text g title) (λ p. renamedTo s (p .0) (p .1) (renameEdit s c (p .0) (p .1) (p .2) title))
+      settle-ok s (failRenaming s h g) (checkRename s h text g title) (λ p. renamedTo s (p .0) (p .1) (renameEdit s c (p .0) (p .1) (p .2) (p .3) title))
       (λ p. renamed-ok _ _)
 
 -- the procedures that only read

@@ -1,6 +1,6 @@
 -- What the checks of each procedure tell where they pass. Assumes nothing.
-use mathlib.Core.Path.{_≡_, refl, sym, _∙_, subst}
-use mathlib.Core.Logic.{_≢_}
+use mathlib.Core.Path.{_≡_, refl, sym, ap, _∙_, subst}
+use mathlib.Core.Logic.{_≢_, _⊎_, ⊎-elim}
 use mathlib.Core.Bool.{Bool, true, false, _&&_, _||_, not}
 use mathlib.Core.Option.{Option, some, none}
 use mathlib.Core.List.{List}
@@ -24,15 +24,17 @@ use Rattle.spec.specs.Procedures.Attributes.{isGiven, sizeSet, badAttributes, l
 use Rattle.spec.specs.Procedures.Data.{reachRegular, grown, checkWrite}
 use Rattle.spec.specs.Procedures.Names.{childOf, lookIn, checkIn, checkLookup, roomForNew, Target, new, existing, isNew, settableIn}
 use Rattle.spec.specs.Procedures.Names.{isMadeBy, isTaken, checkExisting, targetOf, checkNew, checkHow, checkCreate, checkMkdir}
-use Rattle.spec.specs.Procedures.Removal.{checkEntry, checkRemove, hasEntries, checkRmdir, isWithin, checkMove, checkRename}
+use Rattle.spec.specs.Procedures.Removal.{checkEntry, checkRemove, hasEntries, checkRmdir, isWithin, Onto, newName, sameObject, replacing}
+use Rattle.spec.specs.Procedures.Removal.{isReplaceable, checkReplace, onto, checkMove, checkRename}
 use Rattle.spec.specs.Room.{isLive, isRegular, isDirectory, sizeOf, need, freeBlockCount, isAvailable, availableObject, isUsedName, availableName}
 use Rattle.spec.specs.Room.{isIn, isNamed, findName, parent}
 use Rattle.laws.proofs.Bytes.{same-eq}
 use Rattle.laws.proofs.Count.{and-both, by-bool, true-false, lowest-passes, some-none}
+use Rattle.laws.proofs.GoodKept.{used-of}
 use Rattle.laws.proofs.SetAttributes.{Allowed, allowed}
 use Rattle.laws.proofs.Tests.{and-true, or-none, true-nonzero}
-use Rattle.laws.proofs.Valid.{Live, Used, GoodName, live-true, live-false, used-true, true-used, used-false, directory-true, true-directory}
-use Rattle.laws.proofs.Valid.{regular-true, true-regular, bytes-good, dots-no}
+use Rattle.laws.proofs.Valid.{Live, Used, GoodName, GoodNames, live-true, live-false, used-true, true-used, used-false, directory-true}
+use Rattle.laws.proofs.Valid.{true-directory, regular-true, true-regular, bytes-good, dots-no}
 
 -- ---- checks in order
 refused-passed : {A : Type 0} (status : ℕ) (a : A) → refused status ≡ passed a → ⊥
@@ -497,7 +499,48 @@ no-entries s d m e l u q =
     true-false (sym (and-true (isUsedName s m) (eqb (nameAt s m .directory) d) (true-used s m u) (eq-eqb (nameAt s m .directory) d q)) ∙ t)
 
 -- ---- RENAME
-pub record RenamePassed (s : Store) (h text g title : List ℕ) (d e n : ℕ) : Type 0 where
+-- an object that gives way is no directory, or one without entries
+pub replaceable : (s : Store) (o p : ℕ) → isReplaceable s o p ≡ true → (isDirectory s p ≡ false) ⊎ (hasEntries s p ≡ false)
+unfolding isReplaceable
+replaceable s o p e =
+    by-bool (isDirectory s p)
+    (λ t. by-bool (isDirectory s o)
+    (λ u. _⊎_.inr (not-true (hasEntries s p) (and-both (isDirectory s p) (not (hasEntries s p)) (rw u at e) .1)))
+    (λ u. true-false (sym (rw (u, t) at e))))
+    (λ t. _⊎_.inl t)
+
+-- so no used name is in it
+pub replaced-alone : (s : Store) → GoodNames s → (o p m : ℕ) → isReplaceable s o p ≡ true → m < names s → Used s m → nameAt s m .directory ≢ p
+replaced-alone s g o p m e l u q =
+    ⊎-elim
+    (λ t. true-false (sym (true-directory s p (ap (λ (i : ℕ). objectAt s i .kind) (sym q) ∙ used-of s m u (g m l) .in-directory)) ∙ t))
+    (λ t. no-entries s p m t l u q)
+    (replaceable s o p e)
+
+-- the new name is that of name record m, whose object is another one, and gives way
+pub record ReplacePassed (s : Store) (o e : ℕ) (title : List ℕ) (m : ℕ) : Type 0 where
+  pub found : findName s e title ≡ some m
+  pub other : nameAt s m .child ≢ o
+  pub gives-way : isReplaceable s o (nameAt s m .child) ≡ true
+
+-- what is known of the new name
+abbrev pub OntoPassed : Store → ℕ → ℕ → List ℕ → Onto → Type 0
+OntoPassed s o e title newName = findName s e title ≡ none
+OntoPassed s o e title sameObject = (m : ℕ) × (findName s e title ≡ some m) × (nameAt s m .child ≡ o)
+OntoPassed s o e title (replacing m) = ReplacePassed s o e title m
+
+onto-passed : (s : Store) (o e : ℕ) (title : List ℕ) (found : Option ℕ) → findName s e title ≡ found → (t : Onto) → onto s o found ≡ passed t
+    → OntoPassed s o e title t
+unfolding checkReplace
+onto-passed s o e title none f t w = subst (OntoPassed s o e title) (same-passed newName t w) f
+onto-passed s o e title (some m) f t w =
+    by-bool (eqb (nameAt s m .child) o)
+    (λ q. subst (OntoPassed s o e title) (same-passed sameObject t (rw q at w)) (m, f, eqb-true (nameAt s m .child) o q))
+    (λ q. refuse-passed (not (isReplaceable s o (nameAt s m .child))) EXIST (passed (replacing m)) t (rw q at w) (λ y z.
+    subst (OntoPassed s o e title) (same-passed (replacing m) t z)
+    (record { found = f; other = eqb-false (nameAt s m .child) o q; gives-way = not-false (isReplaceable s o (nameAt s m .child)) y })))
+
+pub record RenamePassed (s : Store) (h text g title : List ℕ) (d e n : ℕ) (t : Onto) : Type 0 where
   pub reached : Reached s h d
   pub directory : objectAt s d .kind ≡ DIRECTORY
   pub target-reached : Reached s g e
@@ -505,11 +548,11 @@ pub record RenamePassed (s : Store) (h text g title : List ℕ) (d e n : ℕ) : 
   pub good : GoodName text
   pub target-good : GoodName title
   pub found : findName s d text ≡ some n
-  pub fresh : findName s e title ≡ none
   pub outside : isWithin s (nameAt s n .child) e ≡ false
+  pub target : OntoPassed s (nameAt s n .child) e title t
 
-pub rename-passed : (s : Store) (h text g title : List ℕ) (p : ℕ × ℕ × ℕ) → checkRename s h text g title ≡ passed p
-    → RenamePassed s h text g title (p .0) (p .1) (p .2)
+pub rename-passed : (s : Store) (h text g title : List ℕ) (p : ℕ × ℕ × ℕ × Onto) → checkRename s h text g title ≡ passed p
+    → RenamePassed s h text g title (p .0) (p .1) (p .2) (p .3)
 unfolding checkRename checkMove
 rename-passed s h text g title p w =
     bind-passed (reachDirectory s h) _ p w (λ d e₁ f₁.
@@ -518,13 +561,13 @@ rename-passed s h text g title p w =
     name-passed title _ p f₃ (λ k f₄.
     refuse-passed (isDots text || isDots title) INVAL _ p f₄ (λ t₅ f₅.
     present-passed NOENT (findName s d text) _ p f₅ (λ n e₆ f₆.
-    absent-passed EXIST (findName s e title) _ p f₆ (λ x f₇.
-    refuse-passed (isWithin s (nameAt s n .child) e) INVAL _ p f₇ (λ t₈ f₈.
+    refuse-passed (isWithin s (nameAt s n .child) e) INVAL _ p f₆ (λ t₇ f₇.
+    bind-passed (onto s (nameAt s n .child) (findName s e title)) _ p f₇ (λ t e₈ f₈.
     let z = directory-passed s h d e₁ in
     let y = directory-passed s g e e₂ in
     let b = or-none (isDots text) (isDots title) t₅ in
-    let q : _≡_ {A = ℕ × ℕ × ℕ} (d, e, n) p = same-passed (d, e, n) p f₈ in
-    let v : RenamePassed s h text g title d e n = record {
+    let q : _≡_ {A = ℕ × ℕ × ℕ × Onto} (d, e, n, t) p = same-passed (d, e, n, t) p f₈ in
+    let v : RenamePassed s h text g title d e n t = record {
       reached = z .0;
       directory = z .1;
       target-reached = y .0;
@@ -532,7 +575,7 @@ rename-passed s h text g title p w =
       good = passed-good text m (b .0);
       target-good = passed-good title k (b .1);
       found = e₆;
-      fresh = x;
-      outside = t₈;
+      outside = t₇;
+      target = onto-passed s (nameAt s n .child) e title (findName s e title) refl t e₈;
     } in
-    subst (λ (c : ℕ × ℕ × ℕ). RenamePassed s h text g title (c .0) (c .1) (c .2)) q v))))))))
+    subst (λ (c : ℕ × ℕ × ℕ × Onto). RenamePassed s h text g title (c .0) (c .1) (c .2) (c .3)) q v))))))))

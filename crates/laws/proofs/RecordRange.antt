@@ -9,9 +9,11 @@ use Rattle.kinds.specs.Layout.{generationOffset, modeOffset, uidOffset, gidOffs
 use Rattle.kinds.specs.Layout.{verifierOffset, exclusiveOffset, nanosecondsOffset, childOffset, lengthOffset, textOffset}
 use Rattle.kinds.specs.Numbers.{fileBlocks, mostNameBytes}
 use Rattle.kinds.specs.declared.object.Object.{Object}
+use Rattle.kinds.specs.declared.call.Part.{Part}
 use Rattle.spec.specs.Bytes.{part, beAt, bytesOf}
 use Rattle.spec.specs.Image.{Store, objectStart, nameStart, halvesAt, halvesBytes, timeAt, timeBytes, headBytes, timesBytes, verifierBytes, objectFrom}
 use Rattle.spec.specs.Image.{objectBytes, objectAt, putObject, Name, nameFrom, nameBytes, nameAt, nameLength, putName}
+use Rattle.spec.specs.Procedures.{cut}
 use Rattle.laws.proofs.Bytes.{part-length}
 use Rattle.laws.proofs.Range.{Below, below-append, below-drop, below-take, below-bytes, below-overlay, be-below}
 use Rattle.laws.proofs.Records.{FitsObject, halves-count}
@@ -52,6 +54,10 @@ objectAt-fits s o f =
 pub below-part : (m : ℕ) (b : List ℕ) (at n : ℕ) → 0 < m → Below m b → Below m (part b at n)
 unfolding part
 below-part m b at n p f = below-take m _ n p (below-drop m b at f)
+
+-- a part of a call is bytes
+pub cut-below : (call : List ℕ) (p : Part) → Below 256 call → Below 256 (cut call p)
+cut-below call p f = below-part 256 call (p .start) (p .length) (lit< tt) f
 
 pub nameAt-fits : (s : Store) (n : ℕ) → Below 256 s → nameLength s n ≤ mostNameBytes → FitsName (nameAt s n)
 unfolding nameAt nameFrom nameLength part

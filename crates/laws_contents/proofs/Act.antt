@@ -4,11 +4,9 @@ use mathlib.Core.Logic.{_≢_, ⊎-elim, _⊎_}
 use mathlib.Core.List.{List}
 use Prim.Native.Nat.{ℕ, _^_, _<_, min}
 use native.Mathlib.Omega.{arith}
-use lib.Dec.{lit<}
 use lib.ListN.{take}
 use Rattle.kinds.specs.Numbers.{REGULAR, DIRECTORY, mostTransferBytes}
 use Rattle.kinds.specs.declared.object.Context.{Context}
-use Rattle.kinds.specs.declared.call.Part.{Part}
 use Rattle.kinds.specs.declared.call.Settable.{Settable}
 use Rattle.kinds.specs.declared.call.Guard.{Guard}
 use Rattle.kinds.specs.declared.call.How.{How}
@@ -36,7 +34,7 @@ use Rattle.laws.proofs.NewObject.{new-fresh, file-kind, file-fresh}
 use Rattle.laws.proofs.Passed.{setattr-passed, write-passed, CreatePassed, create-passed, mkdir-passed}
 use Rattle.laws.proofs.Passed.{remove-passed, rmdir-passed, rename-passed, found-record}
 use Rattle.laws.proofs.Range.{Below}
-use Rattle.laws.proofs.RecordRange.{below-part}
+use Rattle.laws.proofs.RecordRange.{cut-below}
 use Rattle.laws.proofs.Served.{Ran, serve-ran}
 use Rattle.laws.proofs.SetAttributes.{FitsSettable}
 use Rattle.laws_contents.specs.Addressed.{Named, Addresses}
@@ -153,17 +151,22 @@ module _ (s : Store) (g : GoodRecords s) (c : Context) (k : GoodClock (c .clock)
       removed-others s g c k (x .0) (x .1) (y .0) (y .1) (q .entry .reached .below) p l
       (λ a. omega (arith, q .child-directory, ap (λ (i : ℕ). objectAt s i .kind) a)))
 
-  rename-frame : (h text j title : List ℕ) → Below 256 title → contents (rename s c h text j title .store) p ≡ contents s p
+  rename-frame : (h text j title : List ℕ) → Below 256 title → ¬ Named s j title p → contents (rename s c h text j title .store) p ≡ contents s p
   unfolding rename
-  rename-frame h text j title w =
-      settled (failRenaming s h j) (checkRename s h text j title) (λ x. renamedTo s (x .0) (x .1) (renameEdit s c (x .0) (x .1) (x .2) title)) (λ x e.
-      renamed-contents s g c k h text j title (x .0) (x .1) (x .2) w (rename-passed s h text j title x e) p l)
+  rename-frame h text j title w z =
+      settled (failRenaming s h j) (checkRename s h text j title)
+      (λ x. renamedTo s (x .0) (x .1) (renameEdit s c (x .0) (x .1) (x .2) (x .3) title)) (λ x e.
+      let q = rename-passed s h text j title x e in
+      renamed-contents s g c k h text j title (x .0) (x .1) (x .2) (x .3) w q p l (λ m f a. z (record {
+        directory = x .1;
+        entry = m;
+        reached = directory-passes s j (x .1) (q .target-reached) (q .target-directory);
+        found = f;
+        child = sym a;
+      })))
 
   kept : (t : Store) → t ≡ s → contents t p ≡ contents s p
   kept t e = rw e refl
-
-  bytes-of : (call : List ℕ) (x : Part) → Below 256 call → Below 256 (cut call x)
-  bytes-of call x f = below-part 256 call (x .start) (x .length) (lit< tt) f
 
   -- a call that does not address the file keeps its contents
   pub act-others : (call : List ℕ) (a : Arguments) → Below 256 call → FitsArguments a → ¬ Addresses s call a p
@@ -175,13 +178,13 @@ module _ (s : Store) (g : GoodRecords s) (c : Context) (k : GoodClock (c .clock)
   act-others call (Arguments.Lookup q) w f z = kept _ (lookup-store s (cut call (q .directory)) (cut call (q .name)))
   act-others call (Arguments.Access h bits) w f z = kept _ (access-store s (cut call h) bits)
   act-others call (Arguments.Read h offset count) w f z = kept _ (read-store s (cut call h) offset count)
-  act-others call (Arguments.Write h offset count bytes) w f z = write-frame (cut call h) offset count (cut call bytes) (bytes-of call bytes w) z
-  act-others call (Arguments.Create q manner) w f z = create-frame (cut call (q .directory)) (cut call (q .name)) manner (bytes-of call (q .name) w) f z
-  act-others call (Arguments.Mkdir q a) w f z = mkdir-frame (cut call (q .directory)) (cut call (q .name)) a (bytes-of call (q .name) w) f
+  act-others call (Arguments.Write h offset count bytes) w f z = write-frame (cut call h) offset count (cut call bytes) (cut-below call bytes w) z
+  act-others call (Arguments.Create q manner) w f z = create-frame (cut call (q .directory)) (cut call (q .name)) manner (cut-below call (q .name) w) f z
+  act-others call (Arguments.Mkdir q a) w f z = mkdir-frame (cut call (q .directory)) (cut call (q .name)) a (cut-below call (q .name) w) f
   act-others call (Arguments.Remove q) w f z = remove-frame (cut call (q .directory)) (cut call (q .name)) z
   act-others call (Arguments.Rmdir q) w f z = rmdir-frame (cut call (q .directory)) (cut call (q .name))
   act-others call (Arguments.Rename q j) w f z =
-      rename-frame (cut call (q .directory)) (cut call (q .name)) (cut call (j .directory)) (cut call (j .name)) (bytes-of call (j .name) w)
+      rename-frame (cut call (q .directory)) (cut call (q .name)) (cut call (j .directory)) (cut call (j .name)) (cut-below call (j .name) w) z
   act-others call (Arguments.Readdir h cookie verifier count) w f z = kept _ (readdir-store s (cut call h) cookie verifier count)
   act-others call (Arguments.Fsstat h) w f z = kept _ (fsstat-store s (cut call h))
   act-others call (Arguments.Fsinfo h) w f z = kept _ (fsinfo-store s (cut call h))

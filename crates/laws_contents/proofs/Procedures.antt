@@ -1,8 +1,9 @@
 -- The edits of SETATTR, WRITE, CREATE, MKDIR, REMOVE, RMDIR and RENAME, as the contents of files show them. Assumes nothing.
-use mathlib.Core.Path.{_≡_, refl, ap, _∙_}
+use mathlib.Core.Path.{_≡_, refl, sym, ap, _∙_}
 use mathlib.Core.Logic.{_≢_}
 use mathlib.Core.Bool.{true}
 use mathlib.Core.List.{List, []}
+use mathlib.Core.Option.{some}
 use Prim.Native.Nat.{ℕ, _^_, _≤_, _<_, min}
 use native.Mathlib.Omega.{arith}
 use lib.Dec.{lit<}
@@ -19,8 +20,8 @@ use Rattle.spec.specs.Image.{Store, objects, names, blocks, objectAt, nameAt}
 use Rattle.spec.specs.Procedures.Attributes.{isGiven, sizeSet, sizeTouches, resizeTo, setattrEdit}
 use Rattle.spec.specs.Procedures.Data.{writeStore}
 use Rattle.spec.specs.Procedures.Names.{touchDirectory, newEdit, existingEdit}
-use Rattle.spec.specs.Procedures.Removal.{renameEdit}
-use Rattle.spec.specs.Room.{sizeOf, freeBlockCount}
+use Rattle.spec.specs.Procedures.Removal.{Onto, newName, sameObject, replacing, moveEdit, renameEdit}
+use Rattle.spec.specs.Room.{sizeOf, freeBlockCount, findName}
 use Rattle.laws.proofs.ActGood.{regular-of}
 use Rattle.laws.proofs.BlockLists.{held-range}
 use Rattle.laws.proofs.CreateObject.{create-object, create-object-uses}
@@ -188,22 +189,20 @@ module _ (s : Store) (g : GoodRecords s) (c : Context) (k : GoodClock (c .clock)
       let e = remove-object s n o refl (g .sound) l (w .0) (v .generation) (held-range s o v) in
       touched (removeObject s n) (e .sound) d p (rw (e .shape .objects) below) (rw (e .shape .objects) m) ∙ remove-object-others s g n l u p m q
 
-  -- ---- RENAME: every file keeps its contents
-  pub renamed-contents : (h text j title : List ℕ) (d e n : ℕ) → Below 256 title → RenamePassed s h text j title d e n
-      → (p : ℕ) → p < objects s → contents (renameEdit s c d e n title) p ≡ contents s p
-  unfolding renameEdit
-  renamed-contents h text j title d e n w q p l =
-      let (i, u, x, y) = found-record s d text n (q .found) in
+  -- ---- RENAME: every file keeps its contents, but for the one that is replaced
+  -- the move alone
+  moved-contents : (t : Store) → Sound t → (d e n : ℕ) (title : List ℕ) → n < names t → nameAt t n .child < objects t → d < objects t → e < objects t
+      → GoodName title → Below 256 title → (p : ℕ) → p < objects t → contents (moveEdit t c d e n title) p ≡ contents t p
+  unfolding moveEdit
+  moved-contents t sound d e n title i child below beyond good w p l =
       let clock = clock-fits (c .clock) k in
-      let z = g .sound .shaped in
-      let o = nameAt s n .child in
-      let below = q .reached .below in
-      let beyond = q .target-reached .below in
+      let z = sound .shaped in
+      let o = nameAt t n .child in
       let word : e < 2 ^ 32 = omega arith in
-      let t₁ = moveName s n e title in
-      let m₁ = move-name s n e title (g .sound) i word (q .target-good .short) w in
+      let t₁ = moveName t n e title in
+      let m₁ = move-name t n e title sound i word (good .short) w in
       let e₁ = m₁ .shape in
-      let b₁ : o < objects t₁ = rw (e₁ .objects) (used-at s g n i u .0) in
+      let b₁ : o < objects t₁ = rw (e₁ .objects) child in
       let t₂ = setAttributes t₁ (c .clock) o onlyCtime in
       let m₂ = set-attributes t₁ (c .clock) o onlyCtime (m₁ .sound) b₁ clock only-ctime-fits in
       let e₂ = m₂ .shape in
@@ -214,4 +213,24 @@ module _ (s : Store) (g : GoodRecords s) (c : Context) (k : GoodClock (c .clock)
       touched t₃ (m₃ .sound) e p (rw (e₃ .objects, e₂ .objects, e₁ .objects) beyond) (rw (e₃ .objects, e₂ .objects, e₁ .objects) l)
       ∙ touched t₂ (m₂ .sound) d p b₂ (rw (e₂ .objects, e₁ .objects) l)
       ∙ set-attributes-contents t₁ (c .clock) o onlyCtime (m₁ .sound) b₁ clock only-ctime-fits p (rw (e₁ .objects) l)
-      ∙ move-name-contents s n e title (g .sound) i word (q .target-good .short) w p l
+      ∙ move-name-contents t n e title sound i word (good .short) w p l
+
+  -- p has not the second name
+  pub renamed-contents : (h text j title : List ℕ) (d e n : ℕ) (t : Onto) → Below 256 title → RenamePassed s h text j title d e n t
+      → (p : ℕ) → p < objects s → ((m : ℕ) → findName s e title ≡ some m → p ≢ nameAt s m .child) → contents (renameEdit s c d e n t title) p ≡ contents s p
+  renamed-contents h text j title d e n newName w q p l other =
+      let (i, u, x, y) = found-record s d text n (q .found) in
+      moved-contents s (g .sound) d e n title i (used-at s g n i u .0) (q .reached .below) (q .target-reached .below) (q .target-good) w p l
+  renamed-contents h text j title d e n sameObject w q p l other = refl
+  renamed-contents h text j title d e n (replacing m) w q p l other =
+      let (i, u, x, y) = found-record s d text n (q .found) in
+      let (a, b, z, f) = found-record s e title m (q .target .found) in
+      let t = removeObject s m in
+      let o = nameAt s m .child in
+      let v = used-at s g m a b in
+      let live = live-at s g o (v .0) (v .1) in
+      let r = remove-object s m o refl (g .sound) a (v .0) (live .generation) (held-range s o live) in
+      let kept = r .other-names n i (λ k. q .target .other (ap (λ (y : ℕ). nameAt s y .child) (sym k))) .all in
+      moved-contents t (r .sound) d e n title (rw (r .shape .names) i) (rw (kept, r .shape .objects) (used-at s g n i u .0))
+      (rw (r .shape .objects) (q .reached .below)) (rw (r .shape .objects) (q .target-reached .below)) (q .target-good) w p (rw (r .shape .objects) l)
+      ∙ remove-object-others s g m a b p l (other m (q .target .found))

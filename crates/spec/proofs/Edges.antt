@@ -1,10 +1,9 @@
 -- Examples at the edges: numbers, the order of checks and the readings of open points, by computation.
-use Prim.Native.Nat.{ℕ, _+_}
+use Prim.Native.Nat.{_+_}
 use lib.ListN.{replicate}
-use mathlib.Core.List.{List, [], _∷_, _++_}
+use mathlib.Core.List.{[], _∷_, _++_}
 use mathlib.Core.Path.{_≡_, refl}
-use Rattle.spec.specs.Bytes.{zeros, beAt, words, opaqueBytes}
-use Rattle.spec.specs.Image.{Store}
+use Rattle.spec.specs.Bytes.{zeros, words, opaqueBytes}
 use Rattle.spec.specs.Serve.{check, format}
 use Rattle.spec.proofs.Setting.{space, fresh, callTo, served, after, replied, answered, statusSent, handleTo, getattrCall, createCall}
 use Rattle.spec.proofs.Setting.{removeCall, readdirCall, rootWords, nameA, rootAlone, withoutBlocks, setattrCall, createBy, mkdirBy, rmdirCall}
@@ -59,8 +58,7 @@ pub record Edges : Type 0 where
   -- "Freeing an object raises its generation by one"; the handle is STALE ever after
   pub generation-raised : wordAfter (removeCall nameA) withoutBlocks (12 + 92 + 4) ≡ 1
   pub stale-after : statusSent (served (getattrCall 1) (after (removeCall nameA ∷ createCall nameB ∷ []) withoutBlocks)) ≡ 70
-  -- RENAME: EXIST before "a directory into itself or below, INVAL"
-  pub rename-exists : statusSent (served (renameCall 0 nameA 1 nameB) twoDirectories) ≡ 17
+  -- RENAME: "a directory into itself or below, INVAL"
   pub rename-below : statusSent (served (renameCall 0 nameA 2 nameA) twoDirectories) ≡ 22
   pub rename-itself : statusSent (served (renameCall 0 nameA 1 nameA) twoDirectories) ≡ 22
   -- "Testing only the immediate parent": a into a/b/c
@@ -126,7 +124,6 @@ edges =
       rmdir-full = refl;
       generation-raised = refl;
       stale-after = refl;
-      rename-exists = refl;
       rename-below = refl;
       rename-itself = refl;
       rename-deep = refl;

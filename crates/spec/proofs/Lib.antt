@@ -2,5 +2,6 @@ pub mod Conversion
 pub mod Edges
 pub mod Exclusive
 pub mod Padding
+pub mod Replacing
 pub mod Setting
 pub mod Starred

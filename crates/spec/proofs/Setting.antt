@@ -22,8 +22,8 @@ use Rattle.spec.specs.Procedures.Data.{reachRegular, readLength, readRes
 use Rattle.spec.specs.Procedures.Listing.{entryOf, dotEntries, entries, entriesAbove, fitting, checkListing, checkReaddirIn, checkReaddir, readdir}
 use Rattle.spec.specs.Procedures.Names.{lookIn, checkIn, checkLookup, lookup, roomForNew, newObject, newEdit, isMadeBy, checkExisting, checkNew}
 use Rattle.spec.specs.Procedures.Names.{checkHow, checkCreate, create, checkMkdir, mkdir}
-use Rattle.spec.specs.Procedures.Removal.{checkEntry, checkRemove, hasEntries, checkRmdir, removeFrom, remove, rmdir, isWithin, checkMove}
-use Rattle.spec.specs.Procedures.Removal.{checkRename, renameEdit, failRenaming, rename}
+use Rattle.spec.specs.Procedures.Removal.{checkEntry, checkRemove, hasEntries, checkRmdir, removeFrom, remove, rmdir, isWithin}
+use Rattle.spec.specs.Procedures.Removal.{isReplaceable, checkReplace, checkMove, checkRename, moveEdit, failRenaming, rename}
 use Rattle.spec.specs.Procedures.Volume.{fsstat, fsinfo, pathconf}
 use Rattle.spec.specs.Replies.{fattr3, postOp, preOp, wccData, entryBytes, entriesBytes, resultBytes}
 use Rattle.spec.specs.Results.{failShowing, failChanging}
@@ -197,8 +197,8 @@ unfolding handle unbounded nameIn time setNumber setSize setTime settable guard 
     putName isDot isDotDot goodByte goodBytes goodName act badAttributes lacksRoom sizeTouches getattr checkSetattr setattrEdit setattr grantedBits
     access reachRegular readLength readResult read checkWrite writeEdit writeStore writeDone write commit entryOf dotEntries entries entriesAbove
     fitting checkListing checkReaddirIn checkReaddir readdir lookIn checkIn checkLookup lookup roomForNew newObject newEdit isMadeBy checkExisting
-    checkNew checkHow checkCreate create checkMkdir mkdir checkEntry checkRemove hasEntries checkRmdir removeFrom remove rmdir isWithin checkMove
-    checkRename renameEdit failRenaming rename fsstat fsinfo pathconf fattr3 postOp preOp wccData entryBytes entriesBytes resultBytes failShowing
+    checkNew checkHow checkCreate create checkMkdir mkdir checkEntry checkRemove hasEntries checkRmdir removeFrom remove rmdir isWithin isReplaceable
+    checkReplace checkMove checkRename moveEdit failRenaming rename fsstat fsinfo pathconf fattr3 postOp preOp wccData entryBytes entriesBytes resultBytes failShowing
     failChanging isLive isRegular isDirectory sizeOf held uses isFreeBlock freeBlocks freeBlockCount isAvailable availableCount availableObject
     isUsedName availableName freeNameCount isNaming namings isIn isNamed findName subdirectories parent above byteAt denied accepted judge mismatch
     serve check formatted format convert number word long choice flag bytes opaque end

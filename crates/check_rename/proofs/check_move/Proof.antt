@@ -94,51 +94,9 @@ returns-5 c = rw (
   c .enum-told3 .given .1,
 )
 
-find-name-requires-2 : tie.Need-find-name-requires-2
-find-name-requires-2 c κs =
-    let after-enum-told = c .before .before .before .before .before .before .before .before .before .before .before in
-    let start = after-enum-told .before .before .before .before .before in
-    let pre = start .pre
-    in (good-shaped _ (pre .0), (good-names-sound _ (pre .0), pre .1 .1 .1))
-
-enum-known-other : tie.Need-enum-known-other
-enum-known-other c = search needs
-
-returns-6 : tie.Need-returns-6
-unfolding checkMove
-returns-6 c =
-    let after-find-name2 = c .before .before .before in
-    let after-n = after-find-name2 .before .before in
-    let after-find-name = after-n .before .before in
-    let else2 = after-find-name .before in
-    let after-is-dots2 = else2 .before in
-    let else1 = after-is-dots2 .before in
-    let after-is-dots = else1 .before in
-    let after-enum-told2 = after-is-dots .before in
-    let after-check-name2 = after-enum-told2 .before .before in
-    let after-enum-told = after-check-name2 .before in
-    let after-check-name = after-enum-told .before .before in
-    rw (
-      ← after-check-name .check-name .ensures,
-      after-enum-told .enum-told .given .1,
-      ← after-check-name2 .check-name2 .ensures,
-      after-enum-told2 .enum-told2 .given .1,
-      ← after-is-dots .is-dots .ensures,
-      else1 .if1 .left,
-      ← after-is-dots2 .is-dots2 .ensures,
-      else2 .if2 .left,
-      ← after-find-name .find-name .ensures,
-      after-n .n .given .1,
-      ← after-find-name2 .find-name2 .ensures,
-      c .before .other .given .1,
-    )
-
-enum-told-4 : tie.Need-enum-told-4
-enum-told-4 c = search needs
-
 name-child-requires : tie.Need-name-child-requires
 name-child-requires c κs =
-    let after-n = c .before .before .before .before in
+    let after-n = c .before in
     let after-find-name = after-n .before .before in
     let after-check-name = after-find-name .before .before .before .before .before .before .before .before .before .before in
     let start = after-check-name .before .before .before in
@@ -149,7 +107,7 @@ name-child-requires c κs =
 
 is-within-requires : tie.Need-is-within-requires
 is-within-requires c κs =
-    let after-n = c .before .before .before .before .before in
+    let after-n = c .before .before in
     let after-find-name = after-n .before .before in
     let after-check-name = after-find-name .before .before .before .before .before .before .before .before .before .before in
     let start = after-check-name .before .before .before in
@@ -158,12 +116,10 @@ is-within-requires c κs =
     (after-n .n .given .1) (after-find-name .find-name .ensures) in
     (start .pre .0, (omega (arith, c .name-child .ensures), start .pre .1 .0))
 
-returns-7 : tie.Need-returns-7
+returns-6 : tie.Need-returns-6
 unfolding checkMove
-returns-7 c =
-    let after-enum-told4 = c .before .before .before in
-    let after-find-name2 = after-enum-told4 .before .before in
-    let after-n = after-find-name2 .before .before in
+returns-6 c =
+    let after-n = c .before .before .before .before in
     let after-find-name = after-n .before .before in
     let else2 = after-find-name .before in
     let after-is-dots2 = else2 .before in
@@ -184,19 +140,29 @@ returns-7 c =
       else2 .if2 .left,
       ← after-find-name .find-name .ensures,
       after-n .n .given .1,
-      ← after-find-name2 .find-name2 .ensures,
-      after-enum-told4 .enum-told4 .given .1,
       ← c .before .before .name-child .ensures,
       ← c .before .is-within .ensures,
       c .if3 .taken,
     )
 
-returns-8 : tie.Need-returns-8
+check-onto-requires : tie.Need-check-onto-requires
+check-onto-requires c κs =
+    let after-n = c .before .before .before .before in
+    let after-find-name = after-n .before .before in
+    let after-check-name = after-find-name .before .before .before .before .before .before .before .before .before .before in
+    let start = after-check-name .before .before .before in
+    let a = start .args in
+    let k = name-found (a .store .now) (start .pre .0) (a .d .0) (cut (a .call .now) (a .from)) _ _
+    (after-n .n .given .1) (after-find-name .find-name .ensures) in
+    (start .pre .0, (omega (arith, c .before .before .name-child .ensures), start .pre .1 .1 .1))
+
+enum-known-answer : tie.Need-enum-known-answer
+enum-known-answer c = search needs
+
+returns-7 : tie.Need-returns-7
 unfolding checkMove
-returns-8 c =
-    let after-enum-told4 = c .before .before .before in
-    let after-find-name2 = after-enum-told4 .before .before in
-    let after-n = after-find-name2 .before .before in
+returns-7 c =
+    let after-n = c .before .before .before .before .before .before .before .before in
     let after-find-name = after-n .before .before in
     let else2 = after-find-name .before in
     let after-is-dots2 = else2 .before in
@@ -217,11 +183,45 @@ returns-8 c =
       else2 .if2 .left,
       ← after-find-name .find-name .ensures,
       after-n .n .given .1,
-      ← after-find-name2 .find-name2 .ensures,
-      after-enum-told4 .enum-told4 .given .1,
-      ← c .before .before .name-child .ensures,
-      ← c .before .is-within .ensures,
-      c .if3 .left,
+      ← c .before .before .before .before .before .before .name-child .ensures,
+      ← c .before .before .before .before .before .is-within .ensures,
+      c .before .before .before .before .if3 .left,
+      ← c .before .before .before .check-onto .ensures,
+      c .before .answer .given .1,
+    )
+
+enum-known-answer-2 : tie.Need-enum-known-answer-2
+enum-known-answer-2 c = search needs
+
+returns-8 : tie.Need-returns-8
+unfolding checkMove
+returns-8 c =
+    let after-n = c .before .before .before .before .before .before .before .before in
+    let after-find-name = after-n .before .before in
+    let else2 = after-find-name .before in
+    let after-is-dots2 = else2 .before in
+    let else1 = after-is-dots2 .before in
+    let after-is-dots = else1 .before in
+    let after-enum-told2 = after-is-dots .before in
+    let after-check-name2 = after-enum-told2 .before .before in
+    let after-enum-told = after-check-name2 .before in
+    let after-check-name = after-enum-told .before .before in
+    rw (
+      ← after-check-name .check-name .ensures,
+      after-enum-told .enum-told .given .1,
+      ← after-check-name2 .check-name2 .ensures,
+      after-enum-told2 .enum-told2 .given .1,
+      ← after-is-dots .is-dots .ensures,
+      else1 .if1 .left,
+      ← after-is-dots2 .is-dots2 .ensures,
+      else2 .if2 .left,
+      ← after-find-name .find-name .ensures,
+      after-n .n .given .1,
+      ← c .before .before .before .before .before .before .name-child .ensures,
+      ← c .before .before .before .before .before .is-within .ensures,
+      c .before .before .before .before .if3 .left,
+      ← c .before .before .before .check-onto .ensures,
+      c .before .answer2 .given .1,
     )
 
 pub check-move-spec : {M : Type 1} → statement M
@@ -244,11 +244,11 @@ check-move-spec =
     enum-known-n
     enum-told-3
     returns-5
-    find-name-requires-2
-    enum-known-other
-    returns-6
-    enum-told-4
     name-child-requires
     is-within-requires
+    returns-6
+    check-onto-requires
+    enum-known-answer
+    enum-known-answer-2
     returns-7
     returns-8)

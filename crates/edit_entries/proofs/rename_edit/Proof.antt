@@ -1,62 +1,60 @@
-use native.Mathlib.Omega.{arith}
 use borrow.Author.Needs.{needs}
-use Rattle.spec.specs.Procedures.Removal.{renameEdit}
 use Rattle.edit_entries.proofs.rename_edit.Statement.{statement}
 use Rattle.edit_entries.proofs.rename_edit.Tie as tie
 
-name-child-requires : tie.Need-name-child-requires
-name-child-requires c κs = search needs
+enum-told : tie.Need-enum-told
+enum-told c = search needs
 
-move-name-requires : tie.Need-move-name-requires
-move-name-requires c κs =
-    let pre = c .before .before .before .before .before .before .pre in (pre .0, (pre .1 .0 .name, (pre .1 .0 .target, (pre .1 .1, pre .1 .0 .short))))
+move-edit-requires : tie.Need-move-edit-requires
+move-edit-requires c κs =
+    let start = c .before .before .before .before .before in
+    (start .pre .0, (rw (c .before .enum-told .given .1) at (start .pre .1 .0), start .pre .1 .1))
 
-only-ctime-requires : tie.Need-only-ctime-requires
-only-ctime-requires c κs = search needs
+enum-told-2 : tie.Need-enum-told-2
+enum-told-2 c = search needs
 
-set-attributes-requires : tie.Need-set-attributes-requires
-set-attributes-requires c κs = search needs
+enum-known-onto : tie.Need-enum-known-onto
+enum-known-onto c = search needs
 
-touch-directory-requires : tie.Need-touch-directory-requires
-touch-directory-requires c κs = search needs
+remove-object-requires : tie.Need-remove-object-requires
+remove-object-requires c κs =
+    let start = c .before .before .before .before .before .before in
+    let k = rw (c .before .before .onto .given .1) at (start .pre .1 .0) in
+    (start .pre .0, (k .removable .name, k .removable .used))
 
-touch-directory-requires-2 : tie.Need-touch-directory-requires-2
-touch-directory-requires-2 c κs =
-    let after-move-name = c .before .before .before .before .before .before .before .before .before .before .before .before in
-    let start = after-move-name .before .before .before .before .before .before .before in
-    let w = start .pre .0 .sound .shaped in
-    let l = start .pre .1 .0 .target in
-    omega arith
+move-edit-requires-2 : tie.Need-move-edit-requires-2
+move-edit-requires-2 c κs =
+    let start = c .before .before .before .before .before .before .before .before .before .before in
+    let k = rw (c .before .before .before .before .before .before .onto .given .1) at (start .pre .1 .0) in
+    rw (c .before .before .before .remove-object .ensures) (k .good, (k .movable, start .pre .1 .1))
 
 same-length : tie.Need-same-length
 same-length c = search needs
 
 returns : tie.Need-returns
-unfolding renameEdit
-returns c =
-    let after-touch-directory = c .before .before .before .before .before .before in
-    let after-set-attributes = after-touch-directory .before .before .before .before in
-    let after-only-ctime = after-set-attributes .before in
-    let after-move-name = after-only-ctime .before .before .before .before in
-    let after-name-child = after-move-name .before .before in
-    rw (
-      c .before .before .touch-directory2 .ensures,
-      after-touch-directory .touch-directory .ensures,
-      after-set-attributes .set-attributes .ensures,
-      after-only-ctime .only-ctime .ensures,
-      after-move-name .move-name .ensures,
-      after-name-child .name-child .ensures,
-    )
+returns c = rw (c .before .before .before .before .enum-told .given .1) (c .before .before .move-edit .ensures)
+
+returns-2 : tie.Need-returns-2
+returns-2 c = rw (c .enum-told2 .given .1)
+
+same-length-2 : tie.Need-same-length-2
+same-length-2 c = search needs
+
+returns-3 : tie.Need-returns-3
+returns-3 c = rw (c .before .before .before .before .before .before .before .before .before .onto .given .1, c .before .before .move-edit2 .ensures, c .before .before .before .before .before .before .remove-object .ensures)
 
 pub rename-edit-spec : {M : Type 1} → statement M
 rename-edit-spec =
     tie.close
     (tie.spec
-    name-child-requires
-    move-name-requires
-    only-ctime-requires
-    set-attributes-requires
-    touch-directory-requires
-    touch-directory-requires-2
+    enum-told
+    move-edit-requires
+    enum-told-2
+    enum-known-onto
+    remove-object-requires
+    move-edit-requires-2
     same-length
-    returns)
+    returns
+    returns-2
+    same-length-2
+    returns-3)

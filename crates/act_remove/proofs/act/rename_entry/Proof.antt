@@ -6,6 +6,7 @@ use Rattle.spec.specs.Procedures.Removal.{renameEdit}
 use Rattle.spec.specs.Results.{renamed}
 use Rattle.kinds.specs.declared.object.Change.{Change}
 use Rattle.kinds.specs.Numbers.{OK}
+use Rattle.check_rename.specs.Meaning.{ontoOf}
 use Rattle.act_remove.proofs.Acts.{still-showable, change-made}
 use Rattle.act_remove.proofs.act.rename_entry.Statement.{statement}
 use Rattle.act_remove.proofs.act.rename_entry.Tie as tie
@@ -29,14 +30,16 @@ returns c =
     let e = c .before .before .rename-edit .ensures in
     record {
       result = ap₂ (λ (x y : Change). renamed OK (some x) (some y))
-          (change-made (a .store .now) (renameEdit (a .store .now) (a .context) (a .d .0) (a .e .0) (a .n .0) (cut (a .call .now) (a .name)))
+          (change-made (a .store .now) (renameEdit (a .store .now) (a .context) (a .d .0) (a .e .0) (a .n .0) (ontoOf (a .onto))
+          (cut (a .call .now) (a .name)))
           (c .before .before .rename-edit .last .0) (a .d) _ (c .before .before .before .before .before .before .before2 .ensures) e)
-          (change-made (a .store .now) (renameEdit (a .store .now) (a .context) (a .d .0) (a .e .0) (a .n .0) (cut (a .call .now) (a .name)))
+          (change-made (a .store .now) (renameEdit (a .store .now) (a .context) (a .d .0) (a .e .0) (a .n .0) (ontoOf (a .onto))
+          (cut (a .call .now) (a .name)))
           (c .before .before .rename-edit .last .0) (a .e) _ (c .before .before .before .before .before3 .ensures) e);
       store = e;
       writable = (
-        still-showable (a .store .now) _ _ (a .d .0) (st .pre .1 .1 .1) (st .pre .1 .0 .directory) e,
-        still-showable (a .store .now) _ _ (a .e .0) (st .pre .1 .1 .1) (st .pre .1 .0 .target) e,
+        still-showable (a .store .now) _ _ (a .d .0) (st .pre .1 .1 .1 .1 .1) (st .pre .1 .0) e,
+        still-showable (a .store .now) _ _ (a .e .0) (st .pre .1 .1 .1 .1 .1) (st .pre .1 .1 .0) e,
       );
     }
 
