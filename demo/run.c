@@ -4,8 +4,8 @@
  * difference.
  *
  * Two bag tags are files of the root: 0123456789 and 123456789. The second is made EXCLUSIVE: sent again, its CREATE is answered in the same way,
- * and another host's is refused. The first is removed; its handle is stale then, and the second is as it was. At last SETATTR gives the second a
- * mode; from then on its CREATE is refused too.
+ * and another host's is refused. The first is removed; its handle is stale then, and the second is as it was. SETATTR gives the second a mode; from
+ * then on its CREATE is refused too. At last the second is replaced: a new file is made under the first name and renamed onto the second one.
  */
 #include "same.h"
 
@@ -21,7 +21,7 @@
 /* The head of a reply: xid, reply, accepted, no verifier, success. */
 #define REPLY(xid) W(xid), W(1), W(0), W(0), W(0), W(0)
 
-enum { GETATTR = 1, SETATTR = 2, READ = 6, WRITE = 7, CREATE = 8, REMOVE = 12, READDIR = 16 };
+enum { GETATTR = 1, SETATTR = 2, READ = 6, WRITE = 7, CREATE = 8, REMOVE = 12, RENAME = 14, READDIR = 16 };
 enum { OK = 0, EXIST = 17, STALE = 70 };
 
 /* A handle: its length, then the store's stamp, object and generation. */
@@ -30,6 +30,7 @@ enum { OK = 0, EXIST = 17, STALE = 70 };
 #define ROOT HANDLE(0, 0)
 #define FIRST HANDLE(1, 0)
 #define SECOND HANDLE(2, 0)
+#define THIRD HANDLE(1, 1)
 
 /* The names and contents of the two files, as XDR opaque data. */
 #define FIRST_NAME W(10), '0', '1', '2', '3', '4', '5', '6', '7', '8', '9', 0, 0
@@ -48,6 +49,7 @@ enum { OK = 0, EXIST = 17, STALE = 70 };
 #define ROOT_ATTRIBUTES(changed) ATTRIBUTES(2, 493, 2, 512, 0, 1, 1000, changed, changed)
 #define FIRST_ATTRIBUTES(size, used, changed) ATTRIBUTES(1, 420, 1, size, used, 2, 1001, changed, changed)
 #define SECOND_ATTRIBUTES(size, used, changed) ATTRIBUTES(1, 0, 1, size, used, 3, 1002, changed, changed)
+#define THIRD_ATTRIBUTES(changed) ATTRIBUTES(1, 420, 1, 0, 0, 2, 1010, 1010, changed)
 
 /* Attributes before a change (wcc_attr), present. */
 #define BEFORE(size, changed) W(1), HYPER(size), TIME(changed), TIME(changed)
@@ -71,18 +73,19 @@ enum { OBJECTS = 3, NAMES = 2, BLOCKS = 2, LENGTH = NFS3_STORE_LENGTH(OBJECTS, N
 enum { RECORD = 92, VERIFIER_AT = 80, NAME_0 = 16 + RECORD * OBJECTS, NAME_1 = NAME_0 + 44, BLOCK_0 = NAME_1 + 48, BLOCK_1 = BLOCK_0 + 512 };
 #define NO_BLOCKS_4 255, 255, 255, 255, 255, 255, 255, 255
 
-/* The store at the end: no verifier is kept; object 1, its name and its block are free and zero, but for the generation, which is raised by one. */
+/*
+ * The store at the end: the new file is object 1 of generation 1, in the name record that it was made with; object 2, its name and both blocks are
+ * free and zero, but for the generation, which is raised by one.
+ */
 static const uint8_t last[LENGTH] = {
     W(1), W(STAMP),
     W(OBJECTS),
-    W(2), W(0), W(493), W(0), W(0), W(0), TIME(1000), TIME(1005), TIME(1005), NO_BLOCKS_4, NO_BLOCKS_4, NO_BLOCKS_4, NO_BLOCKS_4,
-    [12 + RECORD * 1] = W(0), W(1),
-    [12 + RECORD * 2] = W(1), W(0), W(420), W(0), W(0), W(10), TIME(1002), TIME(1004), TIME(1008),
-    0, 1, 255, 255, 255, 255, 255, 255, NO_BLOCKS_4, NO_BLOCKS_4, NO_BLOCKS_4,
+    W(2), W(0), W(493), W(0), W(0), W(0), TIME(1000), TIME(1011), TIME(1011), NO_BLOCKS_4, NO_BLOCKS_4, NO_BLOCKS_4, NO_BLOCKS_4,
+    [12 + RECORD * 1] = W(1), W(1), W(420), W(0), W(0), W(0), TIME(1010), TIME(1010), TIME(1011), NO_BLOCKS_4, NO_BLOCKS_4, NO_BLOCKS_4, NO_BLOCKS_4,
+    [12 + RECORD * 2] = W(0), W(1),
     [NAME_0 - 4] = W(NAMES),
-    [NAME_1] = W(0), W(2), SECOND_NAME,
+    [NAME_0] = W(0), W(1), SECOND_NAME,
     [BLOCK_0 - 4] = W(BLOCKS),
-    [BLOCK_1] = 'T', 'R', 'D', ' ', 'g', 'a', 't', 'e', ' ', '7',
 };
 
 static uint8_t store[LENGTH], reply[NFS3_REPLY_SPACE];
@@ -112,6 +115,7 @@ static const char *procedure_name(uint32_t procedure) {
     case WRITE: return "WRITE";
     case CREATE: return "CREATE";
     case REMOVE: return "REMOVE";
+    case RENAME: return "RENAME";
     case READDIR: return "READDIR";
     default: return "another";
     }
@@ -157,6 +161,8 @@ static void tell_result(uint32_t procedure, size_t len) {
         printf("mode %o", (unsigned)word(reply, 64));
     if (procedure == REMOVE && len == 144)
         printf("the name is free again");
+    if (procedure == RENAME && len == 260)
+        printf("now 123456789");
     if (procedure == READDIR)
         tell_entries(len);
 }
@@ -282,6 +288,28 @@ static void settle(void) {
     SEND("123456789", 1009, create_again, not_created);
 }
 
+/* A file under the first name takes the place of the second; then it is renamed onto its own name, which changes nothing. */
+static void replace(void) {
+    static const uint8_t create_third[] = { CALL(19, CREATE), ROOT, FIRST_NAME, GUARDED_420 };
+    static const uint8_t created_third[] = { REPLY(19), W(OK), W(1), THIRD, W(1), THIRD_ATTRIBUTES(1010),
+                                             BEFORE(512, 1005), W(1), ROOT_ATTRIBUTES(1010) };
+    static const uint8_t rename_third[] = { CALL(20, RENAME), ROOT, FIRST_NAME, ROOT, SECOND_NAME };
+    static const uint8_t renamed_third[] = { REPLY(20), W(OK), BEFORE(512, 1010), W(1), ROOT_ATTRIBUTES(1011),
+                                             BEFORE(512, 1010), W(1), ROOT_ATTRIBUTES(1011) };
+    static const uint8_t getattr_second[] = { CALL(21, GETATTR), SECOND };
+    static const uint8_t getattr_stale[] = { REPLY(21), W(STALE) };
+    static const uint8_t getattr_third[] = { CALL(22, GETATTR), THIRD };
+    static const uint8_t attributes_third[] = { REPLY(22), W(OK), THIRD_ATTRIBUTES(1011) };
+    static const uint8_t rename_itself[] = { CALL(23, RENAME), ROOT, SECOND_NAME, ROOT, SECOND_NAME };
+    static const uint8_t not_renamed[] = { REPLY(23), W(OK), BEFORE(512, 1011), W(1), ROOT_ATTRIBUTES(1011),
+                                           BEFORE(512, 1011), W(1), ROOT_ATTRIBUTES(1011) };
+    SEND("0123456789", 1010, create_third, created_third);
+    SEND("0123456789", 1011, rename_third, renamed_third);
+    SEND("123456789", 1012, getattr_second, getattr_stale);
+    SEND("123456789", 1012, getattr_third, attributes_third);
+    SEND("123456789", 1012, rename_itself, not_renamed);
+}
+
 int main(int argc, char **argv) {
     verbose = argc == 2 && strcmp(argv[1], "-v") == 0;
     if (argc > 2 || (argc == 2 && !verbose)) {
@@ -296,6 +324,7 @@ int main(int argc, char **argv) {
     take_away();
     look_again();
     settle();
+    replace();
     printf("check    the store, and each of its %d bytes\n", LENGTH);
     same_answer("the check", nfs3_check(store, LENGTH), NFS3_DONE, 0);
     same_bytes("the store", store, last, LENGTH);

@@ -71,7 +71,8 @@
  *    verifier that the host sends with it and the store keeps with the file. With the same verifier it is answered OK with the same handle,
  *    after a restart too, until a SETATTR of the file is answered OK. Keep its reply as well: hosts send that SETATTR at once.
  *    OTHERWISE: a host whose reply was lost is told EXIST for the lock file that it made itself, or NOENT for the file that it removed itself; a
- *    late WRITE undoes a newer one; and a REMOVE that was answered NOENT, sent again, removes a file that was made since.
+ *    late WRITE undoes a newer one; a REMOVE that was answered NOENT, sent again, removes a file that was made since; and a RENAME that was
+ *    answered OK, sent again, removes the file that it has put in its place, if a new one has the first name by then, and puts that there.
  *
  * 6. Calling. Lend the whole store and a reply space of NFS3_REPLY_SPACE bytes. Seconds are those since 1970, as 32 bits without a sign; where
  *    the clock is before 1970 or after 2106, stop. Nanoseconds are below NFS3_NANOSECONDS. FSINFO tells hosts 1 nanosecond, so the time is finer
@@ -90,7 +91,7 @@
  *    How to see that a call changed nothing: compare the store's bytes with a copy of those saved last. That is sure, and takes microseconds.
  *    Apart from that, no byte of the store is changed with an answer other than NFS3_DONE; with a reply that is denied or not SUCCESS; with an
  *    NFS status other than OK (the word at byte 24 of a reply whose bytes 4 to 23 are the words 1 0 0 0 0); and by procedures other than the
- *    seven of duty 5. These may leave the store as it was even with OK: WRITE of 0 bytes does.
+ *    seven of duty 5. These may leave the store as it was even with OK: WRITE of 0 bytes does, and RENAME of an object onto its own name.
  *
  * 8. Sending. The first `length` bytes of the reply space are the whole RPC message. With an answer other than NFS3_DONE there is no reply; enum
  *    nfs3_number says what to do. What is reported there never makes the daemon wait, and is limited to a few lines a second. Where standard
@@ -140,7 +141,8 @@ extern "C" {
 
 /*
  * The program and version that are served (RFC 1813). Calls to others are answered PROG_UNAVAIL and PROG_MISMATCH. Of its procedures READLINK,
- * SYMLINK, MKNOD, LINK and READDIRPLUS are not served: they are answered NOTSUPP.
+ * SYMLINK, MKNOD, LINK and READDIRPLUS are not served: they are answered NOTSUPP. RENAME replaces a file by a file, and an empty directory by a
+ * directory, in one step; the handle of what was replaced is answered STALE from then on.
  */
 #define NFS3_PROGRAM 100003
 #define NFS3_VERSION 3

@@ -3,7 +3,8 @@
  *
  *     rows small|full OPERATION TIMES
  *
- * EXCLUSIVE is a CREATE that comes again: the last file of the store is made by it. Ends with status 1 where a call is not answered OK.
+ * EXCLUSIVE is a CREATE that comes again: the last file of the store is made by it. RENAME gives the last file a new name, and the old one again: two
+ * calls. Ends with status 1 where a call is not answered OK.
  */
 #include "nfs3.h"
 
@@ -11,7 +12,7 @@
 #include <stdlib.h>
 #include <string.h>
 
-enum { GETATTR = 1, SETATTR = 2, LOOKUP = 3, READ = 6, WRITE = 7, CREATE = 8, REMOVE = 12, READDIR = 16, FSSTAT = 18, STAMP = 7 };
+enum { GETATTR = 1, SETATTR = 2, LOOKUP = 3, READ = 6, WRITE = 7, CREATE = 8, REMOVE = 12, RENAME = 14, READDIR = 16, FSSTAT = 18, STAMP = 7 };
 
 static uint8_t store[NFS3_STORE_MOST], old[NFS3_OLD_STORE_MOST], made[NFS3_STORE_MOST], reply[NFS3_REPLY_SPACE], call[NFS3_CALL_MOST];
 static size_t store_len, old_len, len;
@@ -66,6 +67,14 @@ static void remove_name(const char *name) {
     end();
 }
 
+static void rename_to(const char *name, const char *title) {
+    begin(RENAME, 0);
+    opaque(name, strlen(name));
+    words((uint32_t[]){ NFS3_HANDLE_LENGTH, STAMP, 0, 0 }, 4);
+    opaque(title, strlen(title));
+    end();
+}
+
 static void write_bytes(uint32_t object, uint32_t offset, uint32_t count) {
     static uint8_t bytes[NFS3_DATA_MOST];
     begin(WRITE, object);
@@ -93,6 +102,9 @@ static void turn(const char *operation, int full, const char *last) {
         create(full ? last : "another");
         if (!full)
             remove_name("another");
+    } else if (strcmp(operation, "RENAME") == 0) {
+        rename_to(last, "another");
+        rename_to("another", last);
     } else if (strcmp(operation, "WRITE") == 0)
         write_bytes(1, 0, 512);
     else {
