@@ -32,6 +32,7 @@ pub mod RecordRange
 pub mod Records
 pub mod RecordsOnly
 pub mod RemoveObject
+pub mod Replaced
 pub mod Resent
 pub mod Resize
 pub mod SameReads

@@ -574,6 +574,12 @@ mod measuring {
         let back = rename(&inner, b"moved", &root, b"moved").call(77);
         let (peer, other) = call_times(&store, &[there, back]);
         line("deep", "RENAME and back", peer, other);
+        // The innermost is empty; the one that is moved takes its place.
+        let outer = handle(STAMP, full.objects as u32 - 2, 0);
+        let over = rename(&root, b"moved", &outer, b"inner").call(77);
+        let anew = mkdir(&root, b"moved", Attributes::default()).call(77);
+        let (peer, other) = call_times(&store, &[over, anew]);
+        line("deep", "RENAME over, MKDIR", peer, other);
         println!();
         println!("How the check grows; half of the names are used, every object is live.");
         println!(
