@@ -32,6 +32,7 @@ pub enum Onto {
     Replacing(NameNumber),
 }
 
+// The same, or the status.
 pub enum OntoChecked {
     At(Onto),
     Refused(Status),

@@ -4,7 +4,6 @@ use mathlib.Core.Bool.{true}
 use mathlib.Core.Option.{some}
 use mathlib.Core.List.{List}
 use Prim.Native.Nat.{ℕ}
-use lib.Dec.{lit<}
 use Rattle.kinds.specs.declared.object.Attributes.{Attributes}
 use Rattle.kinds.specs.declared.object.Change.{Change}
 use Rattle.kinds.specs.declared.call.NameIn.{NameIn}
@@ -18,7 +17,7 @@ use Rattle.spec.specs.Procedures.{cut, act}
 use Rattle.spec.specs.Procedures.Names.{Target, new, existing, checkCreate, createEdit, create}
 use Rattle.spec.specs.Results.{created, Done, unchanged, failChanging, settle}
 use Rattle.laws.proofs.Count.{true-false}
-use Rattle.laws.proofs.RecordRange.{below-part}
+use Rattle.laws.proofs.RecordRange.{cut-below}
 use Rattle.laws.proofs.Resent.{beforeAsAfter, Resent, resent}
 use Rattle.laws.proofs.Valid.{passes-valid}
 use Rattle.history.specs.Book.{Line, Ledger, asked, madeHandle, isOk, noted, note}
@@ -92,7 +91,7 @@ module _ (σ p q r : ℕ) (s : Store) (L : Ledger) (I : Inv σ p q r s L) where
     law =
         let (handle, file, directory, u, e) = was-created in
         let store : outcomeOf s x .store ≡ u = acted s x a k (passes-valid s (I .valid)) .store ∙ ap (λ (d : Done). d .store) e in
-        let below = below-part 256 (x .call) (place .name .start) (place .name .length) (lit< tt) (l .bytes) in (
+        let below = cut-below (x .call) (place .name) (l .bytes) in (
           handle,
           file,
           directory,

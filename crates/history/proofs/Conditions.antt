@@ -1,7 +1,7 @@
 -- The conditions of room, by the book and by the checks of the store: a handle that is reached has a line, and a name is found where a line stands
 -- under it. Assumes nothing.
 use mathlib.Core.Path.{_≡_, refl, sym, ap, _∙_, subst}
-use mathlib.Core.Bool.{Bool, true, false, _&&_, _||_}
+use mathlib.Core.Bool.{Bool, true, false, _&&_, _||_, cond}
 use mathlib.Core.Option.{Option, some, none}
 use mathlib.Core.Logic.{inl, inr, ⊎-elim}
 use mathlib.Core.List.{List, [], _∷_, List·Memᴰ, List·Memᴰ·cases-cons, List·Memᴰ·not-nil}
@@ -28,16 +28,16 @@ use Rattle.spec.specs.Room.{isDirectory, sizeOf, findName}
 use Rattle.laws.proofs.Count.{true-false}
 use Rattle.laws.proofs.Passed.{Reached, reach-passed, directory-passed, regular-passed}
 use Rattle.laws.proofs.Range.{Below}
-use Rattle.laws.proofs.RecordRange.{below-part}
+use Rattle.laws.proofs.RecordRange.{cut-below}
 use Rattle.laws.proofs.Valid.{true-live, regular-true, true-regular, true-directory}
-use Rattle.history.specs.Book.{under, Line, Book, Ledger, isAt, someAt, isOk}
+use Rattle.history.specs.Book.{under, Line, Book, Ledger, isAt, someAt, handleUnder, isOk}
 use Rattle.history.specs.Run.{Request, Lent, outcomeOf, replyTo, State}
 use Rattle.history.specs.Statement.{In, HasLine, HasName, StandApart, Asks, objectIn, Room, growth, newObject}
 use Rattle.history.specs.Statement.{directoryIn, nameAsked, MayMake, AsksRoom}
 use Rattle.history.proofs.Asking.{AsksStore}
 use Rattle.history.proofs.Sum.{or-right}
 use Rattle.history.proofs.View.{entriesAt}
-use Rattle.history.proofs.Agree.{handleIn, at-yes, none-at, some-at}
+use Rattle.history.proofs.Agree.{handleIn, at-yes, at-no, none-at, some-at}
 use Rattle.history.proofs.Seen.{view, kind-at, child-at, live-in}
 use Rattle.history.proofs.Inv.{Inv, tree}
 use Rattle.history.proofs.Checks.{handle-reached, found-name, no-name}
@@ -85,6 +85,17 @@ met [] d text l m e = absurd (List·Memᴰ·not-nil m)
 met (x ∷ b) d text l m e = ⊎-elim
     (λ (u : l ≡ x). ap (λ (t : Bool). t || someAt d text b) (at-yes d text x (ap (λ (y : Line). y .standing) (sym u) ∙ e)))
     (λ (u : List·Memᴰ l b). ap (λ (t : Bool). isAt d text x || t) (met b d text l u e) ∙ or-right (isAt d text x) true refl)
+    (List·Memᴰ·cases-cons m)
+
+-- and its handle is the one that the book gives there
+pub line-handle : (b : Book) → StandApart b → (d text : List ℕ) (l : Line) → In l b → l .standing ≡ under d text → handleUnder d text b ≡ some (l .handle)
+unfolding handleUnder
+line-handle [] h d text l m e = absurd (List·Memᴰ·not-nil m)
+line-handle (x ∷ b) h d text l m e = ⊎-elim
+    (λ (u : l ≡ x). ap (λ (t : Bool). cond t (some (x .handle)) (handleUnder d text b)) (at-yes d text x (ap (λ (y : Line). y .standing) (sym u) ∙ e))
+    ∙ ap (λ (y : Line). some (y .handle)) (sym u))
+    (λ (u : List·Memᴰ l b). ap (λ (t : Bool). cond t (some (x .handle)) (handleUnder d text b))
+    (at-no d text x (λ z. h .0 l u (e ∙ sym z))) ∙ line-handle b (h .1) d text l u e)
     (List·Memᴰ·cases-cons m)
 
 -- record o is a live object with this handle and type, and the handle reaches it
@@ -169,7 +180,7 @@ module _ (σ P Q R : ℕ) (s : Store) (L : Ledger) (I : Inv σ P Q R s L) where
     -- by the checks of the store, so by the book
     module _ (lent : Lent x) where
       part-below : (h : Part) → Below 256 (cut (x .call) h)
-      part-below h = below-part 256 (x .call) _ _ (lit< tt) (lent .bytes)
+      part-below h = cut-below (x .call) h (lent .bytes)
 
       may-make : (p : NameIn) (d : ℕ) (invalid : Bool) → Reached s (directoryIn x p) d × (objectAt s d .kind ≡ 2)
           → checkNew (nameAsked x p) invalid ≡ passed tt → MayMake (L .book) x p invalid

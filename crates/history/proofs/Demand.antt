@@ -35,6 +35,7 @@ use Rattle.history.proofs.Nospc.{blocks-left, names-left, objects-left,
 use Rattle.history.proofs.Only.{only-room}
 use Rattle.history.proofs.Conditions.{by-book, by-store, line-regular, line-made}
 use Rattle.history.proofs.Again.{found-again, sent-twice}
+use Rattle.history.proofs.Onto.{onto-itself, over-removed}
 
 -- the statement holds of every state that the invariant holds of
 pub kept : (σ p q r : ℕ) (w : State) → Inv σ p q r (w .store) (w .ledger) → Kept σ p q r w
@@ -112,6 +113,10 @@ kept σ p q r w I =
       sentTwice = λ x y l m e a verifier k j t.
           let (ok, same, store, ledger) = sent-twice σ p q r s L I x y l m e a verifier k j t in
           (ok, same, λ i. record { store = store i; ledger = ledger i });
+      ontoItself = λ x l a b h k m n.
+          let (store, ledger) = onto-itself σ p q r s L I x l a b k h m n in
+          λ i. record { store = store i; ledger = ledger i };
+      replaced = λ x l a b h g k m n two t. over-removed σ p q r s L I x l a b k h g m n two t;
     }
 
 -- what a successful format was asked for, and what it made

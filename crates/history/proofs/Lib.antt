@@ -45,6 +45,7 @@ pub mod Nospc
 pub mod Only
 pub mod Conditions
 pub mod Again
+pub mod Onto
 pub mod Demand
 -- The book over bytes, by computation.
 pub mod Examples

@@ -36,7 +36,7 @@ use Rattle.history.proofs.Tree.{single, path-short, live-bound}
 use Rattle.history.proofs.Change.{path-same}
 use Rattle.history.proofs.Walk.{parentIn, outside, outside-file}
 use Rattle.history.proofs.Handles.{same-object}
-use Rattle.history.proofs.Agree.{handleIn, none-at, handle-at}
+use Rattle.history.proofs.Agree.{handleIn, none-at, handle-at, handle-none}
 use Rattle.history.proofs.Seen.{view, kind-at, child-at, above-same, used-in}
 use Rattle.history.proofs.Inv.{Inv, Owes, keeps-refl, keeps-trans, owes-trans, tree, touch-inv, removed-of, remove-inv, move-keeps}
 use Rattle.history.proofs.Checks.{found-name, no-name}
@@ -124,15 +124,18 @@ module _ (σ p q r : ℕ) (s : Store) (L : Ledger) (I : Inv σ p q r s L) (c : C
     second-line : (m : ℕ) → At (view s) m e title → handleUnder g title (L .book) ≡ some (handleIn σ (view s) (nameAt s m .child))
     second-line m a = ap (λ (x : List ℕ). handleUnder x title (L .book)) (sym to-handle) ∙ child-handle m e title to-directory a
 
-    -- the new name is not there
+    -- the new name is not there, so it has no line
+    no-line : findName s e title ≡ none → someAt g title (L .book) ≡ false
+    no-line f =
+        ap (λ (x : List ℕ). someAt x title (L .book)) (sym to-handle)
+        ∙ none-at p q σ (view s) (tree σ p q r s L I) (L .book) (I .agrees) e title to-directory
+        (ap (λ (x : ℕ). entriesAt x (view s) e title) (sym (I .nams)) ∙ no-name s (I .valid .good-names) e title f)
+
     new-owes : findName s e title ≡ none → Owes σ p q r s (moveEdit s c d e n title) (replace h text g title L)
     new-owes f =
-        let gap = no-name s (I .valid .good-names) e title f in
-        let free = ap (λ (x : List ℕ). someAt x title (L .book)) (sym to-handle)
-        ∙ none-at p q σ (view s) (tree σ p q r s L I) (L .book) (I .agrees) e title to-directory
-        (ap (λ (x : ℕ). entriesAt x (view s) e title) (sym (I .nams)) ∙ gap) in
-        subst (Owes σ p q r s (moveEdit s c d e n title)) (sym (replace-new h text g title L free))
-        (moved-owes σ p q r s L I c clock h text g title d e n at from-directory to-directory from-handle to-handle (w .target-good) tb gap up)
+        subst (Owes σ p q r s (moveEdit s c d e n title)) (sym (replace-new h text g title L (no-line f)))
+        (moved-owes σ p q r s L I c clock h text g title d e n at from-directory to-directory from-handle to-handle (w .target-good) tb
+        (no-name s (I .valid .good-names) e title f) up)
 
     -- the new name is one of the same object's
     same-owes : (m : ℕ) → findName s e title ≡ some m → nameAt s m .child ≡ nameAt s n .child → Owes σ p q r s s (replace h text g title L)
@@ -143,9 +146,19 @@ module _ (σ p q r : ℕ) (s : Store) (L : Ledger) (I : Inv σ p q r s L) (c : C
         (second-line m a ∙ ap (λ (x : ℕ). some (handleIn σ (view s) x)) is)))
         (keeps-refl σ p q r s L I .owes)
 
-    -- the object of name record m is removed, and the record n moved to its name
+    -- two objects have two handles
+    two-handles : (m : ℕ) → ReplacePassed s (nameAt s n .child) e title m
+        → handleIn σ (view s) (nameAt s n .child) ≢ handleIn σ (view s) (nameAt s m .child)
+    two-handles m x z =
+        let a = found-name s (I .valid .good-names) e title m (x .found) .1 in
+        let small : (i : ℕ) → i < objects s → i < 4294967296 = λ i l. omega (arith, tree σ p q r s L I .flat .few, I .objs) in
+        x .other (sym (same-object σ (nameAt s n .child) (view s .gen (nameAt s n .child)) (nameAt s m .child) (view s .gen (nameAt s m .child))
+        (small (nameAt s n .child) (child-in σ p q r s L I c clock d n text at)) (small (nameAt s m .child) (child-in σ p q r s L I c clock e m title a)) z))
+
+    -- the object of name record m is removed, with its generation, and the record n moved to its name
     over-owes : (m : ℕ) → ReplacePassed s (nameAt s n .child) e title m
         → Owes σ p q r s (moveEdit (removeObject s m) c d e n title) (replace h text g title L)
+        × (view s .gen (nameAt s m .child) < view (moveEdit (removeObject s m) c d e n title) .gen (nameAt s m .child))
     unfolding strike
     over-owes m x =
         let T = tree σ p q r s L I in
@@ -184,14 +197,12 @@ module _ (σ p q r : ℕ) (s : Store) (L : Ledger) (I : Inv σ p q r s L) (c : C
         let second = moved-owes σ p q r u M J c clock h text g title d e n still (od .0 ∙ from-directory) (oe .0 ∙ to-directory)
         (ap (handleBytes σ d) (od .1) ∙ from-handle) (ap (handleBytes σ e) (oe .1) ∙ to-handle) (w .target-good) tb gap up-still in
         let struck : M ≡ strike g title L =
-        λ i. record { book = strikeLines ((ap (handleIn σ (view s)) (a .1) ∙ to-handle) i) (a .2 i) (L .book); given = L .given } in
-        let small : (i : ℕ) → i < objects s → i < 4294967296 = λ i l. omega (arith, T .flat .few, I .objs) in
-        let two : handleIn σ (view s) (nameAt s n .child) ≢ handleIn σ (view s) gone =
-        λ z. x .other (sym (same-object σ (nameAt s n .child) (view s .gen (nameAt s n .child)) gone (view s .gen gone)
-        (small (nameAt s n .child) (child-in σ p q r s L I c clock d n text at)) (small gone gone-in) z)) in
-        subst (Owes σ p q r s (moveEdit u c d e n title))
-        (ap (move h text g title) struck ∙ sym (replace-over h text g title L _ _ first-line (second-line m a) two))
-        (owes-trans σ p q r s u (moveEdit u c d e n title) M (move h text g title M) first second)
+        λ i. record { book = strikeLines ((ap (handleIn σ (view s)) (a .1) ∙ to-handle) i) (a .2 i) (L .book); given = L .given } in (
+          subst (Owes σ p q r s (moveEdit u c d e n title))
+              (ap (move h text g title) struck ∙ sym (replace-over h text g title L _ _ first-line (second-line m a) (two-handles m x)))
+              (owes-trans σ p q r s u (moveEdit u c d e n title) M (move h text g title M) first second),
+          omega (arith, away .obj .gen, second .grew .older gone),
+        )
 
   rename-facts : (h text g title : List ℕ) → Below 256 h → Below 256 g → Below 256 title → (d e n : ℕ) (t : Onto) → RenamePassed s h text g title d e n t
       → Owes σ p q r s (renameEdit s c d e n t title) (replace h text g title L)
@@ -199,7 +210,48 @@ module _ (σ p q r : ℕ) (s : Store) (L : Ledger) (I : Inv σ p q r s L) (c : C
   rename-facts h text g title hb gb tb d e n sameObject w =
       let (m, f, is) = w .target in
       same-owes h text g title hb gb tb d e n sameObject w m f is
-  rename-facts h text g title hb gb tb d e n (replacing m) w = over-owes h text g title hb gb tb d e n (replacing m) w m (w .target)
+  rename-facts h text g title hb gb tb d e n (replacing m) w = over-owes h text g title hb gb tb d e n (replacing m) w m (w .target) .0
+
+  -- ---- by the handles of the two lines
+  module _ (h text g title : List ℕ) (hb : Below 256 h) (gb : Below 256 g) (tb : Below 256 title) (d e n : ℕ) (j k : List ℕ)
+      (first : handleUnder h text (L .book) ≡ some j) (second : handleUnder g title (L .book) ≡ some k) where
+    has-line : (t : Onto) → RenamePassed s h text g title d e n t → findName s e title ≡ none → ⊥
+    has-line t w f =
+        let z : none ≡ some k = sym (handle-none g title (L .book) (no-line h text g title hb gb tb d e n t w f)) ∙ second in
+        let y : _≡_ {A = ℕ} 0 1 = cc in
+        omega arith
+
+    first-handle : (t : Onto) → RenamePassed s h text g title d e n t → j ≡ handleIn σ (view s) (nameAt s n .child)
+    first-handle t w = let z = sym first ∙ first-line h text g title hb gb tb d e n t w in cc
+
+    second-handle : (t : Onto) → RenamePassed s h text g title d e n t → (m : ℕ) → findName s e title ≡ some m
+        → k ≡ handleIn σ (view s) (nameAt s m .child)
+    second-handle t w m f =
+        let z = sym second ∙ second-line h text g title hb gb tb d e n t w m (found-name s (I .valid .good-names) e title m f .1) in
+        cc
+
+    -- one handle: the store stays
+    pub same-kept : j ≡ k → (t : Onto) → RenamePassed s h text g title d e n t → renameEdit s c d e n t title ≡ s
+    same-kept i newName w = absurd (has-line newName w (w .target))
+    same-kept i sameObject w = refl
+    same-kept i (replacing m) w =
+        absurd (two-handles h text g title hb gb tb d e n (replacing m) w m (w .target)
+        (sym (first-handle (replacing m) w) ∙ i ∙ second-handle (replacing m) w m (w .target .found)))
+
+    -- two handles: the generation of the second's object is past it
+    pub over-older : j ≢ k → (t : Onto) → RenamePassed s h text g title d e n t
+        → (o : ℕ) × (o < objects s) × (k ≡ handleIn σ (view s) o) × (view s .gen o < view (renameEdit s c d e n t title) .gen o)
+    over-older i newName w = absurd (has-line newName w (w .target))
+    over-older i sameObject w =
+        let (m, f, is) = w .target in
+        absurd (i (first-handle sameObject w ∙ ap (handleIn σ (view s)) (sym is) ∙ sym (second-handle sameObject w m f)))
+    over-older i (replacing m) w =
+        let a = found-name s (I .valid .good-names) e title m (w .target .found) .1 in (
+          nameAt s m .child,
+          child-in σ p q r s L I c clock e m title a,
+          second-handle (replacing m) w m (w .target .found),
+          over-owes h text g title hb gb tb d e n (replacing m) w m (w .target) .1,
+        )
 
   module _ (call reply : List ℕ) (bytes : Below 256 call) where
     pub rename-owes : (a b : NameIn)

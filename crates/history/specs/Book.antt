@@ -103,8 +103,8 @@ areSame none h = false
 areSame (some g) none = false
 areSame (some g) (some h) = sameBytes g h
 
--- E3: "From and to being the same object is success with nothing changed, .. demand 3's book included."; "A removed target's .. line in the book [is]
--- treated as REMOVE or RMDIR would": the line with the second pair is struck, then the line with the first gets it
+-- E3: "From and to being the same object is success with nothing changed, times and demand 3's book included."; "A removed target's room, handle and
+-- line in the book are treated as REMOVE or RMDIR would treat them.": the line with the second pair is struck, then the line with the first gets it
 unfoldable pub replace : List ℕ → List ℕ → List ℕ → List ℕ → Ledger → Ledger
 replace d text e title L =
     cond (areSame (handleUnder d text (L .book)) (handleUnder e title (L .book))) L (move d text e title (strike e title L))
