@@ -290,7 +290,8 @@ module _ (P Q σ : ℕ) (v : View) (T : Tree P Q v) (b : Book) (A : Agrees σ v 
       go (p ∷ ks) h l =
           let rest = handleUnder (handleIn σ v d) t (map (lineOf σ v) ks ++ (rootLine σ v ∷ [])) in
           by-cases (ℕ-discrete p q)
-          (λ e. ap (λ (x : Bool). cond x (some (handleIn σ v (v .child p))) rest) (at-yes (handleIn σ v d) t (lineOf σ v p) (let x = a .1 in let y = a .2 in cc))
+          (λ e. ap (λ (x : Bool). cond x (some (handleIn σ v (v .child p))) rest)
+          (at-yes (handleIn σ v d) t (lineOf σ v p) (let x = a .1 in let y = a .2 in cc))
           ∙ ap (λ (x : ℕ). some (handleIn σ v (v .child x))) e)
           (λ n. ap (λ (x : Bool). cond x (some (handleIn σ v (v .child p))) rest)
           (at-no (handleIn σ v d) t (lineOf σ v p) (λ x. n (one-entry P Q v (T .flat) d t p q (line-at p (h .0) x) a)))

@@ -58,12 +58,12 @@ avoid-empty v c z b [] i n a = n
 avoid-empty v c z b (q ∷ qs) i n a = (n, avoid-empty v c z b qs (v .dir q) (b q (a .0 .0)) (a .1))
 
 -- a path in v is one in w, where every record that v uses is the same in w; and what it avoids in w it avoids in v
-pub path-same : (v w : View) (c : ℕ) → ((p : ℕ) → UsedIn v p → SameRecord v w p) → (qs : List ℕ) (i : ℕ) → Path v i qs
+pub path-kept : (v w : View) (c : ℕ) → ((p : ℕ) → UsedIn v p → SameRecord v w p) → (qs : List ℕ) (i : ℕ) → Path v i qs
     → Path w i qs × (Avoids w c i qs → Avoids v c i qs)
-path-same v w c s [] i a = (a, λ x. x)
-path-same v w c s (q ∷ qs) i a =
+path-kept v w c s [] i a = (a, λ x. x)
+path-kept v w c s (q ∷ qs) i a =
     let h = s q (a .0 .0) in
-    let r = path-same v w c s qs (v .dir q) (a .1) in (
+    let r = path-kept v w c s qs (v .dir q) (a .1) in (
       ((omega (arith, ap length (h .text)), h .child ∙ a .0 .1), subst (λ (y : ℕ). Path w y qs) (sym (h .dir)) (r .0)),
       (λ x. (x .0, r .1 (subst (λ (y : ℕ). Avoids w c y qs) (h .dir) (x .1)))),
     )

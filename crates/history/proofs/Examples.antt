@@ -73,7 +73,8 @@ pub record Examples : Type 0 where
   pub ontoItself : run both (request (renameCall 0 nameA 0 nameA) ∷ []) .ledger ≡ both .ledger
 
 pub examples : Examples
-unfolding computing someAt add strikeLines strike moveLine moveLines move handleUnder replace asked isStatus isOk noted note replyTo step run someLine linedObjects
+unfolding computing someAt add strikeLines strike moveLine moveLines move handleUnder replace asked isStatus isOk noted note replyTo step run someLine
+    linedObjects
 examples =
     record {
       made = refl;

@@ -7,7 +7,6 @@ use mathlib.Core.List.{List}
 use Prim.Native.Nat.{ℕ, _<_}
 use native.Mathlib.Omega.{arith}
 use Rattle.kinds.specs.declared.call.NameIn.{NameIn}
-use Rattle.kinds.specs.declared.call.Arguments.{Arguments}
 use Rattle.kinds.specs.declared.call.Arguments.the-variants as Call
 use Rattle.spec.specs.Checked.{Checked, refused, passed}
 use Rattle.spec.specs.Image.{Store, objects}
@@ -18,9 +17,9 @@ use Rattle.laws.proofs.Count.{by-bool, true-false}
 use Rattle.laws.proofs.Passed.{rename-passed}
 use Rattle.laws.proofs.RecordRange.{cut-below}
 use Rattle.laws.proofs.Valid.{passes-valid}
-use Rattle.history.specs.Book.{Line, Ledger, handleUnder, isOk, noted, note}
+use Rattle.history.specs.Book.{Ledger, handleUnder, isOk, noted, note}
 use Rattle.history.specs.Run.{Request, Lent, outcomeOf, replyTo}
-use Rattle.history.specs.Statement.{HasLine, HasName, IsRemoved, Asks, directoryIn, nameAsked}
+use Rattle.history.specs.Statement.{HasName, IsRemoved, Asks, directoryIn, nameAsked}
 use Rattle.history.proofs.Handles.{same-object, same-generation}
 use Rattle.history.proofs.Agree.{handleIn}
 use Rattle.history.proofs.Seen.{view}
@@ -44,8 +43,11 @@ module _ (σ p q r : ℕ) (s : Store) (L : Ledger) (I : Inv σ p q r s L) (x : R
   pub onto-itself : (j : List ℕ) → HasName (L .book) (directoryIn x a) j (nameAsked x a) → HasName (L .book) (directoryIn x b) j (nameAsked x b)
       → (outcomeOf s x .store ≡ s) × (note (x .call) (replyTo s x) L ≡ L)
   unfolding act rename note noted
-  onto-itself j m n =
-      (acted s x (Call.Rename a b) k (passes-valid s (I .valid)) .store ∙ go (checkRename s (directoryIn x a) (nameAsked x a) (directoryIn x b) (nameAsked x b)) refl, book)
+  onto-itself j m n = (
+    acted s x (Call.Rename a b) k (passes-valid s (I .valid)) .store
+        ∙ go (checkRename s (directoryIn x a) (nameAsked x a) (directoryIn x b) (nameAsked x b)) refl,
+    book,
+  )
     where
       go : (y : Checked (ℕ × ℕ × ℕ × Onto)) → checkRename s (directoryIn x a) (nameAsked x a) (directoryIn x b) (nameAsked x b) ≡ y
           → settle s (failRenaming s (directoryIn x a) (directoryIn x b)) y

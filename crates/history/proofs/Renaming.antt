@@ -33,7 +33,7 @@ use Rattle.history.specs.Book.{Ledger, handleBytes, someAt, strikeLines,
 use Rattle.history.proofs.Sum.{ind-yes, ind-no}
 use Rattle.history.proofs.View.{LiveIn, UsedIn, At, at?, entriesAt, Path, Avoids, SameRecord, entries-set}
 use Rattle.history.proofs.Tree.{single, path-short, live-bound}
-use Rattle.history.proofs.Change.{path-same}
+use Rattle.history.proofs.Change.{path-kept}
 use Rattle.history.proofs.Walk.{parentIn, outside, outside-file}
 use Rattle.history.proofs.Handles.{same-object}
 use Rattle.history.proofs.Agree.{handleIn, none-at, handle-at, handle-none}
@@ -192,7 +192,7 @@ module _ (σ p q r : ℕ) (s : Store) (L : Ledger) (I : Inv σ p q r s L) (c : C
         record { dir = sym (b .dir); child = sym (b .child); text = sym (b .text) } in
         let child : nameAt u n .child ≡ nameAt s n .child = sym (child-at u n (used-in u n (still .0))) ∙ same .child ∙ child-at s n (used-in s n (at .0)) in
         let up-still : (qs : List ℕ) → Path (view u) e qs → Avoids (view u) (nameAt u n .child) e qs =
-        λ qs k. let (b, f) = path-same (view u) (view s) (nameAt s n .child) back qs e k in
+        λ qs k. let (b, f) = path-kept (view u) (view s) (nameAt s n .child) back qs e k in
         subst (λ (i : ℕ). Avoids (view u) i e qs) (sym child) (f (up qs b)) in
         let second = moved-owes σ p q r u M J c clock h text g title d e n still (od .0 ∙ from-directory) (oe .0 ∙ to-directory)
         (ap (handleBytes σ d) (od .1) ∙ from-handle) (ap (handleBytes σ e) (oe .1) ∙ to-handle) (w .target-good) tb gap up-still in
@@ -284,5 +284,5 @@ module _ (σ p q r : ℕ) (s : Store) (L : Ledger) (I : Inv σ p q r s L) (c : C
         go (passed x) e A =
             subst (Owes σ p q r s (renameEdit s c (x .0) (x .1) (x .2) (x .3) title))
             (sym (note-ok call reply (Call.Rename a b) _ A (renamed-says 0 _ _) L))
-            (rename-facts h text g title (cut-below call (a .directory) bytes) (cut-below call (b .directory) bytes) (cut-below call (b .name) bytes) (x .0) (x .1) (x .2) (x .3)
-            (rename-passed s h text g title x e))
+            (rename-facts h text g title (cut-below call (a .directory) bytes) (cut-below call (b .directory) bytes) (cut-below call (b .name) bytes)
+            (x .0) (x .1) (x .2) (x .3) (rename-passed s h text g title x e))

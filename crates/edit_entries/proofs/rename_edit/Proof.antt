@@ -41,7 +41,11 @@ same-length-2 : tie.Need-same-length-2
 same-length-2 c = search needs
 
 returns-3 : tie.Need-returns-3
-returns-3 c = rw (c .before .before .before .before .before .before .before .before .before .onto .given .1, c .before .before .move-edit2 .ensures, c .before .before .before .before .before .before .remove-object .ensures)
+returns-3 c = rw (
+  c .before .before .before .before .before .before .before .before .before .onto .given .1,
+  c .before .before .move-edit2 .ensures,
+  c .before .before .before .before .before .before .remove-object .ensures,
+)
 
 pub rename-edit-spec : {M : Type 1} → statement M
 rename-edit-spec =
