@@ -99,17 +99,17 @@ line-handle (x ∷ b) h d text l m e = ⊎-elim
     (List·Memᴰ·cases-cons m)
 
 -- record o is a live object with this handle and type, and the handle reaches it
-record Lined (σ : ℕ) (s : Store) (h : List ℕ) (kind o : ℕ) : Type 0 where
-  below : o < objects s
-  reached : reach s h ≡ passed o
-  type : objectAt s o .kind ≡ kind
-  own : h ≡ handleIn σ (view s) o
-  is-object : objectIn h ≡ o
+pub record Lined (σ : ℕ) (s : Store) (h : List ℕ) (kind o : ℕ) : Type 0 where
+  pub below : o < objects s
+  pub reached : reach s h ≡ passed o
+  pub type : objectAt s o .kind ≡ kind
+  pub own : h ≡ handleIn σ (view s) o
+  pub is-object : objectIn h ≡ o
 
 module _ (σ P Q R : ℕ) (s : Store) (L : Ledger) (I : Inv σ P Q R s L) where
   -- ---- handles
   -- a handle with a line
-  lined : (h : List ℕ) (kind : ℕ) → HasLine (L .book) h kind → (o : ℕ) × Lined σ s h kind o
+  pub lined : (h : List ℕ) (kind : ℕ) → HasLine (L .book) h kind → (o : ℕ) × Lined σ s h kind o
   lined h kind x =
       let (o, v, e, f) = lined-current σ P Q R s L I h kind x in
       let n = names-at σ P Q R s L I h o (view s .gen o) kind v e refl f in
@@ -122,7 +122,7 @@ module _ (σ P Q R : ℕ) (s : Store) (L : Ledger) (I : Inv σ P Q R s L) where
   reached-own : (h : List ℕ) → Below 256 h → (o : ℕ) → Reached s h o → h ≡ handleIn σ (view s) o
   reached-own h b o w = handle-reached s h o w b ∙ handle-seen σ P Q R s L I o (w .below)
 
-  directory-reached : (h : List ℕ) (o : ℕ) → Lined σ s h 2 o → reachDirectory s h ≡ passed o
+  pub directory-reached : (h : List ℕ) (o : ℕ) → Lined σ s h 2 o → reachDirectory s h ≡ passed o
   unfolding reachDirectory
   directory-reached h o x = rw (x .reached, true-directory s o (x .type))
 
@@ -162,7 +162,7 @@ module _ (σ P Q R : ℕ) (s : Store) (L : Ledger) (I : Inv σ P Q R s L) where
         live-in s (nameAt s n .child) (omega (arith, T .flat .ends n (at .0), ap (view s .kind) (child-at s n k)))
 
     -- a line that stands there is found, with its object
-    line-found : (g : List ℕ) → HasName (L .book) h g text → (n : ℕ) × (findName s d text ≡ some n) × (objectIn g ≡ nameAt s n .child)
+    pub line-found : (g : List ℕ) → HasName (L .book) h g text → (n : ℕ) × (findName s d text ≡ some n) × (objectIn g ≡ nameAt s n .child)
     line-found g (l, m, a, b) = go (findName s d text) refl
       where
         go : (x : Option ℕ) → findName s d text ≡ x → (n : ℕ) × (findName s d text ≡ some n) × (objectIn g ≡ nameAt s n .child)

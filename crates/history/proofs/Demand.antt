@@ -114,8 +114,8 @@ kept σ p q r w I =
           let (ok, same, store, ledger) = sent-twice σ p q r s L I x y l m e a verifier k j t in
           (ok, same, λ i. record { store = store i; ledger = ledger i });
       ontoItself = λ x l a b h k m n.
-          let (store, ledger) = onto-itself σ p q r s L I x l a b k h m n in
-          λ i. record { store = store i; ledger = ledger i };
+          let (ok, store, ledger) = onto-itself σ p q r s L I x l a b k h m n in
+          (ok, λ i. record { store = store i; ledger = ledger i });
       replaced = λ x l a b h g k m n two t. over-removed σ p q r s L I x l a b k h g m n two t;
     }
 

@@ -1,68 +1,129 @@
 -- RENAME onto a name that has a line: nothing changes, or a handle is removed. Assumes nothing.
 use mathlib.Core.Path.{_≡_, refl, sym, ap, _∙_, subst}
 use mathlib.Core.Logic.{_≢_}
-use mathlib.Core.Bool.{true}
+use mathlib.Core.Bool.{true, false}
 use mathlib.Core.Option.{some}
 use mathlib.Core.List.{List}
 use Prim.Native.Nat.{ℕ, _<_}
 use native.Mathlib.Omega.{arith}
+use lib.Dec.{eqb}
+use borrow.Author.Tests.{eq-eqb, ne-eqb}
 use Rattle.kinds.specs.declared.call.NameIn.{NameIn}
 use Rattle.kinds.specs.declared.call.Arguments.the-variants as Call
 use Rattle.spec.specs.Checked.{Checked, refused, passed}
-use Rattle.spec.specs.Image.{Store, objects}
+use Rattle.spec.specs.Count.{iterate}
+use Rattle.spec.specs.Handles.{reachDirectory, checkName}
+use Rattle.spec.specs.Image.{Store, objects, nameAt}
+use Rattle.spec.specs.Names.{isDots}
 use Rattle.spec.specs.Procedures.{act}
-use Rattle.spec.specs.Procedures.Removal.{Onto, checkRename, renameEdit, failRenaming, renamedTo, rename}
-use Rattle.spec.specs.Results.{settle}
-use Rattle.laws.proofs.Count.{by-bool, true-false}
+use Rattle.spec.specs.Procedures.Removal.{isWithin, Onto, sameObject, checkMove, checkRename, renameEdit, failRenaming, renamedTo, rename}
+use Rattle.spec.specs.Results.{Done, settle}
+use Rattle.spec.specs.Room.{isDirectory, findName, above}
+use Rattle.laws.proofs.Count.{by-bool, true-false, none-below}
+use Rattle.laws.proofs.GoodKept.{used-of}
 use Rattle.laws.proofs.Passed.{rename-passed}
 use Rattle.laws.proofs.RecordRange.{cut-below}
-use Rattle.laws.proofs.Valid.{passes-valid}
+use Rattle.laws.proofs.Valid.{GoodName, passes-valid, used-true, true-live, directory-true}
 use Rattle.history.specs.Book.{Ledger, handleUnder, isOk, noted, note}
 use Rattle.history.specs.Run.{Request, Lent, outcomeOf, replyTo}
-use Rattle.history.specs.Statement.{HasName, IsRemoved, Asks, directoryIn, nameAsked}
+use Rattle.history.specs.Statement.{HasName, IsRemoved, Asks, objectIn, directoryIn, nameAsked}
 use Rattle.history.proofs.Handles.{same-object, same-generation}
 use Rattle.history.proofs.Agree.{handleIn}
-use Rattle.history.proofs.Seen.{view}
+use Rattle.history.proofs.Walk.{parentIn, not-below}
+use Rattle.history.proofs.Seen.{view, kind-at, child-at, live-in, above-same}
 use Rattle.history.proofs.Inv.{Inv, tree}
 use Rattle.history.proofs.Asked.{acted}
-use Rattle.history.proofs.Noted.{Answer, renaming-says, not-ok, replace-same}
+use Rattle.history.proofs.Checks.{name-checks, found-name}
+use Rattle.history.proofs.Noted.{Answer, Says, renamed-says, renaming-says, not-ok, replace-same}
 use Rattle.history.proofs.Statuses.{sure-rename}
-use Rattle.history.proofs.Renaming.{same-kept, over-older}
+use Rattle.history.proofs.Renaming.{over-older}
 use Rattle.history.proofs.Next.{answer-to, clocked, next}
-use Rattle.history.proofs.Lines.{lined-current, stand-apart}
+use Rattle.history.proofs.Lines.{object-lines, name-lines, lined-current, stand-apart}
 use Rattle.history.proofs.Counts.{line-given}
 use Rattle.history.proofs.Later.{small-live, given-stays}
-use Rattle.history.proofs.Conditions.{line-handle}
+use Rattle.history.proofs.Nospc.{ok-of}
+use Rattle.history.proofs.Conditions.{line-handle, lined, directory-reached, line-found}
 
 module _ (σ p q r : ℕ) (s : Store) (L : Ledger) (I : Inv σ p q r s L) (x : Request) (l : Lent x) (a b : NameIn) (k : Asks x (Call.Rename a b)) where
   -- the book's handle of a name that has a line
   named : (c : NameIn) (j : List ℕ) → HasName (L .book) (directoryIn x c) j (nameAsked x c) → handleUnder (directoryIn x c) (nameAsked x c) (L .book) ≡ some j
   named c j (line, m, e, f) = line-handle (L .book) (stand-apart σ p q r s L I) (directoryIn x c) (nameAsked x c) line m f ∙ ap (λ (y : List ℕ). some y) e
 
-  -- both names have one handle: neither store nor book changes
-  pub onto-itself : (j : List ℕ) → HasName (L .book) (directoryIn x a) j (nameAsked x a) → HasName (L .book) (directoryIn x b) j (nameAsked x b)
-      → (outcomeOf s x .store ≡ s) × (note (x .call) (replyTo s x) L ≡ L)
-  unfolding act rename note noted
-  onto-itself j m n = (
-    acted s x (Call.Rename a b) k (passes-valid s (I .valid)) .store
-        ∙ go (checkRename s (directoryIn x a) (nameAsked x a) (directoryIn x b) (nameAsked x b)) refl,
-    book,
-  )
-    where
-      go : (y : Checked (ℕ × ℕ × ℕ × Onto)) → checkRename s (directoryIn x a) (nameAsked x a) (directoryIn x b) (nameAsked x b) ≡ y
-          → settle s (failRenaming s (directoryIn x a) (directoryIn x b)) y
-          (λ p. renamedTo s (p .0) (p .1) (renameEdit s (x .context) (p .0) (p .1) (p .2) (p .3) (nameAsked x b))) .store ≡ s
-      go (refused n) e = refl
-      go (passed y) e =
-          same-kept σ p q r s L I (x .context) (clocked σ p q r s L I x (Call.Rename a b) l k) (directoryIn x a) (nameAsked x a) (directoryIn x b)
-          (nameAsked x b) (cut-below (x .call) (a .directory) (l .bytes)) (cut-below (x .call) (b .directory) (l .bytes))
-          (cut-below (x .call) (b .name) (l .bytes)) (y .0) (y .1) (y .2) j j (named a j m) (named b j n) refl (y .3)
-          (rename-passed s (directoryIn x a) (nameAsked x a) (directoryIn x b) (nameAsked x b) y e)
+  -- a name that has a line: its directory is reached, it passes the tests of names, and it is found with its object
+  record Stands (c : NameIn) (j : List ℕ) : Type 0 where
+    directory : ℕ
+    entry : ℕ
+    reached : reachDirectory s (directoryIn x c) ≡ passed directory
+    name : checkName (nameAsked x c) ≡ passed tt
+    no-dots : isDots (nameAsked x c) ≡ false
+    found : findName s directory (nameAsked x c) ≡ some entry
+    object : objectIn j ≡ nameAt s entry .child
 
-      book : note (x .call) (replyTo s x) L ≡ L
-      book = by-bool (isOk (replyTo s x))
-          (λ t. rw (t, k .reads) (replace-same (directoryIn x a) (nameAsked x a) (directoryIn x b) (nameAsked x b) L j (named a j m) (named b j n)))
-          (λ t. rw t)
+  stands : (c : NameIn) (j : List ℕ) → HasName (L .book) (directoryIn x c) j (nameAsked x c) → Stands c j
+  stands c j m =
+      let (n, l, u, i, e, f) = name-lines σ p q r s L I (directoryIn x c) j (nameAsked x c) .1 m in
+      let v = used-of s n (used-true s n u) (I .valid .good-names n l) in
+      let own = object-lines σ p q r s L I (directoryIn x c) 2 .0
+      (nameAt s n .directory, v .directory, true-live s (nameAt s n .directory) (omega (arith, v .in-directory)), i, v .in-directory) in
+      let (d, z) = lined σ p q r s L I (directoryIn x c) 2 own in
+      let (o, g, k) = line-found σ p q r s L I (directoryIn x c) (nameAsked x c) d (z .below) (z .type) (z .own) j m in
+      let (y, w) = name-checks (nameAsked x c) (subst GoodName f (v .good)) in
+      record {
+        directory = d;
+        entry = o;
+        reached = directory-reached σ p q r s L I (directoryIn x c) d z;
+        name = y;
+        no-dots = w;
+        found = g;
+        object = k;
+      }
+
+  -- no directory is within the object of one of its names
+  not-within : (d n : ℕ) (text : List ℕ) → findName s d text ≡ some n → isWithin s (nameAt s n .child) d ≡ false
+  unfolding isWithin
+  not-within d n text f =
+      let (l, at) = found-name s (I .valid .good-names) d text n f in
+      let T = tree σ p q r s L I in
+      let c = nameAt s n .child in
+      let child = child-at s n l in
+      by-bool (isDirectory s c)
+      (λ t. rw t (none-below (λ k. eqb (above s k d) c) (objects s) (λ k _. ne-eqb (above s k d) c (λ e.
+      not-below p q (view s) (T .flat) T n k (at .0)
+      (ap (view s .kind) child ∙ kind-at s c (live-in s c (omega (arith, T .flat .ends n (at .0), ap (view s .kind) child))) ∙ directory-true s c t)
+      (ap (iterate k (parentIn q (view s))) (at .1)
+      ∙ ap (λ (y : ℕ). iterate k (parentIn y (view s)) d) (sym (I .nams)) ∙ above-same s (I .valid .good-names) k d ∙ e ∙ sym child)))))
+      (λ t. rw t)
+
+  -- both names have one handle: every check passes
+  itself-passes : (j : List ℕ) → HasName (L .book) (directoryIn x a) j (nameAsked x a) → HasName (L .book) (directoryIn x b) j (nameAsked x b)
+      → (d : ℕ) × (e : ℕ) × (n : ℕ) × (checkRename s (directoryIn x a) (nameAsked x a) (directoryIn x b) (nameAsked x b) ≡ passed (d, e, n, sameObject))
+  unfolding checkRename checkMove
+  itself-passes j m n =
+      let A = stands a j m in
+      let B = stands b j n in
+      let same : nameAt s (B .entry) .child ≡ nameAt s (A .entry) .child = sym (B .object) ∙ A .object in
+      let within : isWithin s (nameAt s (A .entry) .child) (B .directory) ≡ false =
+      ap (λ (o : ℕ). isWithin s o (B .directory)) (sym same) ∙ not-within (B .directory) (B .entry) (nameAsked x b) (B .found) in (
+        A .directory,
+        B .directory,
+        A .entry,
+        rw (A .reached, B .reached, A .name, B .name, A .no-dots, B .no-dots, A .found, within, B .found, eq-eqb _ _ same),
+      )
+
+  -- so it is answered OK, and neither store nor book changes
+  pub onto-itself : (j : List ℕ) → HasName (L .book) (directoryIn x a) j (nameAsked x a) → HasName (L .book) (directoryIn x b) j (nameAsked x b)
+      → (isOk (replyTo s x) ≡ true) × (outcomeOf s x .store ≡ s) × (note (x .call) (replyTo s x) L ≡ L)
+  unfolding act rename note noted
+  onto-itself j m n =
+      let (d, e, i, passes) = itself-passes j m n in
+      let done : Checked (ℕ × ℕ × ℕ × Onto) → Done = λ y. settle s (failRenaming s (directoryIn x a) (directoryIn x b)) y
+      (λ p. renamedTo s (p .0) (p .1) (renameEdit s (x .context) (p .0) (p .1) (p .2) (p .3) (nameAsked x b))) in
+      let ok = ok-of (x .call) (replyTo s x) (Call.Rename a b) _ (answer-to σ p q r s L I x (Call.Rename a b) k)
+      (subst (λ (y : Checked (ℕ × ℕ × ℕ × Onto)). Says (done y .result) 0) (sym passes) (renamed-says 0 _ _)) in (
+        ok,
+        acted s x (Call.Rename a b) k (passes-valid s (I .valid)) .store ∙ ap (λ (y : Checked (ℕ × ℕ × ℕ × Onto)). done y .store) passes,
+        rw (ok, k .reads) (replace-same (directoryIn x a) (nameAsked x a) (directoryIn x b) (nameAsked x b) L j (named a j m) (named b j n)),
+      )
 
   -- the names have two handles: the generation of the second's object is past it
   gone : (i j : List ℕ) → HasName (L .book) (directoryIn x a) i (nameAsked x a) → HasName (L .book) (directoryIn x b) j (nameAsked x b) → i ≢ j

@@ -230,14 +230,6 @@ module _ (σ p q r : ℕ) (s : Store) (L : Ledger) (I : Inv σ p q r s L) (c : C
         let z = sym second ∙ second-line h text g title hb gb tb d e n t w m (found-name s (I .valid .good-names) e title m f .1) in
         cc
 
-    -- one handle: the store stays
-    pub same-kept : j ≡ k → (t : Onto) → RenamePassed s h text g title d e n t → renameEdit s c d e n t title ≡ s
-    same-kept i newName w = absurd (has-line newName w (w .target))
-    same-kept i sameObject w = refl
-    same-kept i (replacing m) w =
-        absurd (two-handles h text g title hb gb tb d e n (replacing m) w m (w .target)
-        (sym (first-handle (replacing m) w) ∙ i ∙ second-handle (replacing m) w m (w .target .found)))
-
     -- two handles: the generation of the second's object is past it
     pub over-older : j ≢ k → (t : Onto) → RenamePassed s h text g title d e n t
         → (o : ℕ) × (o < objects s) × (k ≡ handleIn σ (view s) o) × (view s .gen o < view (renameEdit s c d e n t title) .gen o)

@@ -1,6 +1,6 @@
 -- Parents as spec computes them: from a live directory, as many steps as there are objects lead to the root, and what is not met within them
 -- is not on the path. Assumes nothing.
-use mathlib.Core.Path.{_≡_, refl, sym, ap, _∙_}
+use mathlib.Core.Path.{_≡_, refl, sym, ap, _∙_, subst}
 use mathlib.Core.Logic.{_≢_, by-cases}
 use mathlib.Core.Option.{Option, some, none}
 use mathlib.Core.List.{List, [], _∷_}
@@ -11,8 +11,8 @@ use lib.ListN.{length}
 use Rattle.spec.specs.Count.{lowest, iterate}
 use Rattle.laws.proofs.Count.{lowest-passes, lowest-none, true-false}
 use Rattle.history.proofs.Sum.{holds, holds-true, holds-yes}
-use Rattle.history.proofs.View.{View, LiveIn, NamesObject, names?, namingsIn, Path, Avoids, named-by, not-named}
-use Rattle.history.proofs.Tree.{Flat, one-name, single}
+use Rattle.history.proofs.View.{View, LiveIn, UsedIn, NamesObject, names?, namingsIn, Path, Avoids, named-by, not-named}
+use Rattle.history.proofs.Tree.{Flat, Tree, one-name, path-same, single}
 
 -- the directory of the record that is found, and 0 where none is
 abbrev pub directoryAt : View → Option ℕ → ℕ
@@ -84,6 +84,25 @@ module _ (P Q : ℕ) (v : View) (F : Flat P Q v) where
     outside n c (v .dir q) qs (single P Q v F (v .dir q) (F .dirs q (a .0 .0))) (omega arith) (a .1)
         (λ j m e. x (suc j) (omega arith) (iterate-inner j (parentIn Q v) i ∙ ap (iterate j (parentIn Q v)) (parent-of q i k (a .0)) ∙ e)),
   )
+
+  -- no number of steps up makes the way to the root longer
+  up-shorter : (n i : ℕ) (qs : List ℕ) → namingsIn Q v i ≤ 1 → Path v i qs → (ps : List ℕ) × Path v (iterate n (parentIn Q v) i) ps × (length ps ≤ length qs)
+  unfolding iterate
+  up-shorter zero i qs k a = (qs, a, omega arith)
+  up-shorter (suc n) i [] k a = ([], ap (iterate (suc n) (parentIn Q v)) a ∙ walk-root (suc n), omega arith)
+  up-shorter (suc n) i (q ∷ qs) k a =
+      let (ps, b, l) = up-shorter n (v .dir q) qs (single P Q v F (v .dir q) (F .dirs q (a .0 .0))) (a .1) in
+      let e = iterate-inner n (parentIn Q v) i ∙ ap (iterate n (parentIn Q v)) (parent-of q i k (a .0)) in
+      (ps, subst (λ (x : ℕ). Path v x ps) (sym e) b, omega arith)
+
+  -- so a directory is met on no way up from the directory that it is in
+  pub not-below : Tree P Q v → (q n : ℕ) → UsedIn v q → v .kind (v .child q) ≡ 2 → iterate n (parentIn Q v) (v .dir q) ≢ v .child q
+  not-below T q n u k e =
+      let d = F .dirs q u in
+      let (qs, a) = T .leads (v .dir q) (omega arith) in
+      let (ps, b, l) = up-shorter n (v .dir q) qs (single P Q v F (v .dir q) d) a in
+      let same = path-same P Q v T (q ∷ qs) ps (v .child q) (single P Q v F (v .child q) k) ((u, refl), a) (subst (λ (x : ℕ). Path v x ps) e b) in
+      omega (arith, ap length same)
 
   -- a file is on no path from a directory
   pub outside-file : (c i : ℕ) (qs : List ℕ) → v .kind c ≢ 2 → v .kind i ≡ 2 → Path v i qs → Avoids v c i qs

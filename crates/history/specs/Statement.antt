@@ -361,9 +361,10 @@ pub record Kept (σ p q r : ℕ) (w : State) : Type 0 where
       × (step (step w x) y ≡ step w x)
   -- ---- 8. RENAME ONTO A NAME THAT HAS A LINE
   -- E3: "From and to being the same object is success with nothing changed, times and demand 3's book included.": where the lines of both names have
-  -- one handle, RENAME changes neither store nor book
+  -- one handle, RENAME is answered OK and changes neither store nor book
   pub ontoItself : (x : Request) → Lent x → (p q : NameIn) (h : List ℕ) → Asks x (Call.Rename p q)
-      → HasName (w .ledger .book) (directoryIn x p) h (nameAsked x p) → HasName (w .ledger .book) (directoryIn x q) h (nameAsked x q) → step w x ≡ w
+      → HasName (w .ledger .book) (directoryIn x p) h (nameAsked x p) → HasName (w .ledger .book) (directoryIn x q) h (nameAsked x q)
+      → (isOk (replyTo (w .store) x) ≡ true) × (step w x ≡ w)
   -- E3: "A removed target's room, handle and line in the book are treated as REMOVE or RMDIR would treat them.": where they have two, and RENAME is
   -- answered OK, the second is removed
   pub replaced : (x : Request) → Lent x → (p q : NameIn) (h g : List ℕ) → Asks x (Call.Rename p q)

@@ -111,6 +111,11 @@ module _ (p : ℕ → Bool) where
   unfolding some-below
   some-hit i n t h = le-ind (λ (m : ℕ). some-below m p ≡ true) (rw t (or-true (some-below i p))) (λ m l q. rw q) n h
 
+  pub none-below : (n : ℕ) → ((i : ℕ) → i < n → p i ≡ false) → some-below n p ≡ false
+  unfolding some-below
+  none-below zero f = refl
+  none-below (suc n) f = rw (none-below n (λ i l. f i (omega arith)), f n (omega arith))
+
   pub some-none : (n i : ℕ) → some-below n p ≡ false → i < n → p i ≡ false
   some-none n i e h = by-bool (p i) (λ t. true-false (sym (some-hit i n t h) ∙ e)) (λ t. t)
 
