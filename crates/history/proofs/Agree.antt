@@ -277,26 +277,6 @@ module _ (P Q σ : ℕ) (v : View) (T : Tree P Q v) (b : Book) (A : Agrees σ v 
           (λ n. ap (λ (x : Bool). isAt (handleIn σ v d) t (lineOf σ v p) || x) (go ks (omega (arith, ap bit (ne-eqb p q n))))
           ∙ or-right (isAt (handleIn σ v d) t (lineOf σ v p)) true refl)
 
-  -- and the line has the handle of the record's object
-  pub handle-at : (q : ℕ) → At v q d t → handleUnder (handleIn σ v d) t b ≡ some (handleIn σ v (v .child q))
-  unfolding handleUnder times
-  handle-at q a =
-      ap (handleUnder (handleIn σ v d) t) (A .lines)
-      ∙ go (A .order) (all-used v (A .order) (A .each)) (omega (arith, A .each q, ind-yes (used? v q) (a .0)))
-    where
-      go : (ks : List ℕ) → All (UsedIn v) ks → 0 < times q ks
-          → handleUnder (handleIn σ v d) t (map (lineOf σ v) ks ++ (rootLine σ v ∷ [])) ≡ some (handleIn σ v (v .child q))
-      go [] h l = absurd (omega arith)
-      go (p ∷ ks) h l =
-          let rest = handleUnder (handleIn σ v d) t (map (lineOf σ v) ks ++ (rootLine σ v ∷ [])) in
-          by-cases (ℕ-discrete p q)
-          (λ e. ap (λ (x : Bool). cond x (some (handleIn σ v (v .child p))) rest)
-          (at-yes (handleIn σ v d) t (lineOf σ v p) (let x = a .1 in let y = a .2 in cc))
-          ∙ ap (λ (x : ℕ). some (handleIn σ v (v .child x))) e)
-          (λ n. ap (λ (x : Bool). cond x (some (handleIn σ v (v .child p))) rest)
-          (at-no (handleIn σ v d) t (lineOf σ v p) (λ x. n (one-entry P Q v (T .flat) d t p q (line-at p (h .0) x) a)))
-          ∙ go ks (h .1) (omega (arith, ap bit (ne-eqb p q n))))
-
 -- where no line has a directory and a name, none is struck, and there is no handle
 module _ (d t : List ℕ) where
   pub strike-none : (b : Book) → someAt d t b ≡ false → strikeLines d t b ≡ b

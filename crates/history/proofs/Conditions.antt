@@ -1,7 +1,7 @@
 -- The conditions of room, by the book and by the checks of the store: a handle that is reached has a line, and a name is found where a line stands
 -- under it. Assumes nothing.
 use mathlib.Core.Path.{_≡_, refl, sym, ap, _∙_, subst}
-use mathlib.Core.Bool.{Bool, true, false, _&&_, _||_, cond}
+use mathlib.Core.Bool.{Bool, true, false, _&&_, _||_}
 use mathlib.Core.Option.{Option, some, none}
 use mathlib.Core.Logic.{inl, inr, ⊎-elim}
 use mathlib.Core.List.{List, [], _∷_, List·Memᴰ, List·Memᴰ·cases-cons, List·Memᴰ·not-nil}
@@ -30,19 +30,18 @@ use Rattle.laws.proofs.Passed.{Reached, reach-passed, directory-passed, regular
 use Rattle.laws.proofs.Range.{Below}
 use Rattle.laws.proofs.RecordRange.{cut-below}
 use Rattle.laws.proofs.Valid.{true-live, regular-true, true-regular, true-directory}
-use Rattle.history.specs.Book.{under, Line, Book, Ledger, isAt, someAt, handleUnder, isOk}
+use Rattle.history.specs.Book.{under, Line, Book, Ledger, isAt, someAt, isOk}
 use Rattle.history.specs.Run.{Request, Lent, outcomeOf, replyTo, State}
 use Rattle.history.specs.Statement.{In, HasLine, HasName, StandApart, Asks, objectIn, Room, growth, newObject}
 use Rattle.history.specs.Statement.{directoryIn, nameAsked, MayMake, AsksRoom}
 use Rattle.history.proofs.Asking.{AsksStore}
 use Rattle.history.proofs.Sum.{or-right}
-use Rattle.history.proofs.View.{entriesAt}
-use Rattle.history.proofs.Agree.{handleIn, at-yes, at-no, none-at, some-at}
+use Rattle.history.proofs.Agree.{handleIn, at-yes}
 use Rattle.history.proofs.Seen.{view, kind-at, child-at, live-in}
 use Rattle.history.proofs.Inv.{Inv, tree}
 use Rattle.history.proofs.Checks.{handle-reached, found-name, no-name}
 use Rattle.history.proofs.Lines.{object-lines, found-line, lined-current, stand-apart}
-use Rattle.history.proofs.Making.{handle-seen, object-seen}
+use Rattle.history.proofs.Making.{handle-seen, line-none, line-some, object-seen}
 use Rattle.history.proofs.Answers.{names-at}
 use Rattle.history.proofs.Nospc.{made-before}
 
@@ -87,17 +86,6 @@ met (x ∷ b) d text l m e = ⊎-elim
     (λ (u : List·Memᴰ l b). ap (λ (t : Bool). isAt d text x || t) (met b d text l u e) ∙ or-right (isAt d text x) true refl)
     (List·Memᴰ·cases-cons m)
 
--- and its handle is the one that the book gives there
-pub line-handle : (b : Book) → StandApart b → (d text : List ℕ) (l : Line) → In l b → l .standing ≡ under d text → handleUnder d text b ≡ some (l .handle)
-unfolding handleUnder
-line-handle [] h d text l m e = absurd (List·Memᴰ·not-nil m)
-line-handle (x ∷ b) h d text l m e = ⊎-elim
-    (λ (u : l ≡ x). ap (λ (t : Bool). cond t (some (x .handle)) (handleUnder d text b)) (at-yes d text x (ap (λ (y : Line). y .standing) (sym u) ∙ e))
-    ∙ ap (λ (y : Line). some (y .handle)) (sym u))
-    (λ (u : List·Memᴰ l b). ap (λ (t : Bool). cond t (some (x .handle)) (handleUnder d text b))
-    (at-no d text x (λ z. h .0 l u (e ∙ sym z))) ∙ line-handle b (h .1) d text l u e)
-    (List·Memᴰ·cases-cons m)
-
 -- record o is a live object with this handle and type, and the handle reaches it
 pub record Lined (σ : ℕ) (s : Store) (h : List ℕ) (kind o : ℕ) : Type 0 where
   pub below : o < objects s
@@ -140,10 +128,7 @@ module _ (σ P Q R : ℕ) (s : Store) (L : Ledger) (I : Inv σ P Q R s L) where
 
     -- none is found where no line stands there
     none-there : findName s d text ≡ none → someAt h text (L .book) ≡ false
-    none-there e =
-        ap (λ (x : List ℕ). someAt x text (L .book)) own
-        ∙ none-at P Q σ (view s) (tree σ P Q R s L I) (L .book) (I .agrees) d text seen-type
-        (ap (λ (x : ℕ). entriesAt x (view s) d text) (sym (I .nams)) ∙ no-name s (I .valid .good-names) d text e)
+    none-there e = line-none σ P Q R s L I h text d seen-type own (no-name s (I .valid .good-names) d text e)
 
     there-none : someAt h text (L .book) ≡ false → findName s d text ≡ none
     there-none e = go (findName s d text) refl
@@ -151,8 +136,7 @@ module _ (σ P Q R : ℕ) (s : Store) (L : Ledger) (I : Inv σ P Q R s L) where
         go : (x : Option ℕ) → findName s d text ≡ x → x ≡ none
         go none f = refl
         go (some n) f =
-            true-false (sym (ap (λ (x : List ℕ). someAt x text (L .book)) own
-            ∙ some-at P Q σ (view s) (tree σ P Q R s L I) (L .book) (I .agrees) d text seen-type n (found-name s (I .valid .good-names) d text n f .1)) ∙ e)
+            true-false (sym (line-some σ P Q R s L I h text d seen-type own n (found-name s (I .valid .good-names) d text n f .1)) ∙ e)
 
     -- what is found there
     found-below : (n : ℕ) → findName s d text ≡ some n → nameAt s n .child < objects s

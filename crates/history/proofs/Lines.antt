@@ -1,6 +1,7 @@
 -- What the invariant says of the book's lines: they are the store's objects and names, one each. Assumes nothing.
 use mathlib.Core.Path.{_≡_, refl, sym, ap, _∙_, subst}
 use mathlib.Core.Logic.{_↔_, _⊎_, inl, inr, by-cases, ⊎-elim}
+use mathlib.Core.Bool.{Bool, cond}
 use mathlib.Core.Option.{some}
 use mathlib.Core.List.{List, [], _∷_, _++_, map, List·Memᴰ, List·Memᴰ·head, List·Memᴰ·tail, List·Memᴰ·cases-cons, List·Memᴰ·not-nil}
 use mathlib.Core.List.{List·Memᴰ·append-cases, List·Memᴰ·eq-of-singleton, Memᴰ·append-left, Memᴰ·append-right, Memᴰ·map, Memᴰ·of-map, Memᴰ·cast}
@@ -16,14 +17,14 @@ use Rattle.spec.specs.Image.{Store, objects, nameAt}
 use Rattle.spec.specs.Room.{findName}
 use Rattle.laws.proofs.Count.{sum-ext, sum-zero, sum-add}
 use Rattle.laws.proofs.Valid.{true-live}
-use Rattle.history.specs.Book.{asRoot, under, Line, Book, Ledger}
+use Rattle.history.specs.Book.{asRoot, under, Line, Book, Ledger, handleUnder}
 use Rattle.history.specs.Statement.{In, HasLine, HasName, StoredObject, StoredName, StandApart}
 use Rattle.history.proofs.Sum.{ind-yes, ind-true, ind-le}
 use Rattle.history.proofs.Lists.{All, times-all}
 use Rattle.history.proofs.View.{LiveIn, UsedIn, named-by, not-named}
 use Rattle.history.proofs.Tree.{Tree, lone, one-name}
 use Rattle.history.proofs.Handles.{same-object}
-use Rattle.history.proofs.Agree.{Agrees, handleIn, lineOf, rootLine, used?, all-used, own, not-root}
+use Rattle.history.proofs.Agree.{Agrees, handleIn, lineOf, rootLine, at-yes, at-no, used?, all-used, own, not-root}
 use Rattle.history.proofs.Seen.{view, kind-at, dir-at, child-at, text-at, live-in, used-in, used-of, of-used}
 use Rattle.history.proofs.Inv.{Inv, tree}
 use Rattle.history.proofs.Checks.{found-name}
@@ -90,6 +91,17 @@ times-member n [] h = absurd (not-suc-le-zero h)
 times-member n (x ∷ xs) h = by-cases (ℕ-discrete x n)
     (λ e. List·Memᴰ·head (sym e))
     (λ d. List·Memᴰ·tail (times-member n xs (omega (arith, ap bit (ne-eqb x n d)))))
+
+-- a line that stands there has the handle that the book gives there
+line-handle : (b : Book) → StandApart b → (d text : List ℕ) (l : Line) → In l b → l .standing ≡ under d text → handleUnder d text b ≡ some (l .handle)
+unfolding handleUnder
+line-handle [] h d text l m e = absurd (List·Memᴰ·not-nil m)
+line-handle (x ∷ b) h d text l m e = ⊎-elim
+    (λ (u : l ≡ x). ap (λ (t : Bool). cond t (some (x .handle)) (handleUnder d text b)) (at-yes d text x (ap (λ (y : Line). y .standing) (sym u) ∙ e))
+    ∙ ap (λ (y : Line). some (y .handle)) (sym u))
+    (λ (u : List·Memᴰ l b). ap (λ (t : Bool). cond t (some (x .handle)) (handleUnder d text b))
+    (at-no d text x (λ z. h .0 l u (e ∙ sym z))) ∙ line-handle b (h .1) d text l u e)
+    (List·Memᴰ·cases-cons m)
 
 module _ (σ p q r : ℕ) (s : Store) (L : Ledger) (I : Inv σ p q r s L) where
   T : Tree p q (view s)
@@ -255,3 +267,14 @@ module _ (σ p q r : ℕ) (s : Store) (L : Ledger) (I : Inv σ p q r s L) where
           let c = object (view s .child n) (view s .child m) (T .flat .ends n u) (T .flat .ends m v) (of x ∙ e ∙ sym (of y)) in
           let z = one-name p q (view s) (T .flat) (view s .child m) n m (lone p q (view s) (T .flat) (view s .child m) (T .flat .ends m v)) (u, c) (v, refl) in
           sym x ∙ ap (lineOf σ (view s)) z ∙ y
+
+  -- the book's handle of a name that has a line, and of one that is found
+  pub name-handle : (d text h : List ℕ) → HasName (L .book) d h text → handleUnder d text (L .book) ≡ some h
+  name-handle d text h (l, m, e, f) = line-handle (L .book) stand-apart d text l m f ∙ ap (λ (x : List ℕ). some x) e
+
+  pub found-handle : (h text : List ℕ) (d : ℕ) → d < objects s → h ≡ handleIn σ (view s) d → (n : ℕ) → findName s d text ≡ some n
+      → handleUnder h text (L .book) ≡ some (handleIn σ (view s) (nameAt s n .child))
+  found-handle h text d below own n e =
+      let (k, at) = found-name s (I .valid .good-names) d text n e in
+      name-handle h text (handleOf s (nameAt s n .child)) (found-line h text d below own n e)
+      ∙ ap (λ (x : List ℕ). some x) (child-handle n (at .0) ∙ ap (handleIn σ (view s)) (child-at s n k))

@@ -1,6 +1,6 @@
 -- CREATE and MKDIR keep the invariant, with the line that the book gets. Assumes nothing.
 use mathlib.Core.Path.{_≡_, sym, ap, _∙_, subst}
-use mathlib.Core.Bool.{true}
+use mathlib.Core.Bool.{true, false}
 use mathlib.Core.List.{List, _∷_}
 use Prim.Native.Nat.{ℕ, _-_, _^_, _≤_, _<_}
 use native.Mathlib.Omega.{arith}
@@ -40,6 +40,17 @@ use Rattle.history.proofs.Sizes.{resize-to}
 pub handle-seen : (σ p q r : ℕ) (s : Store) (L : Ledger) → Inv σ p q r s L → (o : ℕ) → o < objects s → handleOf s o ≡ handleIn σ (view s) o
 unfolding handleOf
 handle-seen σ p q r s L I o l = λ i. handleBytes (I .mark i) o (sym (gen-at s o l) i)
+
+-- the name `text` in directory d, whose handle is h: it has no line where no record is there, and one where one is
+module _ (σ p q r : ℕ) (s : Store) (L : Ledger) (I : Inv σ p q r s L) (h text : List ℕ) (d : ℕ) (k : view s .kind d ≡ 2) (own : h ≡ handleIn σ (view s) d) where
+  pub line-none : entriesAt (names s) (view s) d text ≡ 0 → someAt h text (L .book) ≡ false
+  line-none z =
+      ap (λ (x : List ℕ). someAt x text (L .book)) own
+      ∙ none-at p q σ (view s) (tree σ p q r s L I) (L .book) (I .agrees) d text k (ap (λ (x : ℕ). entriesAt x (view s) d text) (sym (I .nams)) ∙ z)
+
+  pub line-some : (n : ℕ) → At (view s) n d text → someAt h text (L .book) ≡ true
+  line-some n e =
+      ap (λ (x : List ℕ). someAt x text (L .book)) own ∙ some-at p q σ (view s) (tree σ p q r s L I) (L .book) (I .agrees) d text k n e
 
 -- the object of such a handle
 pub object-seen : (σ p q r : ℕ) (s : Store) (L : Ledger) → Inv σ p q r s L → (o : ℕ) → o < objects s → objectIn (handleOf s o) ≡ o
@@ -149,9 +160,7 @@ module _ (σ p q r : ℕ) (s : Store) (L : Ledger) (I : Inv σ p q r s L) (c : C
     pub line-added : (o kind : ℕ) → entriesAt (names s) (view s) d text ≡ 0 → add (handleIn σ (view s) o) kind h text L ≡ withLine σ s L o kind d text
     line-added o kind z =
         add-new (handleIn σ (view s) o) kind h text L
-        (ap (λ (x : List ℕ). someAt x text (L .book)) directory-handle
-        ∙ none-at p q σ (view s) (tree σ p q r s L I) (L .book) (I .agrees) d text directory-kind
-        (ap (λ (x : ℕ). entriesAt x (view s) d text) (sym (I .nams)) ∙ z))
+        (line-none σ p q r s L I h text d directory-kind directory-handle z)
         ∙ ap (λ (x : List ℕ). record {
           book = record { handle = handleIn σ (view s) o; kind = kind; standing = under x text } ∷ L .book;
           given =
@@ -161,8 +170,7 @@ module _ (σ p q r : ℕ) (s : Store) (L : Ledger) (I : Inv σ p q r s L) (c : C
     pub line-there : (g : List ℕ) (kind n : ℕ) → At (view s) n d text → add g kind h text L ≡ L
     line-there g kind n e =
         add-old g kind h text L
-        (ap (λ (x : List ℕ). someAt x text (L .book)) directory-handle
-        ∙ some-at p q σ (view s) (tree σ p q r s L I) (L .book) (I .agrees) d text directory-kind n e)
+        (line-some σ p q r s L I h text d directory-kind directory-handle n e)
 
   -- ---- CREATE of an existing file
   pub existing-keeps : (o : ℕ) (size : SetSize) → view s .kind o ≡ 1 → sizeSet size 0 ≤ mostFileBytes

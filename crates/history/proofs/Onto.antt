@@ -38,16 +38,33 @@ use Rattle.history.proofs.Noted.{Answer, Says, renamed-says, renaming-s
 use Rattle.history.proofs.Statuses.{sure-rename}
 use Rattle.history.proofs.Renaming.{over-older}
 use Rattle.history.proofs.Next.{answer-to, clocked, next}
-use Rattle.history.proofs.Lines.{object-lines, name-lines, lined-current, stand-apart}
+use Rattle.history.proofs.Lines.{object-lines, name-lines, lined-current, name-handle}
 use Rattle.history.proofs.Counts.{line-given}
 use Rattle.history.proofs.Later.{small-live, given-stays}
 use Rattle.history.proofs.Nospc.{ok-of}
-use Rattle.history.proofs.Conditions.{line-handle, lined, directory-reached, line-found}
+use Rattle.history.proofs.Conditions.{lined, directory-reached, line-found}
 
 module _ (σ p q r : ℕ) (s : Store) (L : Ledger) (I : Inv σ p q r s L) (x : Request) (l : Lent x) (a b : NameIn) (k : Asks x (Call.Rename a b)) where
   -- the book's handle of a name that has a line
   named : (c : NameIn) (j : List ℕ) → HasName (L .book) (directoryIn x c) j (nameAsked x c) → handleUnder (directoryIn x c) (nameAsked x c) (L .book) ≡ some j
-  named c j (line, m, e, f) = line-handle (L .book) (stand-apart σ p q r s L I) (directoryIn x c) (nameAsked x c) line m f ∙ ap (λ (y : List ℕ). some y) e
+  named c j m = name-handle σ p q r s L I (directoryIn x c) (nameAsked x c) j m
+
+  -- what the call does, by what its checks give
+  checks : Checked (ℕ × ℕ × ℕ × Onto)
+  checks = checkRename s (directoryIn x a) (nameAsked x a) (directoryIn x b) (nameAsked x b)
+
+  done : Checked (ℕ × ℕ × ℕ × Onto) → Done
+  done y =
+      settle s (failRenaming s (directoryIn x a) (directoryIn x b)) y
+      (λ p. renamedTo s (p .0) (p .1) (renameEdit s (x .context) (p .0) (p .1) (p .2) (p .3) (nameAsked x b)))
+
+  answer : Answer (x .call) (replyTo s x) (Call.Rename a b) (done checks .result)
+  unfolding act rename checks done
+  answer = answer-to σ p q r s L I x (Call.Rename a b) k
+
+  left : outcomeOf s x .store ≡ done checks .store
+  unfolding act rename checks done
+  left = acted s x (Call.Rename a b) k (passes-valid s (I .valid)) .store
 
   -- a name that has a line: its directory is reached, it passes the tests of names, and it is found with its object
   record Stands (c : NameIn) (j : List ℕ) : Type 0 where
@@ -96,8 +113,8 @@ module _ (σ p q r : ℕ) (s : Store) (L : Ledger) (I : Inv σ p q r s L) (x : R
 
   -- both names have one handle: every check passes
   itself-passes : (j : List ℕ) → HasName (L .book) (directoryIn x a) j (nameAsked x a) → HasName (L .book) (directoryIn x b) j (nameAsked x b)
-      → (d : ℕ) × (e : ℕ) × (n : ℕ) × (checkRename s (directoryIn x a) (nameAsked x a) (directoryIn x b) (nameAsked x b) ≡ passed (d, e, n, sameObject))
-  unfolding checkRename checkMove
+      → (d : ℕ) × (e : ℕ) × (n : ℕ) × (checks ≡ passed (d, e, n, sameObject))
+  unfolding checks checkRename checkMove
   itself-passes j m n =
       let A = stands a j m in
       let B = stands b j n in
@@ -113,40 +130,40 @@ module _ (σ p q r : ℕ) (s : Store) (L : Ledger) (I : Inv σ p q r s L) (x : R
   -- so it is answered OK, and neither store nor book changes
   pub onto-itself : (j : List ℕ) → HasName (L .book) (directoryIn x a) j (nameAsked x a) → HasName (L .book) (directoryIn x b) j (nameAsked x b)
       → (isOk (replyTo s x) ≡ true) × (outcomeOf s x .store ≡ s) × (note (x .call) (replyTo s x) L ≡ L)
-  unfolding act rename note noted
+  unfolding done note noted
   onto-itself j m n =
       let (d, e, i, passes) = itself-passes j m n in
-      let done : Checked (ℕ × ℕ × ℕ × Onto) → Done = λ y. settle s (failRenaming s (directoryIn x a) (directoryIn x b)) y
-      (λ p. renamedTo s (p .0) (p .1) (renameEdit s (x .context) (p .0) (p .1) (p .2) (p .3) (nameAsked x b))) in
-      let ok = ok-of (x .call) (replyTo s x) (Call.Rename a b) _ (answer-to σ p q r s L I x (Call.Rename a b) k)
+      let ok = ok-of (x .call) (replyTo s x) (Call.Rename a b) _ answer
       (subst (λ (y : Checked (ℕ × ℕ × ℕ × Onto)). Says (done y .result) 0) (sym passes) (renamed-says 0 _ _)) in (
         ok,
-        acted s x (Call.Rename a b) k (passes-valid s (I .valid)) .store ∙ ap (λ (y : Checked (ℕ × ℕ × ℕ × Onto)). done y .store) passes,
+        left ∙ ap (λ (y : Checked (ℕ × ℕ × ℕ × Onto)). done y .store) passes,
         rw (ok, k .reads) (replace-same (directoryIn x a) (nameAsked x a) (directoryIn x b) (nameAsked x b) L j (named a j m) (named b j n)),
       )
+
+  -- a call that is answered OK passes its checks
+  ok-passes : isOk (replyTo s x) ≡ true → (y : ℕ × ℕ × ℕ × Onto) × (checks ≡ passed y)
+  unfolding checks done
+  ok-passes t = go checks refl answer
+    where
+      go : (c : Checked (ℕ × ℕ × ℕ × Onto)) → checks ≡ c → Answer (x .call) (replyTo s x) (Call.Rename a b) (done c .result)
+          → (y : ℕ × ℕ × ℕ × Onto) × (c ≡ passed y)
+      go (refused z) e A =
+          let w = sure-rename s (directoryIn x a) (nameAsked x a) (directoryIn x b) (nameAsked x b) z e in
+          true-false (sym t ∙ not-ok (x .call) (replyTo s x) (Call.Rename a b) _ A z (renaming-says s (directoryIn x a) (directoryIn x b) z) (w .0) (w .1))
+      go (passed y) e A = (y, refl)
 
   -- the names have two handles: the generation of the second's object is past it
   gone : (i j : List ℕ) → HasName (L .book) (directoryIn x a) i (nameAsked x a) → HasName (L .book) (directoryIn x b) j (nameAsked x b) → i ≢ j
       → isOk (replyTo s x) ≡ true → (o : ℕ) × (o < objects s) × (j ≡ handleIn σ (view s) o) × (view s .gen o < view (outcomeOf s x .store) .gen o)
-  unfolding act rename
+  unfolding checks done
   gone i j m n two t =
+      let (y, e) = ok-passes t in
       subst (λ (u : Store). (o : ℕ) × (o < objects s) × (j ≡ handleIn σ (view s) o) × (view s .gen o < view u .gen o))
-      (sym (acted s x (Call.Rename a b) k (passes-valid s (I .valid)) .store))
-      (go (checkRename s (directoryIn x a) (nameAsked x a) (directoryIn x b) (nameAsked x b)) refl (answer-to σ p q r s L I x (Call.Rename a b) k))
-    where
-      go : (y : Checked (ℕ × ℕ × ℕ × Onto)) → checkRename s (directoryIn x a) (nameAsked x a) (directoryIn x b) (nameAsked x b) ≡ y
-          → Answer (x .call) (replyTo s x) (Call.Rename a b) (settle s (failRenaming s (directoryIn x a) (directoryIn x b)) y
-          (λ p. renamedTo s (p .0) (p .1) (renameEdit s (x .context) (p .0) (p .1) (p .2) (p .3) (nameAsked x b))) .result)
-          → (o : ℕ) × (o < objects s) × (j ≡ handleIn σ (view s) o) × (view s .gen o < view (settle s (failRenaming s (directoryIn x a) (directoryIn x b)) y
-          (λ p. renamedTo s (p .0) (p .1) (renameEdit s (x .context) (p .0) (p .1) (p .2) (p .3) (nameAsked x b))) .store) .gen o)
-      go (refused z) e A =
-          let w = sure-rename s (directoryIn x a) (nameAsked x a) (directoryIn x b) (nameAsked x b) z e in
-          true-false (sym t ∙ not-ok (x .call) (replyTo s x) (Call.Rename a b) _ A z (renaming-says s (directoryIn x a) (directoryIn x b) z) (w .0) (w .1))
-      go (passed y) e A =
-          over-older σ p q r s L I (x .context) (clocked σ p q r s L I x (Call.Rename a b) l k) (directoryIn x a) (nameAsked x a) (directoryIn x b)
-          (nameAsked x b) (cut-below (x .call) (a .directory) (l .bytes)) (cut-below (x .call) (b .directory) (l .bytes))
-          (cut-below (x .call) (b .name) (l .bytes)) (y .0) (y .1) (y .2) i j (named a i m) (named b j n) two (y .3)
-          (rename-passed s (directoryIn x a) (nameAsked x a) (directoryIn x b) (nameAsked x b) y e)
+      (sym (left ∙ ap (λ (c : Checked (ℕ × ℕ × ℕ × Onto)). done c .store) e))
+      (over-older σ p q r s L I (x .context) (clocked σ p q r s L I x (Call.Rename a b) l k) (directoryIn x a) (nameAsked x a) (directoryIn x b)
+      (nameAsked x b) (cut-below (x .call) (a .directory) (l .bytes)) (cut-below (x .call) (b .directory) (l .bytes))
+      (cut-below (x .call) (b .name) (l .bytes)) (y .0) (y .1) (y .2) i j (named a i m) (named b j n) two (y .3)
+      (rename-passed s (directoryIn x a) (nameAsked x a) (directoryIn x b) (nameAsked x b) y e))
 
   -- so the second handle is removed
   pub over-removed : (i j : List ℕ) → HasName (L .book) (directoryIn x a) i (nameAsked x a) → HasName (L .book) (directoryIn x b) j (nameAsked x b)

@@ -36,13 +36,14 @@ use Rattle.history.proofs.Tree.{single, path-short, live-bound}
 use Rattle.history.proofs.Change.{path-kept}
 use Rattle.history.proofs.Walk.{parentIn, outside, outside-file}
 use Rattle.history.proofs.Handles.{same-object}
-use Rattle.history.proofs.Agree.{handleIn, none-at, handle-at, handle-none}
+use Rattle.history.proofs.Agree.{handleIn, handle-none}
 use Rattle.history.proofs.Seen.{view, kind-at, child-at, above-same, used-in}
 use Rattle.history.proofs.Inv.{Inv, Owes, keeps-refl, keeps-trans, owes-trans, tree, touch-inv, removed-of, remove-inv, move-keeps}
 use Rattle.history.proofs.Checks.{found-name, no-name}
 use Rattle.history.proofs.Statuses.{sure-rename}
 use Rattle.history.proofs.Noted.{Answer, renamed-says, renaming-says, note-failed, note-ok, replace-new, replace-same, replace-over}
-use Rattle.history.proofs.Making.{directory-kind, directory-handle}
+use Rattle.history.proofs.Making.{line-none, directory-kind, directory-handle}
+use Rattle.history.proofs.Lines.{found-handle}
 use Rattle.history.proofs.Removing.{file-empty, directory-empty, child-in}
 
 -- name record n is moved from directory d to a name that directory e does not have
@@ -112,24 +113,15 @@ module _ (σ p q r : ℕ) (s : Store) (L : Ledger) (I : Inv σ p q r s L) (c : C
     up = clear (nameAt s n .child) e (child-in σ p q r s L I c clock d n text at) to-directory (w .outside)
 
     -- the handles of the two lines
-    child-handle : (m i : ℕ) (u : List ℕ) → view s .kind i ≡ 2 → At (view s) m i u
-        → handleUnder (handleIn σ (view s) i) u (L .book) ≡ some (handleIn σ (view s) (nameAt s m .child))
-    child-handle m i u k a =
-        handle-at p q σ (view s) (tree σ p q r s L I) (L .book) (I .agrees) i u k m a
-        ∙ ap (λ (x : ℕ). some (handleIn σ (view s) x)) (child-at s m (used-in s m (a .0)))
-
     first-line : handleUnder h text (L .book) ≡ some (handleIn σ (view s) (nameAt s n .child))
-    first-line = ap (λ (x : List ℕ). handleUnder x text (L .book)) (sym from-handle) ∙ child-handle n d text from-directory at
+    first-line = found-handle σ p q r s L I h text d (w .reached .below) (sym from-handle) n (w .found)
 
-    second-line : (m : ℕ) → At (view s) m e title → handleUnder g title (L .book) ≡ some (handleIn σ (view s) (nameAt s m .child))
-    second-line m a = ap (λ (x : List ℕ). handleUnder x title (L .book)) (sym to-handle) ∙ child-handle m e title to-directory a
+    second-line : (m : ℕ) → findName s e title ≡ some m → handleUnder g title (L .book) ≡ some (handleIn σ (view s) (nameAt s m .child))
+    second-line m f = found-handle σ p q r s L I g title e (w .target-reached .below) (sym to-handle) m f
 
     -- the new name is not there, so it has no line
     no-line : findName s e title ≡ none → someAt g title (L .book) ≡ false
-    no-line f =
-        ap (λ (x : List ℕ). someAt x title (L .book)) (sym to-handle)
-        ∙ none-at p q σ (view s) (tree σ p q r s L I) (L .book) (I .agrees) e title to-directory
-        (ap (λ (x : ℕ). entriesAt x (view s) e title) (sym (I .nams)) ∙ no-name s (I .valid .good-names) e title f)
+    no-line f = line-none σ p q r s L I g title e to-directory (sym to-handle) (no-name s (I .valid .good-names) e title f)
 
     new-owes : findName s e title ≡ none → Owes σ p q r s (moveEdit s c d e n title) (replace h text g title L)
     new-owes f =
@@ -140,10 +132,9 @@ module _ (σ p q r : ℕ) (s : Store) (L : Ledger) (I : Inv σ p q r s L) (c : C
     -- the new name is one of the same object's
     same-owes : (m : ℕ) → findName s e title ≡ some m → nameAt s m .child ≡ nameAt s n .child → Owes σ p q r s s (replace h text g title L)
     same-owes m f is =
-        let a = found-name s (I .valid .good-names) e title m f .1 in
         subst (Owes σ p q r s s)
         (sym (replace-same h text g title L (handleIn σ (view s) (nameAt s n .child)) first-line
-        (second-line m a ∙ ap (λ (x : ℕ). some (handleIn σ (view s) x)) is)))
+        (second-line m f ∙ ap (λ (x : ℕ). some (handleIn σ (view s) x)) is)))
         (keeps-refl σ p q r s L I .owes)
 
     -- two objects have two handles
@@ -199,7 +190,7 @@ module _ (σ p q r : ℕ) (s : Store) (L : Ledger) (I : Inv σ p q r s L) (c : C
         let struck : M ≡ strike g title L =
         λ i. record { book = strikeLines ((ap (handleIn σ (view s)) (a .1) ∙ to-handle) i) (a .2 i) (L .book); given = L .given } in (
           subst (Owes σ p q r s (moveEdit u c d e n title))
-              (ap (move h text g title) struck ∙ sym (replace-over h text g title L _ _ first-line (second-line m a) (two-handles m x)))
+              (ap (move h text g title) struck ∙ sym (replace-over h text g title L _ _ first-line (second-line m (x .found)) (two-handles m x)))
               (owes-trans σ p q r s u (moveEdit u c d e n title) M (move h text g title M) first second),
           omega (arith, away .obj .gen, second .grew .older gone),
         )
@@ -227,8 +218,7 @@ module _ (σ p q r : ℕ) (s : Store) (L : Ledger) (I : Inv σ p q r s L) (c : C
     second-handle : (t : Onto) → RenamePassed s h text g title d e n t → (m : ℕ) → findName s e title ≡ some m
         → k ≡ handleIn σ (view s) (nameAt s m .child)
     second-handle t w m f =
-        let z = sym second ∙ second-line h text g title hb gb tb d e n t w m (found-name s (I .valid .good-names) e title m f .1) in
-        cc
+        let z = sym second ∙ second-line h text g title hb gb tb d e n t w m f in cc
 
     -- two handles: the generation of the second's object is past it
     pub over-older : j ≢ k → (t : Onto) → RenamePassed s h text g title d e n t
