@@ -4,6 +4,7 @@ use mathlib.Core.Path.{_≡_, sym, ap, _∙_}
 use mathlib.Core.List.{List}
 use native.Mathlib.Omega.{arith}
 use lib.ListN.{length}
+use Rattle.kinds.specs.Numbers.{mostNameBytes}
 use Rattle.kinds.specs.declared.numbers.NameNumber.{NameNumber}
 use Rattle.kinds.specs.declared.numbers.ObjectNumber.{ObjectNumber}
 use Rattle.kinds.specs.declared.object.Before.{Before}
@@ -18,9 +19,9 @@ use Rattle.spec.specs.Procedures.{cut, act}
 use Rattle.spec.specs.Procedures.Names.{touchDirectory}
 use Rattle.spec.specs.Procedures.Removal.{checkRemove, checkRmdir, removeFrom, remove, rmdir, Onto, newName, sameObject, replacing, checkRename, renameEdit}
 use Rattle.spec.specs.Procedures.Removal.{rename}
-use Rattle.laws.proofs.ActGood.{replaced, act-good}
+use Rattle.laws.proofs.ActGood.{movable, replaced, act-good}
 use Rattle.laws.proofs.Bytes.{part-length}
-use Rattle.laws.proofs.GoodRecords.{GoodRecords, StillGood, GoodClock, used-at}
+use Rattle.laws.proofs.GoodRecords.{GoodRecords, StillGood, GoodClock}
 use Rattle.laws.proofs.Passed.{EntryPassed, remove-passed, rmdir-passed, RenamePassed, rename-passed, found-record}
 use Rattle.laws.proofs.Range.{Below}
 use Rattle.laws.proofs.Valid.{Valid}
@@ -54,7 +55,8 @@ pub record Removing (s : Store) (c : Context) (d n : ℕ) : Type 0 where
 pub record Renaming (s : Store) (c : Context) (d e n size : ℕ) (t : Onto) (title : List ℕ) : Type 0 where
   pub directory : d < objects s
   pub target : e < objects s
-  pub at : RenamableAt s d e n size t
+  pub at : RenamableAt s d e n t
+  pub short : size ≤ mostNameBytes
   pub still : StillGood s (renameEdit s c d e n t title)
 
 entry-at : (s : Store) (h text : List ℕ) (d n : ℕ) → EntryPassed s h text d n → RemovableAt s d n
@@ -79,31 +81,13 @@ module _ (s : Store) (c : Context) (v : Valid s) (g : GoodRecords s) (k : GoodCl
         still = rw e at (act-good s c v (g .sound .bytes) k call (Arguments.Rmdir p) w tt);
       }
 
-  renamable-at : (h text j title : List ℕ) (d e n size : ℕ) (t : Onto) → size ≤ 32 → RenamePassed s h text j title d e n t → RenamableAt s d e n size t
-  renamable-at h text j title d e n size newName short y =
-      let r = found-record s d text n (y .found) in
-      record {
-        directory = y .reached .below;
-        target = y .target-reached .below;
-        name = r .0;
-        child = used-at s g n (r .0) (r .1) .0;
-        short = short;
-      }
-  renamable-at h text j title d e n size sameObject short y = tt
-  renamable-at h text j title d e n size (replacing m) short y =
+  renamable-at : (h text j title : List ℕ) (d e n : ℕ) (t : Onto) → RenamePassed s h text j title d e n t → RenamableAt s d e n t
+  renamable-at h text j title d e n newName y = movable s c v (g .sound .bytes) k h text j title d e n newName y
+  renamable-at h text j title d e n sameObject y = tt
+  renamable-at h text j title d e n (replacing m) y =
       let (r, x) = replaced s c v (g .sound .bytes) k h text j title d e n m y in
       let w = found-record s e title m (y .target .found) in
-      record {
-        removable = record { directory = y .target-reached .below; name = w .0; used = w .1 };
-        good = r .good;
-        movable = record {
-          directory = x .below;
-          target = x .beyond;
-          name = x .name;
-          child = used-at (removeObject s m) (r .good) n (x .name) (x .used) .0;
-          short = short;
-        };
-      }
+      record { name = w .0; used = w .1; good = r .good; movable = x }
 
   renaming : (q : NameIn) (d e n : ℕ) (t : Onto) → q .name .start + q .name .length ≤ length call
       → checkRename s (cut call (p .directory)) (cut call (p .name)) (cut call (q .directory)) (cut call (q .name)) ≡ passed (d, e, n, t)
@@ -114,8 +98,8 @@ module _ (s : Store) (c : Context) (v : Valid s) (g : GoodRecords s) (k : GoodCl
       record {
         directory = y .reached .below;
         target = y .target-reached .below;
-        at = renamable-at (cut call (p .directory)) (cut call (p .name)) (cut call (q .directory)) (cut call (q .name)) d e n (q .name .length) t
-            (omega (arith, y .target-good .short, part-length call (q .name .start) (q .name .length) fits)) y;
+        at = renamable-at (cut call (p .directory)) (cut call (p .name)) (cut call (q .directory)) (cut call (q .name)) d e n t y;
+        short = omega (arith, y .target-good .short, part-length call (q .name .start) (q .name .length) fits);
         still = rw x at (act-good s c v (g .sound .bytes) k call (Arguments.Rename p q) w tt);
       }
 

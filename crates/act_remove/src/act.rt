@@ -2,6 +2,7 @@
 ghost use mathlib.Core.Path.{_≡_};
 ghost use Prim.Native.Nat.{_+_, _<_, _≤_};
 ghost use lib.ListN.{length};
+ghost use Rattle.kinds.specs.Numbers.{mostNameBytes};
 ghost use Rattle.spec.specs.Edits.{removeObject};
 ghost use Rattle.spec.specs.Image.{objects};
 ghost use Rattle.spec.specs.Procedures.{cut};
@@ -117,7 +118,8 @@ fn rename_entry(
     requires { ⌜ GoodRecords (now store) ⌝ }
     requires { ⌜ d .0 < objects (now store) ⌝ }
     requires { ⌜ e .0 < objects (now store) ⌝ }
-    requires { ⌜ RenamableAt (now store) (d .0) (e .0) (n .0) (name .length) (ontoOf onto) ⌝ }
+    requires { ⌜ RenamableAt (now store) (d .0) (e .0) (n .0) (ontoOf onto) ⌝ }
+    requires { ⌜ name .length ≤ mostNameBytes ⌝ }
     requires { ⌜ name .start + name .length ≤ length (now call) ⌝ }
     requires { ⌜ StillGood (now store) (renameEdit (now store) context (d .0) (e .0) (n .0) (ontoOf onto) (cut (now call) name)) ⌝ }
     ensures { λ r. ⌜ Does (renamedTo (now (store .entry)) (d .0) (e .0) (renameEdit (now (store .entry)) context (d .0) (e .0) (n .0) (ontoOf onto) (cut (now (call .entry)) name))) r (now (store .exit)) ⌝ }

@@ -3,14 +3,16 @@ ghost use mathlib.Core.Path.{_≡_};
 ghost use Prim.Native.Nat.{_+_, _≤_};
 ghost use lib.ListN.{length};
 ghost use Rattle.kinds.specs.Layout.{objectLength};
+ghost use Rattle.kinds.specs.Numbers.{mostNameBytes};
 ghost use Rattle.spec.specs.Edits.{setAttributes, mtimeAndCtime, removeObject};
 ghost use Rattle.spec.specs.Image.{objectStart};
 ghost use Rattle.spec.specs.Procedures.{cut};
 ghost use Rattle.spec.specs.Procedures.Names.{touchDirectory};
 ghost use Rattle.spec.specs.Procedures.Removal.{moveEdit, renameEdit};
+ghost use Rattle.laws.proofs.ActGood.{Movable};
 ghost use Rattle.laws.proofs.GoodRecords.{GoodRecords};
 ghost use Rattle.check_rename.specs.Meaning.{ontoOf};
-ghost use Rattle.edit_entries.specs.Records.{RemovableAt, MovableAt, RenamableAt};
+ghost use Rattle.edit_entries.specs.Records.{RemovableAt, RenamableAt};
 use check_rename::Onto;
 use check_settable::only_ctime;
 use edit_attributes::set_attributes;
@@ -54,7 +56,8 @@ fn move_edit(
     name: Part,
 )
     requires { ⌜ GoodRecords (now store) ⌝ }
-    requires { ⌜ MovableAt (now store) (source .0) (target .0) (n .0) (name .length) ⌝ }
+    requires { ⌜ Movable (now store) (source .0) (target .0) (n .0) ⌝ }
+    requires { ⌜ name .length ≤ mostNameBytes ⌝ }
     requires { ⌜ name .start + name .length ≤ length (now call) ⌝ }
     ensures { λ _. ⌜ now (store .exit) ≡ moveEdit (now (store .entry)) context (source .0) (target .0) (n .0) (cut (now (call .entry)) name) ⌝ }
 {
@@ -78,7 +81,8 @@ pub fn rename_edit(
     name: Part,
 )
     requires { ⌜ GoodRecords (now store) ⌝ }
-    requires { ⌜ RenamableAt (now store) (source .0) (target .0) (n .0) (name .length) (ontoOf onto) ⌝ }
+    requires { ⌜ RenamableAt (now store) (source .0) (target .0) (n .0) (ontoOf onto) ⌝ }
+    requires { ⌜ name .length ≤ mostNameBytes ⌝ }
     requires { ⌜ name .start + name .length ≤ length (now call) ⌝ }
     ensures { λ _. ⌜ now (store .exit) ≡ renameEdit (now (store .entry)) context (source .0) (target .0) (n .0) (ontoOf onto) (cut (now (call .entry)) name) ⌝ }
 {

@@ -315,7 +315,7 @@ module _ (s : Store) (c : Context) (v : Valid s) (b : Below 256 s) (k : GoodCloc
   rmdir-good h text = removal h (checkRmdir s h text) (λ p e. removed-directory h text (p .0) (p .1) (rmdir-passed s h text p e))
 
   -- ---- RENAME
-  movable : (h text j title : List ℕ) (d e n : ℕ) (t : Onto) → RenamePassed s h text j title d e n t → Movable s d e n
+  pub movable : (h text j title : List ℕ) (d e n : ℕ) (t : Onto) → RenamePassed s h text j title d e n t → Movable s d e n
   movable h text j title d e n t p =
       let (l, u, i, q) = found-record s d text n (p .found) in
       record {

@@ -1,6 +1,7 @@
 use native.Mathlib.Omega.{arith}
 use borrow.Author.Needs.{needs}
 use Rattle.spec.specs.Procedures.Removal.{moveEdit}
+use Rattle.laws.proofs.GoodRecords.{used-at}
 use Rattle.edit_entries.proofs.move_edit.Statement.{statement}
 use Rattle.edit_entries.proofs.move_edit.Tie as tie
 
@@ -9,13 +10,17 @@ name-child-requires c κs = search needs
 
 move-name-requires : tie.Need-move-name-requires
 move-name-requires c κs =
-    let pre = c .before .before .before .before .before .before .pre in (pre .0, (pre .1 .0 .name, (pre .1 .0 .target, (pre .1 .1, pre .1 .0 .short))))
+    let pre = c .before .before .before .before .before .before .pre in (pre .0, (pre .1 .0 .name, (pre .1 .0 .beyond, (pre .1 .1 .1, pre .1 .1 .0))))
 
 only-ctime-requires : tie.Need-only-ctime-requires
 only-ctime-requires c κs = search needs
 
 set-attributes-requires : tie.Need-set-attributes-requires
-set-attributes-requires c κs = search needs
+set-attributes-requires c κs =
+    let start = c .before .before .before .before .before .before .before .before .before .before .before in
+    let w = start .pre .0 .sound .shaped in
+    let child = used-at (start .args .store .now) (start .pre .0) (start .args .n .0) (start .pre .1 .0 .name) (start .pre .1 .0 .used) .0 in
+    omega (arith, c .before .before .before .before .before .before .name-child .ensures)
 
 touch-directory-requires : tie.Need-touch-directory-requires
 touch-directory-requires c κs = search needs
@@ -25,7 +30,7 @@ touch-directory-requires-2 c κs =
     let after-move-name = c .before .before .before .before .before .before .before .before .before .before .before .before in
     let start = after-move-name .before .before .before .before .before .before .before in
     let w = start .pre .0 .sound .shaped in
-    let l = start .pre .1 .0 .target in
+    let l = start .pre .1 .0 .beyond in
     omega arith
 
 same-length : tie.Need-same-length

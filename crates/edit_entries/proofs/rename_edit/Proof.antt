@@ -20,7 +20,7 @@ remove-object-requires : tie.Need-remove-object-requires
 remove-object-requires c κs =
     let start = c .before .before .before .before .before .before in
     let k = rw (c .before .before .onto .given .1) at (start .pre .1 .0) in
-    (start .pre .0, (k .removable .name, k .removable .used))
+    (start .pre .0, (k .name, k .used))
 
 move-edit-requires-2 : tie.Need-move-edit-requires-2
 move-edit-requires-2 c κs =

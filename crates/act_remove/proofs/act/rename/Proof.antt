@@ -19,7 +19,7 @@ rename-entry-requires c κs =
     let k = rename-found (a .store .now) (a .context) (st .pre .0) (st .pre .1 .0) (st .pre .1 .1 .0) (a .call .now)
     (λ i. c .before .before .before .before .before .before .before .before .before .shared-slice-known .given i .fits) (a .p) (a .q) fits _ _ _
     _ _ (c .before .before .checked .given .1) (c .before .before .before .before .check-rename .ensures) in
-    (st .pre .1 .0, (k .directory, (k .target, (k .at, (fits, k .still)))))
+    (st .pre .1 .0, (k .directory, (k .target, (k .at, (k .short, (fits, k .still))))))
 
 enum-known-checked-2 : tie.Need-enum-known-checked-2
 enum-known-checked-2 c = search needs

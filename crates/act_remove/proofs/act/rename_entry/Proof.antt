@@ -18,7 +18,9 @@ before-requires-2 : tie.Need-before-requires-2
 before-requires-2 c κs = search needs
 
 rename-edit-requires : tie.Need-rename-edit-requires
-rename-edit-requires c κs = search needs
+rename-edit-requires c κs =
+    let pre = c .before .before .before .before .before .before .before .pre in
+    (pre .0, (pre .1 .1 .1 .0, (pre .1 .1 .1 .1 .0, pre .1 .1 .1 .1 .1 .0)))
 
 same-length : tie.Need-same-length
 same-length c = search needs
@@ -38,8 +40,8 @@ returns c =
           (c .before .before .rename-edit .last .0) (a .e) _ (c .before .before .before .before .before3 .ensures) e);
       store = e;
       writable = (
-        still-showable (a .store .now) _ _ (a .d .0) (st .pre .1 .1 .1 .1 .1) (st .pre .1 .0) e,
-        still-showable (a .store .now) _ _ (a .e .0) (st .pre .1 .1 .1 .1 .1) (st .pre .1 .1 .0) e,
+        still-showable (a .store .now) _ _ (a .d .0) (st .pre .1 .1 .1 .1 .1 .1) (st .pre .1 .0) e,
+        still-showable (a .store .now) _ _ (a .e .0) (st .pre .1 .1 .1 .1 .1 .1) (st .pre .1 .1 .0) e,
       );
     }
 
