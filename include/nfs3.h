@@ -72,7 +72,7 @@
  *    after a restart too, until a SETATTR of the file is answered OK. Keep its reply as well: hosts send that SETATTR at once.
  *    OTHERWISE: a host whose reply was lost is told EXIST for the lock file that it made itself, or NOENT for the file that it removed itself; a
  *    late WRITE undoes a newer one; a REMOVE that was answered NOENT, sent again, removes a file that was made since; and a RENAME that was
- *    answered OK, sent again, removes the file that it has put in its place, if a new one has the first name by then, and puts that there.
+ *    answered OK, sent again when a new file has the first name, removes the file that it moved and puts the new one in its place.
  *
  * 6. Calling. Lend the whole store and a reply space of NFS3_REPLY_SPACE bytes. Seconds are those since 1970, as 32 bits without a sign; where
  *    the clock is before 1970 or after 2106, stop. Nanoseconds are below NFS3_NANOSECONDS. FSINFO tells hosts 1 nanosecond, so the time is finer
