@@ -3,8 +3,9 @@
 //! The check makes one pass over the object records and one over the name
 //! records. It never compares records in pairs: block numbers are marked in a
 //! map with one byte for each block, and names are entered in a small hash
-//! table under their directory and text. A call keeps these maps, so that a
-//! procedure looks up names, parents and free blocks without another pass.
+//! table under their directory and text, which finds equal ones. A call keeps
+//! what the check learns, so that a procedure knows parents and free blocks
+//! without another pass.
 
 use crate::layout::*;
 use crate::name::Text;
@@ -31,11 +32,11 @@ pub struct Survey {
     records: [u8; MAX_OBJECTS],
     /// The lowest free name record, or the count of names if there is none.
     first_free_name: usize,
+    /// One past the last used name record.
+    names_end: usize,
     /// One byte for each block: 1 if a file has it, otherwise 0.
     used: [u8; MAX_BLOCKS],
     used_blocks: usize,
-    /// Under each hash an object number plus 1, or 0 in an empty slot.
-    slots: [u8; SLOTS],
 }
 
 impl Default for Survey {
@@ -57,9 +58,9 @@ impl Survey {
             parents: [0; MAX_OBJECTS],
             records: [0; MAX_OBJECTS],
             first_free_name: 0,
+            names_end: 0,
             used: [0; MAX_BLOCKS],
             used_blocks: 0,
-            slots: [0; SLOTS],
         }
     }
 
@@ -136,8 +137,11 @@ impl Survey {
     /// The pass over the name records.
     fn names(&mut self, section: &[u8]) -> bool {
         let live = self.directories | self.files;
-        let mut first_free = self.shape.names;
+        let (mut first_free, mut names_end) = (self.shape.names, 0);
         let (mut named, mut occupied) = (0u64, 0u64);
+        // Under each hash the number of a name record plus 1, or 0 in an empty
+        // slot.
+        let mut slots = [0u8; SLOTS];
         let records = section.as_chunks::<NAME_BYTES>().0;
         for (number, record) in records.iter().enumerate() {
             let length = name_word(record, name_field::LENGTH);
@@ -169,18 +173,18 @@ impl Survey {
             self.parents[child as usize % MAX_OBJECTS] = directory as u8;
             self.records[child as usize % MAX_OBJECTS] = number as u8;
             let mut slot = slot_of(directory, &text);
-            while self.slots[slot] != 0 {
-                let other = self.records[(self.slots[slot] - 1) as usize % MAX_OBJECTS] as usize;
-                if name_word(&records[other], name_field::DIRECTORY) == directory
-                    && text_of(&records[other]) == text
-                {
+            while slots[slot] != 0 {
+                let other = &records[usize::from(slots[slot] - 1)];
+                if name_word(other, name_field::DIRECTORY) == directory && text_of(other) == text {
                     return false;
                 }
                 slot = (slot + 1) % SLOTS;
             }
-            self.slots[slot] = child as u8 + 1;
+            names_end = number + 1;
+            slots[slot] = names_end as u8;
         }
         self.first_free_name = first_free;
+        self.names_end = names_end;
         self.occupied = occupied;
         // Every live object but the root is named once, the root never.
         named == live & !1
@@ -302,20 +306,11 @@ impl Survey {
         count
     }
 
-    /// The object of this name in the directory.
-    pub fn find(&self, store: &[u8], directory: Object, text: &Text) -> Option<Object> {
-        let number = directory.0 as u32;
-        let mut slot = slot_of(number, text);
-        while self.slots[slot] != 0 {
-            let child = Object(usize::from(self.slots[slot] - 1));
-            let at = self.shape.name_at(self.record_of(child));
-            let (record, _) = store[at..].split_first_chunk::<NAME_BYTES>()?;
-            if name_word(record, name_field::DIRECTORY) == number && text_of(record) == *text {
-                return Some(child);
-            }
-            slot = (slot + 1) % SLOTS;
-        }
-        None
+    /// The name records of the store as it was checked, up to the last used one.
+    #[inline]
+    pub fn name_records<'s>(&self, store: &'s [u8]) -> &'s [[u8; NAME_BYTES]] {
+        let section = &store[self.shape.name_count_at() + 4..];
+        &section.as_chunks::<NAME_BYTES>().0[..self.names_end]
     }
 }
 
@@ -398,7 +393,7 @@ fn text_of(record: &[u8; NAME_BYTES]) -> Text {
     }
 }
 
-/// The slot where the search for a name starts.
+/// The slot from which on a name is entered.
 #[inline(always)]
 fn slot_of(directory: u32, text: &Text) -> usize {
     (text.hash(directory) >> 55) as usize % SLOTS

@@ -18,6 +18,7 @@ pub mod old_check;
 mod procedures;
 mod reply;
 mod rpc;
+mod search;
 mod volume;
 mod xdr;
 
@@ -28,6 +29,7 @@ use rpc::Header;
 pub use convert::convert;
 pub use format::format;
 pub use reply::REPLY_SPACE;
+pub use search::{search, Search};
 
 /// The longest call.
 pub const MAX_CALL: usize = 8192;

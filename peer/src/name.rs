@@ -1,7 +1,7 @@
 //! Names as four 64-bit numbers, the first byte lowest, zeros after the end.
 //!
-//! A name has at most 32 bytes, so it fits these numbers; tests and
-//! comparisons look at eight bytes at a time.
+//! A name has at most 32 bytes, so it fits these numbers; the tests of names
+//! and the check's comparison look at eight bytes at a time.
 
 use crate::layout::MAX_NAME;
 

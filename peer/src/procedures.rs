@@ -229,7 +229,7 @@ fn lookup(reader: &mut Reader<'_>, volume: &Volume<'_>, reply: &mut Reply<'_>) -
         } else if text.is_dot_dot() {
             volume.survey.parent(directory)
         } else {
-            volume.find(directory, &text).ok_or(Status::NOENT)?
+            volume.find(directory, place.name).ok_or(Status::NOENT)?
         };
         Ok((directory, child))
     });
@@ -351,7 +351,7 @@ fn create(reader: &mut Reader<'_>, volume: &mut Volume<'_>, reply: &mut Reply<'_
         want_directory(volume, directory)?;
         let text = want_name(place.name)?;
         refuse_dots(&text, Status::EXIST)?;
-        let existing = volume.find(directory, &text);
+        let existing = volume.find(directory, place.name);
         match &how {
             How::Unchecked(wanted) | How::Guarded(wanted) => {
                 if !wanted.valid() {
@@ -422,7 +422,7 @@ fn mkdir(reader: &mut Reader<'_>, volume: &mut Volume<'_>, reply: &mut Reply<'_>
         if !wanted.valid() || wanted.size.is_some() {
             return Err(Status::INVAL);
         }
-        if volume.find(directory, &text).is_some() {
+        if volume.find(directory, place.name).is_some() {
             return Err(Status::EXIST);
         }
         let made = volume.add(directory, place.name, DIRECTORY, 0)?;
@@ -461,7 +461,7 @@ fn remove(reader: &mut Reader<'_>, volume: &mut Volume<'_>, reply: &mut Reply<'_
         want_directory(volume, directory)?;
         let text = want_name(place.name)?;
         refuse_dots(&text, Status::ACCES)?;
-        let found = volume.find(directory, &text).ok_or(Status::NOENT)?;
+        let found = volume.find(directory, place.name).ok_or(Status::NOENT)?;
         if volume.survey.is_directory(found) {
             return Err(Status::ACCES);
         }
@@ -481,7 +481,7 @@ fn rmdir(reader: &mut Reader<'_>, volume: &mut Volume<'_>, reply: &mut Reply<'_>
         want_directory(volume, directory)?;
         let text = want_name(place.name)?;
         refuse_dots(&text, Status::INVAL)?;
-        let found = volume.find(directory, &text).ok_or(Status::NOENT)?;
+        let found = volume.find(directory, place.name).ok_or(Status::NOENT)?;
         want_directory(volume, found)?;
         if volume.survey.is_occupied(found) {
             return Err(Status::NOTEMPTY);
@@ -526,7 +526,7 @@ fn try_rename(
     let new_text = want_name(new_name)?;
     refuse_dots(&old_text, Status::INVAL)?;
     refuse_dots(&new_text, Status::INVAL)?;
-    let object = volume.find(from, &old_text).ok_or(Status::NOENT)?;
+    let object = volume.find(from, old_name).ok_or(Status::NOENT)?;
     // The second directory and all that hold it, up to the root. The moved
     // object is never the root. A file is none of these.
     let mut above = to;
@@ -536,7 +536,7 @@ fn try_rename(
         }
         above = volume.survey.parent(above);
     }
-    if let Some(target) = volume.find(to, &new_text) {
+    if let Some(target) = volume.find(to, new_name) {
         if target == object {
             return Ok(());
         }

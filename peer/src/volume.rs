@@ -2,7 +2,7 @@
 
 use crate::check::Survey;
 use crate::layout::*;
-use crate::name::Text;
+use crate::search::search_records;
 
 /// A checked store with its survey and the caller's clock.
 pub struct Volume<'a> {
@@ -130,8 +130,10 @@ impl<'a> Volume<'a> {
     }
 
     /// The object of this name in the directory.
-    pub fn find(&self, directory: Object, text: &Text) -> Option<Object> {
-        self.survey.find(self.store, directory, text)
+    pub fn find(&self, directory: Object, name: &[u8]) -> Option<Object> {
+        let records = self.survey.name_records(self.store);
+        let found = search_records(records, directory.0 as u32, name).found?;
+        Some(Object(word(&records[found], name_field::CHILD) as usize))
     }
 
     /// The block in a place that a file uses.

@@ -172,9 +172,9 @@ fn file_over_file_in_one_directory() {
         let mut lane = Lane::new(4, 3, 5);
         let format = (1000, 1);
         let mut made = [(0, 0); 2];
-        for turn in 0..2 {
+        for (turn, clock) in made.iter_mut().enumerate() {
             lane.tick();
-            made[turn] = lane.clock();
+            *clock = lane.clock();
             if (turn == 0) == moved_first {
                 let file = lane.create(&root(), b"from");
                 assert_eq!(lane.write(&file, 0, &[0xAA; 600]), status::OK);

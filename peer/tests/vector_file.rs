@@ -1,9 +1,10 @@
-//! The vector file: what it reaches, and its replay on the peer.
+//! The vector file and the file of searches: what they reach, and their replay
+//! on the peer.
 
 use peer::generator::driver::{Call, Format};
-use peer::generator::recorder::record;
+use peer::generator::recorder::{record, record_searches};
 use peer::generator::vector_file::{digest, replay, Own, Subject};
-use peer::Answer;
+use peer::{Answer, Search};
 
 #[test]
 fn digest_of_known_bytes() {
@@ -19,13 +20,38 @@ fn digest_of_known_bytes() {
 #[test]
 fn reach_and_replay() {
     let recording = record();
-    assert!(recording.vectors.len() <= 4_000_000);
+    assert!(recording.file.len() <= 4_000_000);
     assert!(recording.digested <= 300_000_000);
     assert_eq!(recording.coverage.missing(), Vec::<String>::new());
     assert_eq!(recording.coverage.unexpected(), Vec::<String>::new());
-    let (text, differences) = replay(&recording.vectors, &mut Own).unwrap();
+    let (text, differences) = replay(&recording.file, &mut Own).unwrap();
     assert_eq!(differences, 0);
-    assert_eq!(text, recording.stdout);
+    assert_eq!(text, recording.stdout.as_bytes());
+    assert_eq!(recording.stdout.lines().count(), 1);
+    assert!(recording.stdout.contains(", 0 searches, "));
+}
+
+#[test]
+fn searches_reach_and_replay() {
+    let recording = record_searches();
+    assert!(recording.file.len() <= 1_500_000);
+    assert!(recording.digested <= 300_000_000);
+    assert_eq!(recording.coverage.missing_searches(), Vec::<String>::new());
+    assert_eq!(recording.coverage.unexpected(), Vec::<String>::new());
+    let (text, differences) = replay(&recording.file, &mut Own).unwrap();
+    assert_eq!(differences, 0);
+    assert_eq!(text, recording.stdout.as_bytes());
+    // The table in plain English, then the last line.
+    let lines: Vec<&str> = recording.stdout.lines().collect();
+    assert!(recording.stdout.is_ascii());
+    assert!(lines.iter().all(|line| line.len() < 120));
+    let searches = lines.iter().filter(|line| line.ends_with(" pairs"));
+    assert!(searches.count() >= 80);
+    assert!(lines[lines.len() - 1].starts_with("total: "));
+    let tag = "  match in the last record, 0123456780 in directory 2: record 8, 21 pairs";
+    assert!(lines.contains(&tag));
+    // It is the same each time.
+    assert!(record_searches().file == recording.file);
 }
 
 /// Where the first row of this tag and this word starts, after `from`.
@@ -45,7 +71,7 @@ fn row_at(file: &[u8], from: usize, tag: u8, word: Option<u32>) -> usize {
 
 #[test]
 fn replay_finds_altered_files() {
-    let file = record().vectors;
+    let file = record().file;
     let altered = |at: usize, with: u8| {
         let mut file = file.clone();
         file[at] ^= with;
@@ -78,11 +104,11 @@ fn replay_finds_altered_files() {
     // lent than there is; bytes outside of what is lent; a wrong count of runs.
     let number = row_at(&file, middle, 4, None);
     for (at, with) in [
-        (number, 4 ^ 13),
-        (length, 64 ^ 67),
-        (reply, 130 ^ 132),
-        (number, 4 ^ 194),
-        (call, 226 ^ 228),
+        (number, 4 ^ 14),
+        (length, 64 ^ 68),
+        (reply, 130 ^ 133),
+        (number, 4 ^ 195),
+        (call, 226 ^ 229),
         (row_at(&file, middle, 192, None) + 4, 1),
         (row_at(&file, middle, 0, None) + 1, 1),
         (row_at(&file, middle, 1, None) + 2, 1),
@@ -96,6 +122,135 @@ fn replay_finds_altered_files() {
     for cut in [1, 5, middle] {
         assert!(replay(&file[..file.len() - cut], &mut Own).is_none());
     }
+}
+
+#[test]
+fn replay_finds_altered_searches() {
+    let file = record_searches().file;
+    let altered = |at: usize, with: u8| {
+        let mut file = file.clone();
+        file[at] ^= with;
+        replay(&file, &mut Own).map(|(_, differences)| differences)
+    };
+    let middle = file.len() / 2;
+    let none = row_at(&file, middle, 228, Some(0));
+    let found = row_at(&file, middle, 228, Some(1));
+    let pairs = row_at(&file, middle, 67, None);
+    // The name of three bytes is searched twice, at first without being there.
+    let name = row_at(&file, row_at(&file, 0, 129, Some(3)), 129, Some(3));
+    // A record that is not found, none or another where one is; the count of
+    // pairs; a byte of a name; a directory; what stays of the store and reply.
+    for (at, with) in [
+        (none + 4, 1),
+        (found + 4, 1),
+        (found + 4, 3),
+        (pairs + 4, 1),
+        (name + 5, 0x80),
+        (row_at(&file, 0, 13, Some(1)) + 4, 1),
+        (row_at(&file, middle, 64, Some(0)) + 4, 1),
+        (row_at(&file, middle, 66, None) + 4, 1),
+    ] {
+        assert!(altered(at, with).unwrap() > 0, "row at {at}");
+    }
+    // A text is printed as it stands and makes no difference.
+    let text = row_at(&file, 0, 132, None);
+    assert_eq!(altered(text + 5, 0x80), Some(0));
+    // A text over 160 bytes, a wrong word to print a search, and a search in a
+    // store that fails its check.
+    let show = row_at(&file, 0, 194, None);
+    for (at, with) in [(text + 3, 1), (text + 4, 0xF0), (show + 4, 1)] {
+        assert_eq!(altered(at, with), None, "row at {at}");
+    }
+    let mut spoiled = file[..found].to_vec();
+    spoiled.extend([3, 0, 0, 0, 0, 128, 0, 0, 0, 4, 0, 0, 0, 9]);
+    spoiled.extend(&file[found..]);
+    assert!(replay(&spoiled, &mut Own).is_none());
+}
+
+/// Row by row: the texts are at most 160 bytes, each printed search has its own
+/// text, and each store is checked before it is searched.
+#[test]
+fn rows_of_the_searches() {
+    let file = record_searches().file;
+    let (mut at, mut checked, mut texts, mut shown, mut searches) = (0, false, 0, 0, 0);
+    let mut searched_since_text = 0;
+    while at < file.len() {
+        let word = u32::from_be_bytes(file[at + 1..at + 5].try_into().unwrap());
+        let tag = file[at];
+        at += 5;
+        if (128..192).contains(&tag) {
+            at += word as usize;
+        }
+        match tag {
+            132 => {
+                assert!(word <= 160);
+                texts += 1;
+                searched_since_text = 0;
+            }
+            194 => {
+                assert_eq!((word, searched_since_text), (0, 1));
+                shown += 1;
+            }
+            225 => {
+                assert_eq!(word, 0);
+                checked = true;
+            }
+            228 => {
+                assert!(checked);
+                searches += 1;
+                searched_since_text += 1;
+            }
+            128 | 192 => checked = false,
+            227 => panic!("a conversion"),
+            _ => {}
+        }
+    }
+    assert!(shown >= 80 && texts > shown && searches >= 12_000 + shown);
+}
+
+/// Finds as the peer does, but counts one pair too many in one search, and in
+/// another finds nothing.
+struct Miscounting {
+    searches: usize,
+}
+
+impl Subject for Miscounting {
+    fn format(&mut self, store: &mut [u8], plan: &Format) -> Answer {
+        Own.format(store, plan)
+    }
+
+    fn check(&mut self, store: &[u8]) -> Answer {
+        Own.check(store)
+    }
+
+    fn call(&mut self, store: &mut [u8], call: &Call<'_>, reply: &mut [u8]) -> Answer {
+        Own.call(store, call, reply)
+    }
+
+    fn convert(&mut self, old: &[u8], store: &mut [u8]) -> Answer {
+        Own.convert(old, store)
+    }
+
+    fn search(&mut self, store: &[u8], directory: u32, name: &[u8]) -> Option<Search> {
+        let mut search = Own.search(store, directory, name)?;
+        self.searches += 1;
+        search.compared += u32::from(self.searches == 3);
+        search.found = search.found.filter(|_| self.searches != 2);
+        Some(search)
+    }
+}
+
+#[test]
+fn replay_finds_a_miscounted_search() {
+    let recording = record_searches();
+    let mut subject = Miscounting { searches: 0 };
+    let (text, differences) = replay(&recording.file, &mut subject).unwrap();
+    // The count is compared after the LOOKUP behind the search, too.
+    assert_eq!(differences, 3);
+    let text = String::from_utf8(text).unwrap();
+    assert!(text.contains("  one name, found, tag in directory 0: no record, 3 pairs\n"));
+    assert!(text.contains("tags in directory 0: no record, 1 pairs\n"));
+    assert!(text.ends_with(" searches, 3 differences\n"));
 }
 
 /// Changes the outcome of a call: store, reply space, answer.
@@ -164,7 +319,7 @@ fn replay_finds_spoiled_calls() {
         calls: 0,
         conversions: 0,
     };
-    let (text, differences) = replay(&record().vectors, &mut subject).unwrap();
+    let (text, differences) = replay(&record().file, &mut subject).unwrap();
     assert!(differences >= 6);
-    assert!(text.ends_with(&format!("{differences} differences\n")));
+    assert!(text.ends_with(format!("{differences} differences\n").as_bytes()));
 }

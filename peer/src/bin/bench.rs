@@ -37,6 +37,7 @@ mod measuring {
     use peer::generator::old_images::old_image;
     use peer::generator::padding::{Padded, ARGUMENTS};
     use peer::layout::Shape;
+    use peer::numbers::Status;
     use peer::Answer;
 
     const STAMP: u32 = 7;
@@ -95,12 +96,13 @@ mod measuring {
             }
         }
 
-        /// Fails unless every call of the round is answered OK.
-        fn try_round(&mut self, calls: &[Vec<u8>]) {
+        /// Fails unless every call of the round is answered with the status.
+        fn try_round(&mut self, calls: &[Vec<u8>], wanted: Status) {
             for bytes in calls {
                 self.round(std::slice::from_ref(bytes));
                 let status = status_of(&self.reply);
-                assert_eq!(status, Some(0), "{}: a call fails", self.name);
+                let name = self.name;
+                assert_eq!(status, Some(wanted.0), "{name}: another status");
             }
         }
     }
@@ -157,12 +159,13 @@ mod measuring {
         other / one
     }
 
-    /// The times of both for the calls, made on the store again and again.
-    fn call_times(store: &[u8], calls: &[Vec<u8>]) -> (f64, f64) {
+    /// The times of both for the calls, made on the store again and again. Each
+    /// is answered with the status.
+    fn call_times(store: &[u8], calls: &[Vec<u8>], wanted: Status) -> (f64, f64) {
         let mut own = Side::new("peer", peer_call, store);
         let mut other = Side::new("library", library::call, store);
-        own.try_round(calls);
-        other.try_round(calls);
+        own.try_round(calls, wanted);
+        other.try_round(calls, wanted);
         best_of_both(|| own.round(calls), || other.round(calls))
     }
 
@@ -420,7 +423,7 @@ mod measuring {
             for request in &self.setup {
                 apply(&mut store, request);
             }
-            call_times(&store, &self.calls)
+            call_times(&store, &self.calls, Status::OK)
         }
     }
 
@@ -497,9 +500,29 @@ mod measuring {
         ]
     }
 
+    /// LOOKUPs in a full directory whose names of 32 bytes differ in one byte
+    /// only: of the name in the last record, and of one that is not there.
+    fn lookups(shape: Shape) -> Vec<(String, f64, f64)> {
+        let root = handle(STAMP, 0, 0);
+        let mut rows = Vec::new();
+        for (byte, at) in [("first", 0), ("last", 31)] {
+            let name_of = |number: usize| changed(&[b'-'; 32], &[(at, 0x30 + number)]);
+            let store = with_names(shape, &numbered(&mut |number| name_of(number)), 8192);
+            for (end, number, wanted) in [
+                ("found", FULL - 1, Status::OK),
+                ("NOENT", FULL, Status::NOENT),
+            ] {
+                let calls = [lookup(&root, &name_of(number)).call(77)];
+                let (peer, other) = call_times(&store, &calls, wanted);
+                rows.push((format!("LOOKUP, {byte} byte, {end}"), peer, other));
+            }
+        }
+        rows
+    }
+
     fn line(store: &str, operation: &str, peer: f64, library: f64) -> f64 {
         let ratio = library / peer;
-        println!("{store:<6} {operation:<18} {peer:>10.0} {library:>12.0} {ratio:>8.2}");
+        println!("{store:<6} {operation:<25} {peer:>10.0} {library:>12.0} {ratio:>8.2}");
         ratio
     }
 
@@ -530,13 +553,18 @@ mod measuring {
         ];
         let mut largest = 0f64;
         println!("Nanoseconds for one turn, the best of {REPETITIONS}; ratio is library / peer.");
-        println!("store  operation                peer      library    ratio");
+        println!("store  operation                       peer      library    ratio");
         for (label, shape, store) in &stores {
             let (peer, other) = check_times(store);
             largest = largest.max(line(label, "check", peer, other));
             for operation in operations(*shape == full) {
                 let (peer, other) = operation.times(store);
                 largest = largest.max(line(label, operation.name, peer, other));
+            }
+            if *shape == full {
+                for (name, peer, other) in lookups(full) {
+                    largest = largest.max(line(label, &name, peer, other));
+                }
             }
         }
         println!();
@@ -567,18 +595,18 @@ mod measuring {
         let (peer, other) = check_times(&store);
         println!();
         println!("62 directories one in another, and one that is moved into the innermost.");
-        println!("store  operation                peer      library    ratio");
+        println!("store  operation                       peer      library    ratio");
         line("deep", "check", peer, other);
         let root = handle(STAMP, 0, 0);
         let there = rename(&root, b"moved", &inner, b"moved").call(77);
         let back = rename(&inner, b"moved", &root, b"moved").call(77);
-        let (peer, other) = call_times(&store, &[there, back]);
+        let (peer, other) = call_times(&store, &[there, back], Status::OK);
         line("deep", "RENAME and back", peer, other);
         // The innermost is empty; the one that is moved takes its place.
         let outer = handle(STAMP, full.objects as u32 - 2, 0);
         let over = rename(&root, b"moved", &outer, b"inner").call(77);
         let anew = mkdir(&root, b"moved", Attributes::default()).call(77);
-        let (peer, other) = call_times(&store, &[over, anew]);
+        let (peer, other) = call_times(&store, &[over, anew], Status::OK);
         line("deep", "RENAME over, MKDIR", peer, other);
         println!();
         println!("How the check grows; half of the names are used, every object is live.");

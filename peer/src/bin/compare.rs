@@ -7,7 +7,8 @@
 //! The scripted runs come first, then random runs until N calls are made.
 //! `--run R` makes only that random run; `--show` prints each step before it
 //! is made. `--old-images` converts N old images, whole and damaged.
-//! `--replay` replays a vector file on the library.
+//! `--replay` replays a vector file on the library; the searches of a file are
+//! the peer's, through the stores that the library leaves.
 
 #[cfg(nfs3_library)]
 #[path = "shared/library.rs"]
@@ -31,6 +32,7 @@ fn main() -> std::process::ExitCode {
 mod comparison {
     use std::collections::BTreeMap;
     use std::fmt::Write as _;
+    use std::io::Write as _;
     use std::process::{exit, ExitCode};
     use std::time::Instant;
 
@@ -542,7 +544,10 @@ mod comparison {
         };
         match replay(&file, &mut Library) {
             Some((text, differences)) => {
-                print!("{text}");
+                if let Err(error) = std::io::stdout().write_all(&text) {
+                    eprintln!("compare: cannot print: {error}");
+                    return ExitCode::from(2);
+                }
                 if differences == 0 {
                     ExitCode::SUCCESS
                 } else {

@@ -7,6 +7,7 @@ use super::driver::Outcome;
 use super::lane::status_of;
 use super::random_runs::{meetings, RENAMES};
 use super::rules;
+use super::searches;
 use crate::arguments::{How, Place};
 use crate::numbers::{message, procedure, Status};
 use crate::rpc::{read_header, Header};
@@ -320,6 +321,37 @@ impl Coverage {
         missing
     }
 
+    /// How many things were noted in a group.
+    fn count(&self, group: &str) -> u64 {
+        let labels = self.notes.get(group);
+        labels.map_or(0, |labels| labels.values().sum())
+    }
+
+    /// What the file of searches should have reached and has not.
+    pub fn missing_searches(&self) -> Vec<String> {
+        let mut missing = Vec::new();
+        for &rule in rules::searches() {
+            if !self.noted(rules::SEARCH_GROUP, rule) {
+                missing.push(format!("rule of E4: {rule}"));
+            }
+        }
+        for kind in searches::kinds() {
+            if !self.noted(searches::SEEDED, &kind) {
+                missing.push(format!("seeded search: {kind}"));
+            }
+        }
+        for (group, least) in [
+            (searches::SEEDED, searches::LEAST_SEEDED),
+            (searches::STORES, searches::LEAST_STORES),
+        ] {
+            let count = self.count(group);
+            if count < least {
+                missing.push(format!("{group}: {count}, not {least}"));
+            }
+        }
+        missing
+    }
+
     /// Statuses that the papers do not give for their procedure.
     pub fn unexpected(&self) -> Vec<String> {
         let expected = expected_pairs();
@@ -391,6 +423,13 @@ impl Coverage {
                 self.conversions[number]
             ));
         }
+        text.push_str(&self.notes());
+        text
+    }
+
+    /// The tables of labels as text.
+    pub fn notes(&self) -> String {
+        let mut text = String::new();
         for (group, labels) in &self.notes {
             let _ = write!(text, "\n## {group}\n\n| what | times |\n|---|---:|\n");
             for (label, count) in labels {

@@ -1,6 +1,6 @@
 //! What a run does, and who carries it out.
 
-use crate::Answer;
+use crate::{Answer, Search};
 
 /// The arguments of a format besides the store.
 #[derive(Clone, Copy, PartialEq, Eq, Debug)]
@@ -50,6 +50,15 @@ pub trait Driver {
     /// Converts an old image; the store buffer is the target.
     fn convert(&mut self, old: &[u8]) -> Answer;
     fn store(&self) -> &[u8];
+    /// Searches a directory of the store, which passes its check.
+    fn search(&mut self, directory: u32, name: &[u8]) -> Search {
+        let search = crate::search(self.store(), directory, name);
+        search.expect("the store passes its check")
+    }
+    /// Lets a replay print a text.
+    fn print(&mut self, _text: &str) {}
+    /// Lets a replay print the last search.
+    fn print_search(&mut self) {}
     /// Counts one thing that a script is about to reach.
     fn note(&mut self, _group: &'static str, _label: &str) {}
 }

@@ -1,4 +1,4 @@
-//! Seeded runs of calls for the vector file and for comparing two
+//! Seeded runs of calls for the vector files and for comparing two
 //! implementations. Nothing here is used by the entry points.
 
 pub mod coverage;
@@ -12,5 +12,6 @@ pub mod random_runs;
 pub mod recorder;
 pub mod rules;
 pub mod scripts;
+pub mod searches;
 pub mod vector_file;
 pub mod view;

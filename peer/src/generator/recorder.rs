@@ -1,11 +1,13 @@
-//! The runs of the vector file, recorded with the peer's answers.
+//! The runs of the vector file and of the file of searches, recorded with the
+//! peer's answers.
 
 use super::coverage::Coverage;
 use super::driver::{Call, Driver, Format, Outcome, Peer};
 use super::random_runs::{self, Extent};
 use super::scripts::{self, Runs};
+use super::searches;
 use super::vector_file::{digest, Writer};
-use crate::Answer;
+use crate::{Answer, Search};
 
 const SEED: u64 = 1813;
 
@@ -33,6 +35,16 @@ impl Recorder {
     fn digest(&mut self) -> u64 {
         self.digested += self.peer.store.len() as u64;
         digest(&self.peer.store)
+    }
+
+    fn finish(self) -> Recording {
+        let (file, stdout) = self.writer.finish();
+        Recording {
+            file,
+            stdout,
+            coverage: self.coverage,
+            digested: self.digested,
+        }
     }
 }
 
@@ -83,14 +95,30 @@ impl Driver for Recorder {
         &self.peer.store
     }
 
+    fn search(&mut self, directory: u32, name: &[u8]) -> Search {
+        let search = crate::search(&self.peer.store, directory, name);
+        let search = search.expect("the store passes its check");
+        let digest = self.digest();
+        self.writer.search(directory, name, search, digest);
+        search
+    }
+
+    fn print(&mut self, text: &str) {
+        self.writer.print(text);
+    }
+
+    fn print_search(&mut self) {
+        self.writer.print_search();
+    }
+
     fn note(&mut self, group: &'static str, label: &str) {
         self.coverage.note(group, label);
     }
 }
 
-/// A finished vector file.
+/// A finished file.
 pub struct Recording {
-    pub vectors: Vec<u8>,
+    pub file: Vec<u8>,
     /// What a replay without differences prints.
     pub stdout: String,
     pub coverage: Coverage,
@@ -116,11 +144,16 @@ pub fn record() -> Recording {
         let number = runs.take_number();
         random_runs::raw_store_run(runs.driver, number, SEED);
     }
-    let (vectors, stdout) = recorder.writer.finish();
-    Recording {
-        vectors,
-        stdout,
-        coverage: recorder.coverage,
-        digested: recorder.digested,
-    }
+    recorder.finish()
+}
+
+/// Records every run of the file of searches.
+pub fn record_searches() -> Recording {
+    let mut recorder = Recorder::default();
+    let mut runs = Runs {
+        driver: &mut recorder,
+        next: 0,
+    };
+    searches::all(&mut runs, SEED);
+    recorder.finish()
 }

@@ -7,15 +7,18 @@ use crate::numbers::procedure;
 /// The group of labels for them.
 pub const GROUP: &str = "Rules of document 02";
 
+/// The group of labels for the rules of request E4.
+pub const SEARCH_GROUP: &str = "Rules of request E4";
+
 /// Gives each label its name, and lists them all.
 macro_rules! labels {
-    ($($name:ident = $label:literal;)*) => {
+    ($list:ident: $($name:ident = $label:literal;)*) => {
         $(pub const $name: &str = $label;)*
-        const LABELS: &[&str] = &[$($name),*];
+        const $list: &[&str] = &[$($name),*];
     };
 }
 
-labels! {
+labels! { LABELS:
     // A new file.
     NEW_FILE = "new: mode, ids and size 0, all times the clock";
     NEW_DIRECTORY = "new: the directory's times are set";
@@ -150,6 +153,55 @@ labels! {
     OVER_CLOCK = "rename: times from the clock of the call, earlier ones too";
 }
 
+// The rules of request E4, which the searches must show.
+labels! { SEARCH_LABELS:
+    // What one record costs.
+    LENGTHS_FIRST = "lengths differ: 0 pairs";
+    PREFIX = "one name begins with the other: 0 pairs";
+    LEADING_ZERO = "with and without a leading zero: 0 pairs";
+    FIRST_BYTE = "first bytes differ: 1 pair";
+    INNER_BYTE = "stops at the first pair that differs, later ones too";
+    LAST_BYTE = "last bytes differ: that pair counts, so the whole length";
+    WHOLE_NAME = "the match counts with its whole name";
+    ONE_BYTE = "names of 1 byte";
+    LONGEST = "names of 32 bytes";
+    // Which records cost something.
+    NO_RECORD = "a directory without names: 0 pairs";
+    BEFORE_MATCH = "all records of the directory before the match count";
+    AFTER_MATCH = "records after the match cost nothing";
+    NO_MATCH = "without a match all records of the directory count";
+    OTHER_DIRECTORIES = "records of other directories cost 0";
+    SAME_NAME = "the same name in another directory: not found, 0 pairs";
+    FREE_RECORDS = "free records cost 0, after REMOVE";
+    FREED_TARGET = "free records cost 0, after RENAME over a name";
+    MOVED_RECORD = "RENAME: the record counts in its new directory, not in the old one";
+    USED_AGAIN = "a free record used again counts in its place";
+    FULL_STORE = "a store without a free object or name";
+    LARGEST_STORE = "the largest store";
+    // Names and numbers that are in no record.
+    DOTS_NO_RECORD = "dots are in no record";
+    DOTS_NOT_SEARCHED = "LOOKUP answers dots, which no search finds";
+    EMPTY_NAME = "an empty name: 0 pairs, beside free records too";
+    LONG_NAME = "a name over 32 bytes: 0 pairs";
+    FILE_NUMBER = "the number of a file: 0 pairs";
+    FREE_NUMBER = "the number of a free object: 0 pairs";
+    BEYOND = "a number beyond the objects: 0 pairs";
+    // The procedures, whose answers are as before.
+    LOOKUP_FINDS = "LOOKUP answers the child of the record that is found";
+    LOOKUP_MISSES = "LOOKUP answers NOENT where none is found";
+    CREATE_FINDS = "CREATE: EXIST where a record is found, else made";
+    MKDIR_FINDS = "MKDIR: EXIST where a record is found, else made";
+    REMOVE_FINDS = "REMOVE: the record that is found becomes free, else NOENT";
+    RMDIR_FINDS = "RMDIR: the record that is found becomes free, else NOENT";
+    RENAME_FINDS = "RENAME: the record that is found moves, else NOENT";
+    NOTHING_CHANGES = "a search changes nothing in the store";
+}
+
+/// Every label of request E4.
+pub fn searches() -> &'static [&'static str] {
+    SEARCH_LABELS
+}
+
 /// The procedures that take a handle, but for those that are not served.
 const WITH_HANDLE: [u32; 16] = [
     procedure::GETATTR,
@@ -226,7 +278,7 @@ pub fn padding(number: u32, place: usize, count: usize, end: End) -> String {
     format!("padding of {count}: {field}, {end}")
 }
 
-/// Every label. A handle that has padding is never a good one.
+/// Every label but those of request E4. A handle that has padding is never a good one.
 pub fn all() -> Vec<String> {
     let mut labels: Vec<String> = LABELS.iter().map(|&label| label.to_owned()).collect();
     for count in 1..=3 {

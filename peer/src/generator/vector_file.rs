@@ -1,9 +1,9 @@
-//! The vector file: writing it, and replaying it on any implementation.
+//! Vector files: writing them, and replaying them on any implementation.
 
 use std::ops::Range;
 
 use super::driver::{Call, Format, Outcome, FRESH, MAX_PATCH, SPARE};
-use crate::Answer;
+use crate::{Answer, Search};
 
 /// The tags of the rows.
 mod tag {
@@ -20,24 +20,30 @@ mod tag {
     pub const NAMES: u8 = 10;
     pub const BLOCKS: u8 = 11;
     pub const OLD_LENGTH: u8 = 12;
-    pub const LAST_GIVEN: u8 = 12;
+    pub const DIRECTORY: u8 = 13;
+    pub const LAST_GIVEN: u8 = 13;
     // Numbers that must come back.
     pub const LENGTH: u8 = 64;
     pub const STORE_DIGEST: u8 = 65;
-    pub const LAST_WANTED: u8 = 66;
+    pub const COMPARED: u8 = 67;
+    pub const LAST_WANTED: u8 = 67;
     // Bytes of buffers.
     pub const STORE: u8 = 128;
     pub const CALL: u8 = 129;
     pub const REPLY: u8 = 130;
     pub const OLD: u8 = 131;
-    // Runs.
+    // Bytes that a replay prints.
+    pub const TEXT: u8 = 132;
+    // Runs, and the last search as a replay prints it.
     pub const RUN: u8 = 192;
     pub const END: u8 = 193;
+    pub const SHOW: u8 = 194;
     // Entries.
     pub const FORMAT_ENTRY: u8 = 224;
     pub const CHECK_ENTRY: u8 = 225;
     pub const CALL_ENTRY: u8 = 226;
     pub const CONVERT_ENTRY: u8 = 227;
+    pub const SEARCH_ENTRY: u8 = 228;
 }
 
 /// The room for each buffer.
@@ -45,6 +51,8 @@ const LARGEST_STORE: usize = 535_829;
 const LARGEST_CALL: usize = 10_000;
 const LARGEST_REPLY: usize = 8192;
 const LARGEST_OLD: usize = 535_061;
+/// The longest text of one row.
+const LARGEST_TEXT: usize = 160;
 
 /// The digest of a buffer: two 32-bit lanes over every byte in order.
 pub fn digest(bytes: &[u8]) -> u64 {
@@ -93,6 +101,7 @@ struct Counts {
     formats: u32,
     checks: u32,
     conversions: u32,
+    searches: u32,
 }
 
 impl Counts {
@@ -102,6 +111,7 @@ impl Counts {
             tag::FORMAT_ENTRY => self.formats += 1,
             tag::CHECK_ENTRY => self.checks += 1,
             tag::CONVERT_ENTRY => self.conversions += 1,
+            tag::SEARCH_ENTRY => self.searches += 1,
             _ => self.calls += 1,
         }
     }
@@ -109,17 +119,38 @@ impl Counts {
     /// The last line of a replay.
     fn total(&self, differences: u64) -> String {
         format!(
-            "total: {} runs, {} calls, {} formats, {} checks, {} conversions, \
+            "total: {} runs, {} calls, {} formats, {} checks, {} conversions, {} searches, \
              {differences} differences\n",
-            self.runs, self.calls, self.formats, self.checks, self.conversions
+            self.runs, self.calls, self.formats, self.checks, self.conversions, self.searches
         )
     }
 }
 
-/// Writes the vector file and the text of its replay.
+/// What the entry answers for a search: 0, or the record's number plus 1.
+fn answer_of(search: &Search) -> Answer {
+    Answer {
+        number: search.found.map_or(0, |record| record as u32 + 1),
+        length: 0,
+    }
+}
+
+/// How a replay prints a search, after a text.
+fn line_of(search: &Search) -> String {
+    let pairs = search.compared;
+    match search.found {
+        Some(record) => format!(" record {record}, {pairs} pairs\n"),
+        None => format!(" no record, {pairs} pairs\n"),
+    }
+}
+
+/// Writes a vector file and the text of its replay.
 #[derive(Default)]
 pub struct Writer {
     bytes: Vec<u8>,
+    /// What a replay has printed so far.
+    printed: String,
+    /// The last search.
+    search: Search,
     numbers: Numbers,
     counts: Counts,
     /// The bytes of the old image that are written so far.
@@ -130,7 +161,7 @@ pub struct Writer {
 const ROW_COST: usize = 10;
 
 /// Where the bytes are unlike those that are known, in as few pieces as pay.
-fn unlike(known: &[u8], bytes: &[u8]) -> Vec<Range<usize>> {
+pub(super) fn unlike(known: &[u8], bytes: &[u8]) -> Vec<Range<usize>> {
     let mut pieces: Vec<Range<usize>> = Vec::new();
     for (at, byte) in bytes.iter().enumerate() {
         if known.get(at) == Some(byte) {
@@ -232,10 +263,35 @@ impl Writer {
         self.step(tag::CALL_ENTRY, outcome.answer, digest);
     }
 
+    pub fn search(&mut self, directory: u32, name: &[u8], search: Search, digest: u64) {
+        assert!(name.len() <= LARGEST_CALL);
+        self.number(tag::DIRECTORY, directory);
+        self.number(tag::CALL_LENGTH, name.len() as u32);
+        self.buffer(tag::CALL, 0, name);
+        self.number(tag::COMPARED, search.compared);
+        self.step(tag::SEARCH_ENTRY, answer_of(&search), digest);
+        self.search = search;
+    }
+
+    /// Lets a replay print a text.
+    pub fn print(&mut self, text: &str) {
+        assert!(text.len() <= LARGEST_TEXT);
+        self.row(tag::TEXT, text.len() as u32);
+        self.bytes.extend(text.as_bytes());
+        self.printed.push_str(text);
+    }
+
+    /// Lets a replay print the last search.
+    pub fn print_search(&mut self) {
+        self.row(tag::SHOW, 0);
+        self.printed.push_str(&line_of(&self.search));
+    }
+
     /// The vector file and the text of its replay.
     pub fn finish(mut self) -> (Vec<u8>, String) {
         self.row(tag::END, self.counts.runs);
-        (self.bytes, self.counts.total(0))
+        self.printed.push_str(&self.counts.total(0));
+        (self.bytes, self.printed)
     }
 }
 
@@ -245,6 +301,12 @@ pub trait Subject {
     fn check(&mut self, store: &[u8]) -> Answer;
     fn call(&mut self, store: &mut [u8], call: &Call<'_>, reply: &mut [u8]) -> Answer;
     fn convert(&mut self, old: &[u8], store: &mut [u8]) -> Answer;
+
+    /// Searches a directory; `None` if the store fails its check. It is the
+    /// peer's search where an implementation shows none.
+    fn search(&mut self, store: &[u8], directory: u32, name: &[u8]) -> Option<Search> {
+        crate::search(store, directory, name)
+    }
 }
 
 /// The peer's own entry points.
@@ -308,6 +370,8 @@ struct Buffers {
     old: Vec<u8>,
     reply: Vec<u8>,
     wanted: Vec<u8>,
+    /// The last search.
+    search: Search,
 }
 
 impl Buffers {
@@ -318,6 +382,7 @@ impl Buffers {
             old: vec![SPARE; LARGEST_OLD],
             reply: vec![SPARE; LARGEST_REPLY],
             wanted: vec![SPARE; LARGEST_REPLY],
+            search: Search::default(),
         }
     }
 
@@ -375,10 +440,15 @@ impl Buffers {
                 subject.call(store, &call, reply)
             }
             tag::CONVERT_ENTRY => subject.convert(old, store),
+            tag::SEARCH_ENTRY => {
+                self.search = subject.search(store, numbers.get(tag::DIRECTORY), call)?;
+                answer_of(&self.search)
+            }
             _ => return None,
         };
         let length = numbers.get(tag::LENGTH);
         let agrees = answer == Answer { number, length }
+            && self.search.compared == numbers.get(tag::COMPARED)
             && self.reply == self.wanted
             && digest(store) == numbers.hyper(tag::STORE_DIGEST);
         self.reply.fill(SPARE);
@@ -387,10 +457,12 @@ impl Buffers {
     }
 }
 
-/// Replays a vector file. Answers the last line that a replay prints and how
-/// many steps differed, or `None` if the file is not well-formed.
-pub fn replay(file: &[u8], subject: &mut dyn Subject) -> Option<(String, u64)> {
+/// Replays a vector file. Answers what a replay prints, but for the lines of
+/// differences, and how many steps differed, or `None` if the file is not
+/// well-formed.
+pub fn replay(file: &[u8], subject: &mut dyn Subject) -> Option<(Vec<u8>, u64)> {
     let mut source = Source { rest: file };
+    let mut printed = Vec::new();
     let mut numbers = Numbers::default();
     let mut buffers = Buffers::new();
     let mut counts = Counts::default();
@@ -399,6 +471,16 @@ pub fn replay(file: &[u8], subject: &mut dyn Subject) -> Option<(String, u64)> {
         let (tag, word) = source.row()?;
         match tag {
             0..=tag::LAST_GIVEN | tag::LENGTH..=tag::LAST_WANTED => numbers.set(tag, word),
+            tag::TEXT => {
+                let length = Some(word as usize).filter(|&length| length <= LARGEST_TEXT)?;
+                printed.extend(source.take(length)?);
+            }
+            tag::SHOW => {
+                if word != 0 {
+                    return None;
+                }
+                printed.extend(line_of(&buffers.search).into_bytes());
+            }
             tag::STORE..tag::RUN => {
                 let bytes = source.take(word as usize)?;
                 buffers.read(tag, &numbers, bytes)?;
@@ -411,7 +493,8 @@ pub fn replay(file: &[u8], subject: &mut dyn Subject) -> Option<(String, u64)> {
                 buffers.store.fill(FRESH);
             }
             tag::END => {
-                return (word == counts.runs).then(|| (counts.total(differences), differences));
+                printed.extend(counts.total(differences).into_bytes());
+                return (word == counts.runs).then_some((printed, differences));
             }
             _ => {
                 if !buffers.step(tag, word, &numbers, subject)? {
