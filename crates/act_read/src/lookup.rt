@@ -23,8 +23,8 @@ use kinds::numbers::Status;
 use results::Reply;
 use store_records::name::name_child;
 use store_search::found::FoundName;
-use store_search::name::find_name;
 use store_search::name::parent_of;
+use store_search::search::find_name;
 
 // The directory and the object that was found in it.
 pub enum Looked {

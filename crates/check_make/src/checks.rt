@@ -38,7 +38,7 @@ use store_records::object::exclusive_of;
 use store_records::object::is_regular;
 use store_records::object::verifier_of;
 use store_search::found::FoundName;
-use store_search::name::find_name;
+use store_search::search::find_name;
 
 // What CREATE's checks find: records for a new file, or the file of that name.
 pub enum Target {

@@ -20,7 +20,7 @@ use kinds::numbers::Status;
 use store_records::name::name_child;
 use store_records::object::is_directory;
 use store_search::found::FoundName;
-use store_search::name::find_name;
+use store_search::search::find_name;
 
 // The record of a name in a directory, or the status.
 pub enum EntryChecked {

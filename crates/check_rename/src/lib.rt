@@ -23,7 +23,7 @@ use kinds::numbers::Status;
 use store_records::name::name_child;
 use store_records::object::is_directory;
 use store_search::found::FoundName;
-use store_search::name::find_name;
+use store_search::search::find_name;
 
 // What the new name is: not there, a name of the object that is renamed, or the name record of an object that is replaced.
 pub enum Onto {

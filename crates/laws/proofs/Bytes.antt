@@ -1,6 +1,6 @@
 -- The laws of parts, overlays and big-endian numbers. Assumes nothing.
 use mathlib.Core.Path.{_≡_, refl, sym, ap, ap₂, _∙_}
-use mathlib.Core.Bool.{Bool, true, false, _&&_}
+use mathlib.Core.Bool.{Bool, true, false, _&&_, cond}
 use borrow.Author.Tests.{eq-eqb, eqb-true}
 use mathlib.Core.List.{List, [], _∷_, _++_, append-assoc, append-nil}
 use Prim.Native.Nat.{ℕ, zero, suc, _+_, _-_, _*_, _/_, _%_, _^_, _≤_, _<_}
@@ -14,7 +14,7 @@ use lib.Seq.{getD-take, set-split, append-snoc, take-suc, getD-drop, take-at, ta
 use lib.Seq.{drop-append-le, drop-append-add, drop-cons, sets-eq, ext-getD}
 use lib.Arith.{mod-mul}
 use lib.Dec.{lit<, eqb}
-use Rattle.spec.specs.Bytes.{part, overlay, digits, beOf, bytesOf, beAt, sameBytes}
+use Rattle.spec.specs.Bytes.{part, overlay, digits, beOf, bytesOf, beAt, sameBytes, pairs}
 
 -- ---- numbers, by cases
 pub lt-or-le : (a b : ℕ) → (a < b) ⊎ (b ≤ a)
@@ -248,10 +248,80 @@ same-yes xs ys e = rw e (same-refl ys)
 pub same-no : (xs ys : List ℕ) → (xs ≡ ys → ⊥) → sameBytes xs ys ≡ false
 same-no xs ys f = is-false (sameBytes xs ys) (λ e. f (same-eq xs ys e))
 
+-- how many pairs are compared: of equal lists all, and at most all
+pub pairs-equal : (xs ys : List ℕ) → xs ≡ ys → pairs xs ys ≡ length xs
+unfolding pairs
+pairs-equal xs ys e = ap (pairs xs) (sym e) ∙ own xs
+  where
+    own : (zs : List ℕ) → pairs zs zs ≡ length zs
+    own [] = refl
+    own (z ∷ zs) = rw (eq-eqb z z refl, own zs) (omega arith)
+
+pub pairs-bound : (xs ys : List ℕ) → pairs xs ys ≤ length xs
+unfolding pairs
+pairs-bound [] ys = omega arith
+pairs-bound (x ∷ xs) [] = omega arith
+pairs-bound (x ∷ xs) (y ∷ ys) = let r = pairs-bound xs ys in let q = either (eqb x y) (pairs xs ys) in omega arith
+  where
+    either : (t : Bool) (n : ℕ) → cond t n 0 ≤ n
+    either true n = omega arith
+    either false n = omega arith
+
+-- of lists that go on behind equal ones, or behind different ones of one length
+pairs-behind : (us vs ws zs : List ℕ) → us ≡ vs → pairs (us ++ ws) (vs ++ zs) ≡ length us + pairs ws zs
+unfolding pairs
+pairs-behind us vs ws zs e = ap (λ (l : List ℕ). pairs (us ++ ws) (l ++ zs)) (sym e) ∙ own us
+  where
+    own : (l : List ℕ) → pairs (l ++ ws) (l ++ zs) ≡ length l + pairs ws zs
+    own [] = omega arith
+    own (x ∷ l) = rw (eq-eqb x x refl, own l) (omega arith)
+
+pairs-before : (us vs ws zs : List ℕ) → length us ≡ length vs → sameBytes us vs ≡ false → pairs (us ++ ws) (vs ++ zs) ≡ pairs us vs
+unfolding pairs sameBytes
+pairs-before [] [] ws zs e f = let z : _≡_ {A = ℕ} 0 1 = cc in absurd (omega arith)
+pairs-before [] (v ∷ vs) ws zs e f = absurd (omega arith)
+pairs-before (u ∷ us) [] ws zs e f = absurd (omega arith)
+pairs-before (u ∷ us) (v ∷ vs) ws zs e f = from (eqb u v) f (λ g. pairs-before us vs ws zs (omega arith) g)
+  where
+    from : (t : Bool) → t && sameBytes us vs ≡ false → (sameBytes us vs ≡ false → pairs (us ++ ws) (vs ++ zs) ≡ pairs us vs)
+        → 1 + cond t (pairs (us ++ ws) (vs ++ zs)) 0 ≡ 1 + cond t (pairs us vs) 0
+    from true g rest = ap (λ (n : ℕ). 1 + n) (rest g)
+    from false g rest = refl
+
 -- what stands at an index of a part
 pub getD-part : (b : List ℕ) (at n i : ℕ) → i < n → getD (part b at n) i 0 ≡ getD b (at + i) 0
 unfolding part
 getD-part b at n i h = getD-take n (drop at b) i 0 h ∙ getD-drop at b i 0
+
+-- parts that are equal in their first i bytes, and differ in the k bytes behind these
+pub first-difference : (a b : List ℕ) (at from len i k : ℕ) → at + len ≤ length a → from + len ≤ length b → i + k ≤ len → part a at i ≡ part b from i
+    → sameBytes (part a (at + i) k) (part b (from + i) k) ≡ false
+    → (sameBytes (part a at len) (part b from len) ≡ false)
+    × (pairs (part a at len) (part b from len) ≡ i + pairs (part a (at + i) k) (part b (from + i) k))
+first-difference a b at from len i k g h l e f =
+    let us = part a (at + i) k in
+    let vs = part b (from + i) k in
+    let long : length us ≡ length vs = part-length a (at + i) k (omega arith) ∙ sym (part-length b (from + i) k (omega arith)) in (
+      same-no _ _ (λ q. differ (same-yes us vs
+          (sym (part-part a at len i k l) ∙ ap (λ (xs : List ℕ). part xs i k) q ∙ part-part b from len i k l))),
+      ap₂ pairs (split a at) (split b from)
+          ∙ pairs-behind (part a at i) (part b from i) _ _ e
+          ∙ ap₂ (λ (x y : ℕ). x + y) (part-length a at i (omega arith)) (pairs-before us vs _ _ long f),
+    )
+  where
+    differ : sameBytes (part a (at + i) k) (part b (from + i) k) ≡ true → ⊥
+    differ t = let z : _≡_ {A = ℕ} 0 1 = cc in omega arith
+
+    split : (c : List ℕ) (p : ℕ) → part c p len ≡ part c p i ++ (part c (p + i) k ++ part c (p + i + k) (len - (i + k)))
+    split c p =
+        let e : len ≡ i + (k + (len - (i + k))) = omega arith in
+        ap (part c p) e ∙ part-add c p i (k + (len - (i + k))) ∙ ap (λ (xs : List ℕ). part c p i ++ xs) (part-add c (p + i) k (len - (i + k)))
+
+-- parts that are equal in their first i bytes, and in the k bytes behind these
+pub equal-further : (a b : List ℕ) (at from i k : ℕ) → part a at i ≡ part b from i → sameBytes (part a (at + i) k) (part b (from + i) k) ≡ true
+    → part a at (i + k) ≡ part b from (i + k)
+equal-further a b at from i k e f =
+    part-add a at i k ∙ ap₂ (λ (xs ys : List ℕ). xs ++ ys) e (same-eq _ _ f) ∙ sym (part-add b from i k)
 
 -- parts of two lists of one length with the same bytes there
 pub same-part : (s t : List ℕ) → length t ≡ length s → (at n : ℕ)

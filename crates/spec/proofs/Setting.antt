@@ -4,7 +4,7 @@ use lib.ListN.{length, replicate}
 use mathlib.Core.List.{List, [], _∷_, _++_}
 use Rattle.kinds.specs.declared.object.Context.{Context}
 use Rattle.spec.specs.Arguments.{handle, unbounded, nameIn, time, setNumber, setSize, setTime, settable, guard, how, form, arguments}
-use Rattle.spec.specs.Bytes.{part, overlay, zeros, digits, beOf, bytesOf, beAt, words, opaqueBytes, sameBytes, allBytes}
+use Rattle.spec.specs.Bytes.{part, overlay, zeros, digits, beOf, bytesOf, beAt, words, opaqueBytes, sameBytes, pairs, allBytes}
 use Rattle.spec.specs.Check.{isZero, goodCounts, goodShape, goodTime, goodBlock, goodSize, goodVerifier, goodLive, goodFree, goodObject, goodRoot}
 use Rattle.spec.specs.Check.{goodUsed, goodNameRecord, isDistinct, isNamedOnce, isUsedOnce, leadsToRoot, recordsPass, passes}
 use Rattle.spec.specs.Convert.{oldNames, oldBlocks, oldShape, lengthened, converted, goodOld}
@@ -29,7 +29,7 @@ use Rattle.spec.specs.Replies.{fattr3, postOp, preOp, wccData, entryByte
 use Rattle.spec.specs.Results.{failShowing, failChanging}
 use Rattle.spec.specs.Room.{isLive, isRegular, isDirectory, sizeOf, held, uses, isFreeBlock, freeBlocks, freeBlockCount, isAvailable}
 use Rattle.spec.specs.Room.{availableCount, availableObject, isUsedName, availableName, freeNameCount, isNaming, namings, isIn, isNamed}
-use Rattle.spec.specs.Room.{findName, subdirectories, parent, above, byteAt}
+use Rattle.spec.specs.Room.{findName, comparedAt, compared, subdirectories, parent, above, byteAt}
 use Rattle.spec.specs.Rpc.{denied, accepted, judge, mismatch}
 use Rattle.spec.specs.Serve.{Outcome, serve, check, formatted, format, convert}
 use Rattle.spec.specs.Xdr.{number, word, long, choice, flag, bytes, opaque, end}
@@ -188,7 +188,7 @@ wordAfter call s at = beAt (served call s .store) at 4
 -- what computing an entry unfolds: naming `computing` on an `unfolding` line unfolds all of these
 unfoldable pub computing : ℕ
 unfolding handle unbounded nameIn time setNumber setSize setTime settable guard how form arguments part overlay digits beOf bytesOf beAt words
-    opaqueBytes sameBytes allBytes isZero goodCounts goodShape goodTime goodBlock goodSize goodVerifier goodLive goodFree goodObject goodRoot goodUsed
+    opaqueBytes sameBytes pairs allBytes isZero goodCounts goodShape goodTime goodBlock goodSize goodVerifier goodLive goodFree goodObject goodRoot goodUsed
     goodNameRecord isDistinct isNamedOnce isUsedOnce leadsToRoot recordsPass passes oldNames oldBlocks oldShape lengthened converted goodOld sum every
     some-below passing lowest times iterate withAttributes setAttributes withVerifier forgetVerifier clearBlocks clearTail blockNumbers withSize
     resize withGeneration createObject removeObject moveName writeThrough readThrough writeFile readFile handleOf reach reachDirectory checkName
@@ -200,6 +200,6 @@ unfolding handle unbounded nameIn time setNumber setSize setTime settable guard 
     checkNew checkHow checkCreate create checkMkdir mkdir checkEntry checkRemove hasEntries checkRmdir removeFrom remove rmdir isWithin isReplaceable
     checkReplace checkMove checkRename moveEdit failRenaming rename fsstat fsinfo pathconf fattr3 postOp preOp wccData entryBytes entriesBytes resultBytes
     failShowing failChanging isLive isRegular isDirectory sizeOf held uses isFreeBlock freeBlocks freeBlockCount isAvailable availableCount availableObject
-    isUsedName availableName freeNameCount isNaming namings isIn isNamed findName subdirectories parent above byteAt denied accepted judge mismatch
+    isUsedName availableName freeNameCount isNaming namings isIn isNamed findName comparedAt compared subdirectories parent above byteAt denied accepted judge mismatch
     serve check formatted format convert number word long choice flag bytes opaque end
 computing = 0

@@ -1,7 +1,7 @@
 -- Byte lists: a part of one, a part replaced, and big-endian numbers, stated once over their width.
 use Prim.Native.Nat.{ℕ, zero, suc, _+_, _*_, _-_, _/_, _%_, _^_}
 use mathlib.Core.List.{List, [], _∷_, _++_}
-use mathlib.Core.Bool.{Bool, true, false, _&&_}
+use mathlib.Core.Bool.{Bool, true, false, _&&_, cond}
 use lib.Dec.{eqb}
 use lib.ListN.{length, take, drop, replicate}
 
@@ -55,6 +55,12 @@ sameBytes [] [] = true
 sameBytes [] (y ∷ ys) = false
 sameBytes (x ∷ xs) [] = false
 sameBytes (x ∷ xs) (y ∷ ys) = eqb x y && sameBytes xs ys
+
+-- how many pairs of bytes are compared, in order: "through the first difference or, without one, the whole name"
+unfoldable pub pairs : List ℕ → List ℕ → ℕ
+pairs [] ys = 0
+pairs (x ∷ xs) [] = 0
+pairs (x ∷ xs) (y ∷ ys) = 1 + cond (eqb x y) (pairs xs ys) 0
 
 -- whether every byte of a list passes a test
 unfoldable pub allBytes : (ℕ → Bool) → List ℕ → Bool

@@ -1,13 +1,13 @@
 -- What the records of a store say together: which objects are live, which names, objects and blocks are free, and who names whom.
 use Prim.Native.Nat.{ℕ, _+_, _-_, _/_, _%_}
 use mathlib.Core.List.{List}
-use mathlib.Core.Bool.{Bool, _&&_, not}
+use mathlib.Core.Bool.{Bool, _&&_, not, cond}
 use mathlib.Core.Option.{Option, some, none}
 use lib.Dec.{eqb, ltb}
 use lib.ListN.{length, getD, take}
 use Rattle.kinds.specs.Layout.{blockLength}
 use Rattle.kinds.specs.Numbers.{FREE, REGULAR, DIRECTORY, spentGeneration}
-use Rattle.spec.specs.Bytes.{sameBytes}
+use Rattle.spec.specs.Bytes.{sameBytes, pairs}
 use Rattle.spec.specs.Count.{sum, count, passing, lowest, times, iterate}
 use Rattle.spec.specs.Image.{Store, objects, names, blocks, blockStart, objectAt, nameAt, nameLength}
 
@@ -88,6 +88,20 @@ isNamed s d text n = isIn s d n && (eqb (nameLength s n) (length text) && sameBy
 -- the name record of `text` in directory d
 unfoldable pub findName : Store → ℕ → List ℕ → Option ℕ
 findName s d text = lowest (names s) (isNamed s d text)
+
+-- how many byte pairs the search for `text` in directory d compares at name record n: "0 where lengths differ, else through the first difference or,
+-- without one, the whole name"; at a free record and at one of another directory 0
+unfoldable pub comparedAt : Store → ℕ → List ℕ → ℕ → ℕ
+comparedAt s d text n = cond (isIn s d n && eqb (nameLength s n) (length text)) (pairs (nameAt s n .text) text) 0
+
+-- how many name records the search goes through: "ascending up to the match", and with it; without one, all
+abbrev pub searched : Store → Option ℕ → ℕ
+searched s none = names s
+searched s (some n) = n + 1
+
+-- "The search also returns how many byte pairs it compared: over the directory's records, ascending up to the match"
+unfoldable pub compared : Store → ℕ → List ℕ → ℕ
+compared s d text = sum (searched s (findName s d text)) (comparedAt s d text)
 
 -- the directories in directory d
 unfoldable pub subdirectories : Store → ℕ → ℕ

@@ -1,22 +1,23 @@
 -- Comparing a name record with a name, test by test. Assumes nothing.
-use mathlib.Core.Path.{_≡_, refl, sym, ap, subst, _∙_}
+use mathlib.Core.Path.{_≡_, refl, sym, subst, _∙_}
 use mathlib.Core.Logic.{_≢_, by-cases}
-use mathlib.Core.Bool.{Bool, true, false, and-false, and-true}
+use mathlib.Core.Bool.{Bool, true, false, _&&_, cond, and-false, and-true}
 use mathlib.Core.List.{List}
 use mathlib.Core.Option.{none}
-use Prim.Native.Nat.{ℕ, zero, suc, _+_, _<_}
+use Prim.Native.Nat.{ℕ, zero, suc, _+_, _≤_, _<_, zero-le}
 use native.Mathlib.Decide.{ℕ-discrete}
 use native.Mathlib.Numerals.{add-one}
 use native.Mathlib.Omega.{arith}
-use lib.ListN.{length, getD}
+use lib.Dec.{eqb}
+use lib.ListN.{length, length-take}
 use borrow.Author.Tests.{eq-eqb, ne-eqb}
 use Rattle.kinds.specs.Layout.{childOffset, lengthOffset, textOffset}
-use Rattle.spec.specs.Bytes.{part, beAt, sameBytes}
+use Rattle.spec.specs.Bytes.{part, beAt, sameBytes, pairs}
 use Rattle.spec.specs.Count.{passing, lowest}
 use Rattle.spec.specs.Image.{Store, names, nameStart, nameAt, nameFrom, nameLength}
-use Rattle.spec.specs.Room.{isUsedName, isIn, isNaming, isNamed, findName}
-use Rattle.laws.proofs.Bytes.{same-no, getD-part}
-use Rattle.laws.proofs.Count.{lowest-more}
+use Rattle.spec.specs.Room.{isUsedName, isIn, isNaming, isNamed, findName, comparedAt, compared}
+use Rattle.laws.proofs.Bytes.{pairs-bound}
+use Rattle.laws.proofs.Count.{sum-zero, lowest-more}
 
 module _ (s : Store) (d n : ℕ) where
   pub elsewhere : nameAt s n .directory ≢ d → isIn s d n ≡ false
@@ -63,37 +64,42 @@ module _ (s : Store) (d n : ℕ) where
   unfolding isIn
   free-in e = rw (used-no e)
 
-  pub named-elsewhere : (text : List ℕ) → nameAt s n .directory ≢ d → isNamed s d text n ≡ false
-  unfolding isNamed
-  named-elsewhere text f = rw (elsewhere f)
+  -- a record that is not compared: it is in another directory, states another length, or is free
+  abbrev Apart : List ℕ → Type 0
+  Apart text = (isNamed s d text n ≡ false) × (comparedAt s d text n ≡ 0)
 
-  pub named-longer : (text : List ℕ) → nameLength s n ≢ length text → isNamed s d text n ≡ false
-  unfolding isNamed
-  named-longer text f = rw (ne-eqb _ _ f) (and-false (isIn s d n))
+  pub elsewhere-apart : (text : List ℕ) → nameAt s n .directory ≢ d → Apart text
+  unfolding isNamed comparedAt
+  elsewhere-apart text f = rw (elsewhere f) (refl, refl)
 
-  pub named-free : (text : List ℕ) → nameLength s n ≡ 0 → isNamed s d text n ≡ false
-  unfolding isNamed
-  named-free text e = rw (free-in e)
+  pub longer-apart : (text : List ℕ) → nameLength s n ≢ length text → Apart text
+  unfolding isNamed comparedAt
+  longer-apart text f = rw (ne-eqb _ _ f, and-false (isIn s d n)) (refl, refl)
 
-  -- a byte of the name differs
-  pub named-other : (text : List ℕ) (k : ℕ) → k < length text → getD s (nameStart s n + textOffset + k) 0 ≢ getD text k 0 → isNamed s d text n ≡ false
-  unfolding isNamed nameAt nameFrom nameLength
-  named-other text k l f =
-      by-cases (ℕ-discrete (nameLength s n) (length text))
-      (λ (e : nameLength s n ≡ length text). rw (
-        same-no _ _ (λ (q : part s (nameStart s n + textOffset) (nameLength s n) ≡ text). f
-            (sym (getD-part s (nameStart s n + textOffset) (nameLength s n) k (omega arith)) ∙ ap (λ (t : List ℕ). getD t k 0) q)),
-        and-false,
-        and-false,
-      ))
-      (λ d. named-longer text d)
+  pub free-apart : (text : List ℕ) → nameLength s n ≡ 0 → Apart text
+  unfolding isNamed comparedAt
+  free-apart text e = rw (free-in e) (refl, refl)
 
-  pub named-same : (text : List ℕ) (len : ℕ) → nameAt s n .directory ≡ d → nameLength s n ≡ len → length text ≡ len → len ≢ 0
-      → sameBytes (part s (nameStart s n + textOffset) len) text ≡ isNamed s d text n
-  unfolding isNamed nameAt nameFrom nameLength
-  named-same text len e l t z =
+  -- a used record of the directory with the name's length is compared byte by byte
+  pub compared-bytes : (text : List ℕ) (len : ℕ) → nameAt s n .directory ≡ d → nameLength s n ≡ len → length text ≡ len → len ≢ 0
+      → (sameBytes (part s (nameStart s n + textOffset) len) text ≡ isNamed s d text n)
+      × (pairs (part s (nameStart s n + textOffset) len) text ≡ comparedAt s d text n)
+  unfolding isNamed comparedAt nameAt nameFrom nameLength
+  compared-bytes text len e l t z =
       let i = used-in e (λ q. z (sym l ∙ q)) in
-      rw (i, l, eq-eqb len (length text) (sym t))
+      rw (i, l, eq-eqb len (length text) (sym t)) (refl, refl)
+
+  -- at most as many pairs as the record states bytes
+  pub compared-bound : (text : List ℕ) → comparedAt s d text n ≤ nameLength s n
+  unfolding comparedAt nameAt nameFrom nameLength part
+  compared-bound text = either (isIn s d n && eqb (nameLength s n) (length text))
+    where
+      either : (t : Bool) → cond t (pairs (nameAt s n .text) text) 0 ≤ nameLength s n
+      either true =
+          let r = pairs-bound (nameAt s n .text) text in
+          let l : length (nameAt s n .text) ≤ nameLength s n = simp length-take (omega arith) in
+          omega arith
+      either false = zero-le
 
 none-passes : (p : ℕ → Bool) (n : ℕ) → ((i : ℕ) → i < n → p i ≡ false) → lowest n p ≡ none
 unfolding lowest passing
@@ -101,9 +107,12 @@ none-passes p zero f = refl
 none-passes p (suc n) f =
     subst (λ (m : ℕ). lowest m p ≡ none) (add-one n) (lowest-more p n (none-passes p n (λ i l. f i (omega arith))) (f n (omega arith)))
 
--- no used record states the length of a name
-pub no-name : (s : Store) (d : ℕ) (text : List ℕ) → ((n : ℕ) → n < names s → nameLength s n ≡ length text → nameLength s n ≡ 0) → findName s d text ≡ none
-unfolding findName
-no-name s d text f =
-    none-passes (isNamed s d text) (names s)
-    (λ n l. by-cases (ℕ-discrete (nameLength s n) (length text)) (λ e. named-free s d n text (f n l e)) (λ e. named-longer s d n text e))
+-- the empty name: none is found, and nothing is compared
+pub empty-name : (s : Store) (d : ℕ) (text : List ℕ) → length text ≡ 0 → (findName s d text ≡ none) × (compared s d text ≡ 0)
+unfolding findName compared
+empty-name s d text e =
+    let absent = none-passes (isNamed s d text) (names s) (λ n l. apart n .0) in
+    (absent, rw absent (sum-zero (names s) (comparedAt s d text) (λ n l. apart n .1)))
+  where
+    apart : (n : ℕ) → (isNamed s d text n ≡ false) × (comparedAt s d text n ≡ 0)
+    apart n = by-cases (ℕ-discrete (nameLength s n) 0) (λ q. free-apart s d n text q) (λ f. longer-apart s d n text (λ q. f (q ∙ e)))

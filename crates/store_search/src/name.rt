@@ -1,20 +1,17 @@
-// Free name records, a name in a directory, and the record that names an object.
+// Free name records, the record that names an object, and the records in a directory.
 ghost use mathlib.Core.Path.{_≡_};
 ghost use mathlib.Core.Bool.{_&&_, not};
 ghost use Prim.Native.Nat.{_+_, _<_, _≤_};
 ghost use lib.ListN.{length};
 ghost use Rattle.kinds.specs.Layout.{nameRecordLength};
-ghost use Rattle.kinds.specs.Numbers.{mostNameBytes};
 ghost use Rattle.spec.specs.Count.{lowest};
 ghost use Rattle.spec.specs.Image.{names, nameStart, nameAt};
-ghost use Rattle.spec.specs.Room.{isUsedName, isNaming, isIn, isNamed, isDirectory, availableName, findName, subdirectories, parent};
+ghost use Rattle.spec.specs.Room.{isUsedName, isNaming, isIn, isDirectory, availableName, subdirectories, parent};
 ghost use Rattle.store_records.specs.Shaped.{Shaped, SoundNames};
-ghost use Rattle.store_records.specs.Text.{textOf};
 ghost use Rattle.store_search.specs.Found.{foundName};
 ghost use Rattle.store_search.specs.Parents.{ParentTable};
 use crate::found::FoundName;
 use crate::found::one_if;
-use kinds::call::Part;
 use kinds::layout::NameRecord;
 use kinds::numbers::Limit;
 use kinds::numbers::NameNumber;
@@ -120,65 +117,6 @@ pub fn is_in(store: &[u8], n: NameNumber, directory: ObjectNumber) -> bool
         return false;
     }
     is_used_name(store, n)
-}
-
-// Whether the record n, which starts at `at`, is that of a name in a directory: the last byte is compared, then the length, the directory and
-// all bytes.
-fn is_named(
-    store: &[u8],
-    n: NameNumber,
-    at: usize,
-    directory: ObjectNumber,
-    call: &[u8],
-    name: Part,
-) -> bool
-    requires { ⌜ at ≡ nameStart (now store) (n .0) ⌝ }
-    requires { ⌜ at + nameRecordLength ≤ length (now store) ⌝ }
-    requires { ⌜ (0 < name .length) × (name .length ≤ mostNameBytes) ⌝ }
-    requires { ⌜ name .start + name .length ≤ length (now call) ⌝ }
-    ensures { λ r. ⌜ r ≡ isNamed (now (store .entry)) (directory .0) (textOf (now (call .entry)) name) (n .0) ⌝ }
-{
-    let from = name.start;
-    let len = name.length;
-    let last = len - 1;
-    if store[at + NameRecord::TEXT + last] != call[from + last] {
-        return false;
-    }
-    let stated = wire::get_u32(store, at + NameRecord::LENGTH) as usize;
-    if stated != len {
-        return false;
-    }
-    if wire::get_u32(store, at) as usize != directory.0 {
-        return false;
-    }
-    wire::same_bytes(store, at + NameRecord::TEXT, call, from, len)
-}
-
-// The record of a name in a directory.
-pub fn find_name(store: &[u8], directory: ObjectNumber, call: &[u8], name: Part) -> FoundName
-    requires { ⌜ Shaped (now store) ⌝ }
-    requires { ⌜ SoundNames (now store) ⌝ }
-    requires { ⌜ name .start + name .length ≤ length (now call) ⌝ }
-    ensures { λ r. ⌜ foundName r ≡ findName (now (store .entry)) (directory .0) (textOf (now (call .entry)) name) ⌝ }
-{
-    let len = name.length;
-    if len == 0 {
-        return FoundName::Nothing;
-    }
-    if len > Limit::MOST_NAME_BYTES {
-        return FoundName::Nothing;
-    }
-    let total = name_count(store);
-    let mut at = names_start(store);
-    let mut i = 0;
-    while i < total {
-        if is_named(store, NameNumber(i), at, directory, call, name) {
-            return FoundName::At(NameNumber(i));
-        }
-        at += NameRecord::BYTES;
-        i += 1;
-    }
-    FoundName::Nothing
 }
 
 // Whether the record n, which starts at `at`, names a directory in a directory. Most records name none, so that is tested first.

