@@ -10,6 +10,13 @@ fn print(text: &[u8], n: u32) {
     io::print_decimal(STDOUT_FILENO, n as u64);
 }
 
+// Prints the first n bytes of a text, if it has as many.
+pub fn print_front(text: &[u8], n: usize) {
+    if n <= text.len() {
+        io::write_all(STDOUT_FILENO, &text[0..n]);
+    }
+}
+
 // Starts a line on the step that is under way.
 fn print_step(numbers: &Numbers, text: &[u8], n: u32) {
     print(b"run ", numbers[Tag::RUN]);
@@ -26,6 +33,18 @@ pub fn print_difference(numbers: &mut Numbers, tag: u32, found: u32, wanted: u32
     io::write_all(STDOUT_FILENO, b"\n");
 }
 
+// Ends a line by what the last search found and how many byte pairs it compared.
+pub fn print_search(numbers: &Numbers) {
+    let answer = numbers[Tag::SEARCHED];
+    if answer == 0 {
+        io::write_all(STDOUT_FILENO, b" no record");
+    } else {
+        print(b" record ", answer - 1);
+    }
+    print(b", ", numbers[Tag::PAIRS + Tag::FOUND]);
+    io::write_all(STDOUT_FILENO, b" pairs\n");
+}
+
 // The last line where a row is at fault: the file is cut, the tag is unknown, or the word does not fit the buffers or the runs so far.
 pub fn print_fault(numbers: &Numbers, tag: u32) {
     print_step(numbers, b": the file is at fault in a row of tag ", tag);
@@ -39,6 +58,7 @@ pub fn print_total(numbers: &Numbers) {
     print(b" calls, ", numbers[Tag::FORMAT_ENTRY]);
     print(b" formats, ", numbers[Tag::CHECK_ENTRY]);
     print(b" checks, ", numbers[Tag::CONVERT_ENTRY]);
-    print(b" conversions, ", numbers[Tag::DIFFERENCES]);
+    print(b" conversions, ", numbers[Tag::SEARCH_ENTRY]);
+    print(b" searches, ", numbers[Tag::DIFFERENCES]);
     io::write_all(STDOUT_FILENO, b" differences\n");
 }

@@ -8,6 +8,8 @@ use crate::buffers::fill;
 use crate::buffers::wide;
 use crate::numbers::Numbers;
 use crate::numbers::count;
+use crate::report::print_front;
+use crate::report::print_search;
 use crate::tags::Tag;
 
 // The byte of a new store.
@@ -45,6 +47,19 @@ fn read_bytes(fd: i32, buf: &mut [u8], place: u32, n: u32, lent: u32) -> bool {
     io::read_full(fd, &mut buf[from..to]) == n as usize
 }
 
+// The longest text that is printed.
+const TEXT_ROOM: usize = 160;
+
+// Prints the n bytes that follow in the file.
+fn copy_text(fd: i32, n: u32) -> bool {
+    let mut text = [0u8; TEXT_ROOM];
+    let good = read_bytes(fd, &mut text, 0, n, n);
+    if good {
+        print_front(&text, n as usize);
+    }
+    good
+}
+
 // Takes a row that calls no entry: false where it is at fault.
 pub fn take(
     fd: i32,
@@ -69,6 +84,11 @@ pub fn take(
         Tag::CALL => read_bytes(fd, call, place, word, numbers[Tag::CALL_LENGTH]),
         Tag::REPLY => read_bytes(fd, want, place, word, numbers[Tag::REPLY_LENGTH]),
         Tag::OLD => read_bytes(fd, old, place, word, numbers[Tag::OLD_LENGTH]),
+        Tag::TEXT => copy_text(fd, word),
+        Tag::SHOW => {
+            print_search(numbers);
+            word == 0
+        }
         Tag::RUN => {
             count(numbers, Tag::RUN);
             numbers[Tag::STEP] = 0;

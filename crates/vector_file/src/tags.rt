@@ -30,16 +30,21 @@ impl Tag {
     // How much is lent of the old image that is converted.
     pub const OLD_LENGTH: usize = 12;
 
-    pub const LAST_GIVEN: usize = 12;
+    // The directory that is searched: its object's number.
+    pub const DIRECTORY: usize = 13;
 
-    // Numbers that must come back: the answer's length and the digest of the store, ..
+    pub const LAST_GIVEN: usize = 13;
+
+    // Numbers that must come back: the answer's length, the digest of the store, the byte pairs that the last search compared, ..
     pub const FIRST_WANTED: usize = 64;
 
     pub const LENGTH: usize = 64;
 
     pub const STORE_DIGEST: usize = 65;
 
-    pub const LAST_WANTED: usize = 66;
+    pub const PAIRS: usize = 67;
+
+    pub const LAST_WANTED: usize = 67;
 
     // .. and those that no row of their own sets: the answer's number, how far the reply space is as wanted, and the byte there.
     pub const NUMBER: usize = 93;
@@ -60,12 +65,18 @@ impl Tag {
 
     pub const OLD: usize = 131;
 
+    // .. and of a text that is printed.
+    pub const TEXT: usize = 132;
+
     // A new run, and the end of the file. The word is the number of runs so far.
     pub const RUN: usize = 192;
 
     pub const END: usize = 193;
 
-    // Calls of an entry. The word is the number that it must answer.
+    // Prints what the last search found.
+    pub const SHOW: usize = 194;
+
+    // Calls of an entry, and searches. The word is the number that must be answered.
     pub const FIRST_ENTRY: usize = 224;
 
     pub const FORMAT_ENTRY: usize = 224;
@@ -75,6 +86,11 @@ impl Tag {
     pub const CALL_ENTRY: usize = 226;
 
     pub const CONVERT_ENTRY: usize = 227;
+
+    pub const SEARCH_ENTRY: usize = 228;
+
+    // What the last search answered: 0, or 1 and the number of the record that it found.
+    pub const SEARCHED: usize = 252;
 
     // The steps of the run, and how many things differed; a row that is not there.
     pub const STEP: usize = 253;

@@ -1,4 +1,5 @@
-// The calls of the entries.
+// The calls of the entries, and the searches.
+use crate::search::search;
 use kinds::numbers::Answer;
 use vector_file::buffers::digest;
 use vector_file::numbers::Numbers;
@@ -7,7 +8,7 @@ use vector_file::numbers::size;
 use vector_file::tags::Tag;
 
 // No entry answers this number.
-const NO_ENTRY: u32 = 4294967295;
+pub const NO_ENTRY: u32 = 4294967295;
 
 // Calls `nfs3_format` with the numbers of the table.
 fn format(numbers: &Numbers, store: &mut [u8]) -> Answer {
@@ -38,7 +39,7 @@ fn send(numbers: &Numbers, store: &mut [u8], call: &[u8], reply: &mut [u8]) -> A
 // Calls the entry of this tag on what is lent of the buffers.
 fn ask(
     tag: usize,
-    numbers: &Numbers,
+    numbers: &mut Numbers,
     store: &mut [u8],
     call: &[u8],
     reply: &mut [u8],
@@ -56,13 +57,17 @@ fn ask(
     if tag == Tag::CONVERT_ENTRY {
         return nfs3::nfs3_convert(old, store);
     }
+    if tag == Tag::SEARCH_ENTRY {
+        return search(numbers, store, call);
+    }
     Answer {
         number: NO_ENTRY,
         length: 0,
     }
 }
 
-// Lends the buffers to the entry of this tag, and puts what comes back into the table; false where there is no such entry or no such length.
+// Lends the buffers to the entry of this tag, and puts what comes back into the table; false where there is no such entry, no such length, or no store
+// to search.
 pub fn step(
     tag: usize,
     numbers: &mut Numbers,

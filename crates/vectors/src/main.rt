@@ -1,6 +1,8 @@
-// Runs the steps of the file `vectors` through the entries of the library, and prints a line for each thing that differs and the counts.
-// `data/vectors` and `stdout` are what the independent program in `peer` wrote (`peer/README.md`).
+// Runs the steps of the files `vectors` and `searches` through the entries of the library and its search for a name, and prints a line for each thing
+// that differs, the counts, and what the searches of a table found. The files in `data` and `stdout` are what the independent program in `peer`
+// wrote (`peer/README.md`).
 mod entries;
+mod search;
 
 use entries::step;
 use vector_file::buffers::CALL_ROOM;
@@ -19,7 +21,12 @@ use vector_file::rows::take;
 use vector_file::tags::Tag;
 
 fn main() {
-    let path = b"vectors";
+    replay(b"vectors");
+    replay(b"searches");
+}
+
+// Replays the file of this name.
+fn replay(path: &[u8]) {
     let fd = os::open_read(path);
     if fd < 0 {
         os::fail(path);
@@ -48,7 +55,7 @@ fn turn(
     goes_on(row, good, numbers, reply, want)
 }
 
-// Replays the file. The arrays are lent as slices below this function only.
+// Runs the rows of the file. The arrays are lent as slices below this function only.
 fn run(fd: i32) {
     let mut numbers = [0u32; 256];
     let mut store = [0u8; STORE_ROOM];
