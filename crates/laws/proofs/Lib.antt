@@ -36,6 +36,7 @@ pub mod Replaced
 pub mod Resent
 pub mod Resize
 pub mod SameReads
+pub mod SearchCost
 pub mod Searches
 pub mod Served
 pub mod SetAttributes

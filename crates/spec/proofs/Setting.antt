@@ -200,6 +200,6 @@ unfolding handle unbounded nameIn time setNumber setSize setTime settable guard 
     checkNew checkHow checkCreate create checkMkdir mkdir checkEntry checkRemove hasEntries checkRmdir removeFrom remove rmdir isWithin isReplaceable
     checkReplace checkMove checkRename moveEdit failRenaming rename fsstat fsinfo pathconf fattr3 postOp preOp wccData entryBytes entriesBytes resultBytes
     failShowing failChanging isLive isRegular isDirectory sizeOf held uses isFreeBlock freeBlocks freeBlockCount isAvailable availableCount availableObject
-    isUsedName availableName freeNameCount isNaming namings isIn isNamed findName comparedAt compared subdirectories parent above byteAt denied accepted judge mismatch
-    serve check formatted format convert number word long choice flag bytes opaque end
+    isUsedName availableName freeNameCount isNaming namings isIn isNamed findName comparedAt compared subdirectories parent above byteAt denied accepted
+    judge mismatch serve check formatted format convert number word long choice flag bytes opaque end
 computing = 0

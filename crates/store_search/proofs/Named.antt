@@ -1,23 +1,19 @@
 -- Comparing a name record with a name, test by test. Assumes nothing.
-use mathlib.Core.Path.{_≡_, refl, sym, subst, _∙_}
+use mathlib.Core.Path.{_≡_, refl, sym, _∙_}
 use mathlib.Core.Logic.{_≢_, by-cases}
-use mathlib.Core.Bool.{Bool, true, false, _&&_, cond, and-false, and-true}
+use mathlib.Core.Bool.{true, false, and-false, and-true}
 use mathlib.Core.List.{List}
 use mathlib.Core.Option.{none}
-use Prim.Native.Nat.{ℕ, zero, suc, _+_, _≤_, _<_, zero-le}
+use Prim.Native.Nat.{ℕ, _+_}
 use native.Mathlib.Decide.{ℕ-discrete}
-use native.Mathlib.Numerals.{add-one}
-use native.Mathlib.Omega.{arith}
-use lib.Dec.{eqb}
-use lib.ListN.{length, length-take}
+use lib.ListN.{length}
 use borrow.Author.Tests.{eq-eqb, ne-eqb}
 use Rattle.kinds.specs.Layout.{childOffset, lengthOffset, textOffset}
 use Rattle.spec.specs.Bytes.{part, beAt, sameBytes, pairs}
-use Rattle.spec.specs.Count.{passing, lowest}
 use Rattle.spec.specs.Image.{Store, names, nameStart, nameAt, nameFrom, nameLength}
 use Rattle.spec.specs.Room.{isUsedName, isIn, isNaming, isNamed, findName, comparedAt, compared}
-use Rattle.laws.proofs.Bytes.{pairs-bound}
-use Rattle.laws.proofs.Count.{sum-zero, lowest-more}
+use Rattle.laws.proofs.Count.{sum-zero}
+use Rattle.laws.proofs.Searches.{lowest-nothing}
 
 module _ (s : Store) (d n : ℕ) where
   pub elsewhere : nameAt s n .directory ≢ d → isIn s d n ≡ false
@@ -89,29 +85,11 @@ module _ (s : Store) (d n : ℕ) where
       let i = used-in e (λ q. z (sym l ∙ q)) in
       rw (i, l, eq-eqb len (length text) (sym t)) (refl, refl)
 
-  -- at most as many pairs as the record states bytes
-  pub compared-bound : (text : List ℕ) → comparedAt s d text n ≤ nameLength s n
-  unfolding comparedAt nameAt nameFrom nameLength part
-  compared-bound text = either (isIn s d n && eqb (nameLength s n) (length text))
-    where
-      either : (t : Bool) → cond t (pairs (nameAt s n .text) text) 0 ≤ nameLength s n
-      either true =
-          let r = pairs-bound (nameAt s n .text) text in
-          let l : length (nameAt s n .text) ≤ nameLength s n = simp length-take (omega arith) in
-          omega arith
-      either false = zero-le
-
-none-passes : (p : ℕ → Bool) (n : ℕ) → ((i : ℕ) → i < n → p i ≡ false) → lowest n p ≡ none
-unfolding lowest passing
-none-passes p zero f = refl
-none-passes p (suc n) f =
-    subst (λ (m : ℕ). lowest m p ≡ none) (add-one n) (lowest-more p n (none-passes p n (λ i l. f i (omega arith))) (f n (omega arith)))
-
 -- the empty name: none is found, and nothing is compared
 pub empty-name : (s : Store) (d : ℕ) (text : List ℕ) → length text ≡ 0 → (findName s d text ≡ none) × (compared s d text ≡ 0)
 unfolding findName compared
 empty-name s d text e =
-    let absent = none-passes (isNamed s d text) (names s) (λ n l. apart n .0) in
+    let absent = lowest-nothing (names s) (isNamed s d text) (λ n l. apart n .0) in
     (absent, rw absent (sum-zero (names s) (comparedAt s d text) (λ n l. apart n .1)))
   where
     apart : (n : ℕ) → (isNamed s d text n ≡ false) × (comparedAt s d text n ≡ 0)

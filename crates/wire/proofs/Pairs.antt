@@ -39,7 +39,8 @@ module _ (a : List ℕ) (at : ℕ) (b : List ℕ) (from : ℕ) (g : at + 4 ≤ l
       → Says 4 (eqb (getD a (at + 3) 0) (getD b (from + 3) 0))
   unfolding sameBytes pairs
   fourth-decides d e f =
-      rw (part-four a at g, part-four b from h, eq-eqb _ _ d, eq-eqb _ _ e, eq-eqb _ _ f) (sym (and-true _), last (eqb (getD a (at + 3) 0) (getD b (from + 3) 0)))
+      rw (part-four a at g, part-four b from h, eq-eqb _ _ d, eq-eqb _ _ e, eq-eqb _ _ f)
+      (sym (and-true _), last (eqb (getD a (at + 3) 0) (getD b (from + 3) 0)))
     where
       last : (t : Bool) → 4 ≡ 1 + (1 + (1 + (1 + cond t 0 0)))
       last true = refl

@@ -214,8 +214,8 @@ fn compare_four(a: &[u8], at: usize, b: &[u8], from: usize) -> Compared
     Compared { pairs: 4, same }
 }
 
-// Compares the len bytes of a from `at` with those of b from `from`, pair by pair, up to the first difference. Four in a row without a loop take
-// half the time.
+// Compares the len bytes of a from `at` with those of b from `from`, pair by pair, up to the first difference. Four in a row are written out: a loop
+// over single bytes takes some three times as long.
 pub fn compare_bytes(a: &[u8], at: usize, b: &[u8], from: usize, len: usize) -> Compared
     requires { ⌜ at + len ≤ length (now a) ⌝ }
     requires { ⌜ from + len ≤ length (now b) ⌝ }

@@ -1,12 +1,11 @@
 use borrow.Author.Needs.{needs}
 use borrow.Author.Tests.{not-true, not-false}
 use native.Mathlib.Omega.{arith}
-use mathlib.Core.Path.{_≡_, refl, sym, ap, _∙_}
+use mathlib.Core.Path.{_≡_, refl, sym, _∙_}
 use Prim.Native.Nat.{_+_, _-_, _≤_, zero-le}
 use Rattle.spec.specs.Bytes.{part}
 use Rattle.laws.proofs.Bytes.{part-length, part-snoc, same-yes, pairs-equal, first-difference, equal-further}
 use Rattle.wire.proofs.Pairs.{one-differs, four-equal, four-bound}
-use lib.ListN.{getD}
 use Rattle.wire.proofs.compare_bytes.Statement.{statement}
 use Rattle.wire.proofs.compare_bytes.Tie as tie
 

@@ -8,7 +8,8 @@ use Rattle.spec.specs.Room.{isNamed, findName, comparedAt, compared}
 use Rattle.laws.proofs.Bytes.{part-length}
 use Rattle.laws.proofs.Count.{sum-more, lowest-more, lowest-hit}
 use Rattle.store_records.specs.Text.{textOf}
-use Rattle.store_search.proofs.Named.{compared-bound, empty-name}
+use Rattle.laws.proofs.SearchCost.{compared-bound}
+use Rattle.store_search.proofs.Named.{empty-name}
 use borrow.Author.Needs.{needs}
 use Rattle.store_search.proofs.search.search_name.Statement.{statement}
 use Rattle.store_search.proofs.search.search_name.Tie as tie
@@ -52,7 +53,7 @@ add-compared c =
     let s = a .store .now in
     let i = c .before .before .before .loop .i in
     let short = st .pre .1 .0 .short i (omega arith) in
-    let few = compared-bound s (a .directory .0) i (textOf (a .call .now) (a .name)) in
+    let few = compared-bound s (a .directory .0) (textOf (a .call .now) (a .name)) i in
     search (needs, short, few, c .before .compare-name .ensures .1)
 
 returns-2 : tie.Need-returns-2 Inv-loop μ-loop
@@ -87,7 +88,7 @@ loop-again c =
     let text = textOf (a .call .now) (a .name) in
     let here = c .before .before .compare-name .ensures in
     let short = st .pre .1 .0 .short (l .i) (omega arith) in
-    let few = compared-bound s d (l .i) text in
+    let few = compared-bound s d text (l .i) in
     let next = sum-more (l .i) (comparedAt s d text) in (
       omega arith,
       omega arith,

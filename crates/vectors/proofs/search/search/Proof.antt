@@ -7,16 +7,6 @@ use Rattle.store_records.proofs.Good.{good-shaped, good-names-sound}
 use Rattle.fsck.proofs.Filled.{blank-of}
 use Rattle.fsck.proofs.Verdict.{good-passes}
 use native.Mathlib.Omega.{arith}
-use Prim.Native.Nat.{ℕ, _+_, _-_, _*_, _≤_, _<_}
-use lib.ListN.{length}
-use mathlib.Core.Path.{sym, _∙_}
-use borrow.Author.Needs.{needs}
-use Rattle.kinds.specs.Numbers.{mostBlocks, mostObjects}
-use Rattle.laws.proofs.GoodRecords.{valid-records}
-use Rattle.laws.proofs.Valid.{valid}
-use Rattle.store_records.proofs.Good.{good-shaped, good-names-sound}
-use Rattle.fsck.proofs.Filled.{blank-of}
-use Rattle.fsck.proofs.Verdict.{good-passes}
 use Rattle.vectors.proofs.search.search.Statement.{statement}
 use Rattle.vectors.proofs.search.search.Tie as tie
 
