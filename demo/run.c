@@ -4,8 +4,9 @@
  * difference.
  *
  * Two bag tags are files of the root: 0123456789 and 123456789. The second is made EXCLUSIVE: sent again, its CREATE is answered in the same way,
- * and another host's is refused. The first is removed; its handle is stale then, and the second is as it was. SETATTR gives the second a mode; from
- * then on its CREATE is refused too. At last the second is replaced: a new file is made under the first name and renamed onto the second one.
+ * and another host's is refused. Each is found under its own name, and 0123456780, which is as long as the first, is not there. The first is
+ * removed; its handle is stale then, and the second is as it was. SETATTR gives the second a mode; from then on its CREATE is refused too. At last
+ * the second is replaced: a new file is made under the first name and renamed onto the second one.
  */
 #include "same.h"
 
@@ -21,8 +22,8 @@
 /* The head of a reply: xid, reply, accepted, no verifier, success. */
 #define REPLY(xid) W(xid), W(1), W(0), W(0), W(0), W(0)
 
-enum { GETATTR = 1, SETATTR = 2, READ = 6, WRITE = 7, CREATE = 8, REMOVE = 12, RENAME = 14, READDIR = 16 };
-enum { OK = 0, EXIST = 17, STALE = 70 };
+enum { GETATTR = 1, SETATTR = 2, LOOKUP = 3, READ = 6, WRITE = 7, CREATE = 8, REMOVE = 12, RENAME = 14, READDIR = 16 };
+enum { OK = 0, NOENT = 2, EXIST = 17, STALE = 70 };
 
 /* A handle: its length, then the store's stamp, object and generation. */
 #define STAMP 0x01020304
@@ -32,9 +33,10 @@ enum { OK = 0, EXIST = 17, STALE = 70 };
 #define SECOND HANDLE(2, 0)
 #define THIRD HANDLE(1, 1)
 
-/* The names and contents of the two files, as XDR opaque data. */
+/* The names and contents of the two files, and a name that differs from the first in its last digit, as XDR opaque data. */
 #define FIRST_NAME W(10), '0', '1', '2', '3', '4', '5', '6', '7', '8', '9', 0, 0
 #define SECOND_NAME W(9), '1', '2', '3', '4', '5', '6', '7', '8', '9', 0, 0, 0
+#define MISSING_NAME W(10), '0', '1', '2', '3', '4', '5', '6', '7', '8', '0', 0, 0
 #define FIRST_DATA W(11), 'O', 'S', 'L', ' ', 'g', 'a', 't', 'e', ' ', '1', '2', 0
 #define SECOND_DATA W(10), 'T', 'R', 'D', ' ', 'g', 'a', 't', 'e', ' ', '7', 0, 0
 
@@ -111,6 +113,7 @@ static const char *procedure_name(uint32_t procedure) {
     switch (procedure) {
     case GETATTR: return "GETATTR";
     case SETATTR: return "SETATTR";
+    case LOOKUP: return "LOOKUP";
     case READ: return "READ";
     case WRITE: return "WRITE";
     case CREATE: return "CREATE";
@@ -124,6 +127,7 @@ static const char *procedure_name(uint32_t procedure) {
 static const char *status_name(uint32_t status) {
     switch (status) {
     case OK: return "OK";
+    case NOENT: return "NOENT";
     case EXIST: return "EXIST";
     case STALE: return "STALE";
     default: return "another";
@@ -149,6 +153,8 @@ static void tell_entries(size_t len) {
 static void tell_result(uint32_t procedure, size_t len) {
     if (procedure == GETATTR && len == 112)
         printf("size %u", (unsigned)word(reply, 52));
+    if (procedure == LOOKUP && len == 220)
+        printf("object %u", (unsigned)word(reply, 36));
     if (procedure == CREATE && len == 252)
         printf("handle: stamp %08X, object %u, generation %u", (unsigned)word(reply, 36), (unsigned)word(reply, 40), (unsigned)word(reply, 44));
     if (procedure == WRITE && len == 160)
@@ -179,6 +185,8 @@ static void tell(const char *about, uint32_t procedure, struct nfs3_answer a) {
         tell_result(procedure, a.length);
     else if (word(reply, 24) == STALE)
         printf("the handle of a file that is no more");
+    else if (word(reply, 24) == NOENT)
+        printf("there is no such name");
     else if (word(reply, 24) == EXIST)
         printf("the name is taken");
     printf("\n");
@@ -252,6 +260,19 @@ static void look(void) {
     SEND("123456789", 1005, read_second, got_second);
 }
 
+/* Each tag is found under its own digits alone. */
+static void look_up(void) {
+    static const uint8_t find_first[] = { CALL(24, LOOKUP), ROOT, FIRST_NAME };
+    static const uint8_t found_first[] = { REPLY(24), W(OK), FIRST, W(1), FIRST_ATTRIBUTES(11, 512, 1003), W(1), ROOT_ATTRIBUTES(1002) };
+    static const uint8_t find_second[] = { CALL(25, LOOKUP), ROOT, SECOND_NAME };
+    static const uint8_t found_second[] = { REPLY(25), W(OK), SECOND, W(1), SECOND_ATTRIBUTES(10, 512, 1004), W(1), ROOT_ATTRIBUTES(1002) };
+    static const uint8_t find_missing[] = { CALL(26, LOOKUP), ROOT, MISSING_NAME };
+    static const uint8_t not_found[] = { REPLY(26), W(NOENT), W(1), ROOT_ATTRIBUTES(1002) };
+    SEND("0123456789", 1005, find_first, found_first);
+    SEND("123456789", 1005, find_second, found_second);
+    SEND("0123456780", 1005, find_missing, not_found);
+}
+
 static void take_away(void) {
     static const uint8_t remove_first[] = { CALL(8, REMOVE), ROOT, FIRST_NAME };
     static const uint8_t removed_first[] = { REPLY(8), W(OK), BEFORE(512, 1002), W(1), ROOT_ATTRIBUTES(1005) };
@@ -321,6 +342,7 @@ int main(int argc, char **argv) {
     make();
     make_again();
     look();
+    look_up();
     take_away();
     look_again();
     settle();

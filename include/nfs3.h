@@ -117,7 +117,8 @@
  * Memory: they read and write the lent bytes and their own stack, and nothing else. There is no allocation, no static data but constants, no lock,
  *   no system call; they keep no pointer.
  * Time: each ends, whatever the bytes. A call checks the whole store first, which takes a few microseconds for the largest one; to convert that
- *   takes some 20 microseconds.
+ *   takes some 20 microseconds. Each name in a call is then compared with the names of its directory, one after the other: lengths first, then
+ *   bytes up to the first that differs. That is at most 2,016 pairs of bytes (63 names of 32 bytes), and takes less than a microsecond.
  * Threads: they are reentrant, and may run at once on different stores. One store is used by one call at a time, and not saved within
  *   one; simplest is a lock that holds from the call until the store is saved.
  * Stack: at most NFS3_STACK bytes, and NFS3_CONVERT_STACK for nfs3_convert, see there.

@@ -4,7 +4,8 @@
  *     rows small|full OPERATION TIMES
  *
  * EXCLUSIVE is a CREATE that comes again: the last file of the store is made by it. RENAME gives the last file a new name, and the old one again: two
- * calls. Ends with status 1 where a call is not answered OK.
+ * calls. LOOKUP finds the last file; in LOOKUP,first and LOOKUP,last the files have names of 32 bytes that differ in the first byte or in the last
+ * one only. Ends with status 1 where a call is not answered OK.
  */
 #include "nfs3.h"
 
@@ -93,6 +94,17 @@ static void make_old(uint32_t objects) {
     old_len += store_len - behind;
 }
 
+/* The name of a file of the store: file-number- and its number, or as LOOKUP,first and LOOKUP,last have it. */
+static void name_file(char *name, const char *operation, unsigned number) {
+    if (strncmp(operation, "LOOKUP,", 7) != 0) {
+        snprintf(name, NFS3_NAME_MOST + 1, "file-number-%u", number);
+        return;
+    }
+    memset(name, 'x', NFS3_NAME_MOST);
+    name[NFS3_NAME_MOST] = 0;
+    name[strcmp(operation, "LOOKUP,first") == 0 ? 0 : NFS3_NAME_MOST - 1] = (char)('0' + number);
+}
+
 static void turn(const char *operation, int full, const char *last) {
     if (strcmp(operation, "check") == 0)
         wrong |= nfs3_check(store, store_len).number;
@@ -105,6 +117,10 @@ static void turn(const char *operation, int full, const char *last) {
     } else if (strcmp(operation, "RENAME") == 0) {
         rename_to(last, "another");
         rename_to("another", last);
+    } else if (strncmp(operation, "LOOKUP", 6) == 0) {
+        begin(LOOKUP, 0);
+        opaque(last, strlen(last));
+        end();
     } else if (strcmp(operation, "WRITE") == 0)
         write_bytes(1, 0, 512);
     else {
@@ -117,14 +133,11 @@ static void turn(const char *operation, int full, const char *last) {
             { "READ", READ, 1, 3, { 0, 0, 4096 } },
             { "READDIR", READDIR, 0, 5, { 0, 0, 0, 0, 4096 } },
             { "FSSTAT", FSSTAT, 0, 0, { 0 } },
-            { "LOOKUP", LOOKUP, 0, 0, { 0 } },
         };
         for (size_t i = 0; i < sizeof plain / sizeof *plain; i++)
             if (strcmp(operation, plain[i].name) == 0) {
                 begin(plain[i].procedure, plain[i].object);
                 words(plain[i].arguments, plain[i].count);
-                if (plain[i].procedure == LOOKUP)
-                    opaque(last, strlen(last));
                 end();
                 return;
             }
@@ -142,11 +155,11 @@ int main(int argc, char **argv) {
         return 2;
     int full = strcmp(argv[1], "full") == 0, times = atoi(argv[3]);
     uint32_t objects = full ? NFS3_OBJECTS_MOST : 8, names = full ? NFS3_NAMES_MOST : 8, blocks = full ? NFS3_BLOCKS_MOST : 8;
-    char last[NFS3_NAME_MOST];
+    char last[NFS3_NAME_MOST + 1];
     store_len = NFS3_STORE_LENGTH(objects, names, blocks);
     wrong = nfs3_format(store, store_len, STAMP, objects, names, blocks, 1, 1).number;
     for (uint32_t file = 1; file <= (full ? objects - 1 : 1); file++) {
-        snprintf(last, sizeof last, "file-number-%u", (unsigned)file - 1);
+        name_file(last, argv[2], (unsigned)file - 1);
         if (strcmp(argv[2], "EXCLUSIVE") == 0 && file == (full ? objects - 1 : 1))
             create_exclusive(last);
         else
