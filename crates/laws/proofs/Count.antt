@@ -4,8 +4,8 @@ use mathlib.Core.Logic.{_≢_, by-cases, ⊎-elim}
 use mathlib.Core.Bool.{Bool, true, false, _&&_, cond, or-true, and-false}
 use mathlib.Core.Option.{some, none}
 use mathlib.Core.List.{List, [], _∷_, _++_, append-nil}
-use Prim.Native.Nat.{ℕ, zero, suc, _+_, _≤_, _<_}
-use native.Mathlib.Nat.{not-suc-le-zero}
+use Prim.Native.Nat.{ℕ, zero, suc, _+_, _*_, _≤_, _<_}
+use native.Mathlib.Nat.{add-mul, not-suc-le-zero}
 use native.Mathlib.Decide.{ℕ-discrete, decLt, le-ind}
 use native.Mathlib.Numerals.{add-one}
 use native.Mathlib.Omega.{arith}
@@ -65,6 +65,16 @@ pub sum-zero : (n : ℕ) (f : ℕ → ℕ) → ((i : ℕ) → i < n → f i ≡ 
 unfolding sum
 sum-zero zero f h = refl
 sum-zero (suc n) f h = let r = sum-zero n f (λ i l. h i (omega arith)) in let e = h n (omega arith) in omega arith
+
+-- a sum over fewer numbers is no larger; nor is one whose terms are at most c where a test holds and else 0, than c for each number that passes
+pub sum-fewer : (f : ℕ → ℕ) (k n : ℕ) → k ≤ n → sum k f ≤ sum n f
+unfolding sum
+sum-fewer f k n h = le-ind (λ (m : ℕ). sum k f ≤ sum m f) (omega arith) (λ m l q. omega arith) n h
+
+pub sum-most : (f : ℕ → ℕ) (p : ℕ → Bool) (c n : ℕ) → ((i : ℕ) → f i ≤ bit (p i) * c) → sum n f ≤ count n p * c
+unfolding sum
+sum-most f p c zero h = omega arith
+sum-most f p c (suc n) h = rw (add-mul (bit (p n)) (count n p) c) (let r = sum-most f p c n h in let e = h n in omega arith)
 
 -- a count whose next number passes or not
 pub count-more : (p : ℕ → Bool) (i k r : ℕ) (t : Bool) → k ≡ count i p → r ≡ bit t → t ≡ p i → k + r ≡ count (i + 1) p

@@ -3,29 +3,17 @@ use mathlib.Core.Path.{_≡_, refl}
 use mathlib.Core.Bool.{Bool, true, false, _&&_, cond}
 use mathlib.Core.List.{List}
 use mathlib.Core.Option.{Option, some, none}
-use Prim.Native.Nat.{ℕ, zero, suc, _*_, _≤_, zero-le}
-use native.Mathlib.Decide.{le-ind}
-use native.Mathlib.Nat.{add-mul}
+use Prim.Native.Nat.{ℕ, _*_, _≤_, zero-le}
 use native.Mathlib.Omega.{arith}
 use lib.Dec.{eqb}
 use lib.ListN.{length, length-take}
 use borrow.Author.Tests.{eqb-true}
 use Rattle.spec.specs.Bytes.{part, pairs}
-use Rattle.spec.specs.Count.{bit, sum, count}
+use Rattle.spec.specs.Count.{bit, count}
 use Rattle.spec.specs.Image.{Store, names, nameAt, nameFrom, nameLength}
 use Rattle.spec.specs.Room.{isIn, isNamed, findName, comparedAt, searched, compared}
 use Rattle.laws.proofs.Bytes.{pairs-bound}
-use Rattle.laws.proofs.Count.{lowest-passes}
-
--- sums over fewer numbers, and of terms that are at most c where a test holds and else 0
-sum-fewer : (f : ℕ → ℕ) (k n : ℕ) → k ≤ n → sum k f ≤ sum n f
-unfolding sum
-sum-fewer f k n h = le-ind (λ (m : ℕ). sum k f ≤ sum m f) (omega arith) (λ m l q. omega arith) n h
-
-sum-most : (f : ℕ → ℕ) (p : ℕ → Bool) (c n : ℕ) → ((i : ℕ) → f i ≤ bit (p i) * c) → sum n f ≤ count n p * c
-unfolding sum
-sum-most f p c zero h = zero-le
-sum-most f p c (suc n) h = rw (add-mul (bit (p n)) (count n p) c) (let r = sum-most f p c n h in let e = h n in omega arith)
+use Rattle.laws.proofs.Count.{sum-fewer, sum-most, lowest-passes}
 
 module _ (s : Store) (d : ℕ) (text : List ℕ) where
   -- of a record's name, no more pairs than it states bytes

@@ -45,8 +45,9 @@ search d text = (findName lane d text, compared lane d text)
 
 pub record Searching : Type 0 where
   pub good : passes lane ≡ true
-  -- "0 where lengths differ": at record 0; "the whole name": at record 1
+  -- "ascending up to the match": record 0 is counted, record 4 is not
   pub first-record : search 0 tag0123456789 ≡ (some 0, 10)
+  -- "0 where lengths differ": at record 0; "the whole name": at record 1
   pub other-length : search 0 tag123456789 ≡ (some 1, 9)
   -- "through the first difference": the last byte at record 0; record 3 is in another directory
   pub last-byte : search 0 tag0123456780 ≡ (some 4, 10 + 10)

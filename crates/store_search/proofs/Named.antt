@@ -61,7 +61,7 @@ module _ (s : Store) (d n : ℕ) where
   free-in e = rw (used-no e)
 
   -- a record that is not compared: it is in another directory, states another length, or is free
-  abbrev Apart : List ℕ → Type 0
+  abbrev pub Apart : List ℕ → Type 0
   Apart text = (isNamed s d text n ≡ false) × (comparedAt s d text n ≡ 0)
 
   pub elsewhere-apart : (text : List ℕ) → nameAt s n .directory ≢ d → Apart text
@@ -92,5 +92,5 @@ empty-name s d text e =
     let absent = lowest-nothing (names s) (isNamed s d text) (λ n l. apart n .0) in
     (absent, rw absent (sum-zero (names s) (comparedAt s d text) (λ n l. apart n .1)))
   where
-    apart : (n : ℕ) → (isNamed s d text n ≡ false) × (comparedAt s d text n ≡ 0)
+    apart : (n : ℕ) → Apart s d n text
     apart n = by-cases (ℕ-discrete (nameLength s n) 0) (λ q. free-apart s d n text q) (λ f. longer-apart s d n text (λ q. f (q ∙ e)))
