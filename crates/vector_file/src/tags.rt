@@ -89,7 +89,7 @@ impl Tag {
 
     pub const SEARCH_ENTRY: usize = 228;
 
-    // What the last search answered: 0, or 1 and the number of the record that it found.
+    // What the last search answered: 0, or one more than the number of the record that it found.
     pub const SEARCHED: usize = 252;
 
     // The steps of the run, and how many things differed; a row that is not there.

@@ -20,8 +20,8 @@ fn narrow(n: usize) -> u32
     wire::smaller(n, 4294967294) as u32
 }
 
-// Searches the directory of the table for the name that the call's bytes are, and puts the pairs that were compared into the table. Answers 0, or 1 and
-// the number of the record; no entry's number where the store fails its check.
+// Searches the directory of the table for the name that the call's bytes are, and puts into the table how many byte pairs were compared. Answers 0, or
+// one more than the number of the record; no entry's number where the store fails its check.
 pub fn search(numbers: &mut Numbers, store: &[u8], call: &[u8]) -> Answer {
     let mut used = [0u8; Limit::MOST_BLOCKS];
     let mut parents = [0u8; Limit::MOST_OBJECTS];
