@@ -9,10 +9,10 @@ ghost use Rattle.fsck_objects.specs.Told.{Told};
 ghost use Rattle.fsck_objects.specs.Objects.{Blank};
 ghost use Rattle.fsck_names.specs.Named.{NamedBy};
 ghost use Rattle.fsck.specs.Tree.{Parents, Known, Steps, Depth, Leads, TreePasses};
-use fsck_names::distinct::index;
 use kinds::numbers::Limit;
 use kinds::numbers::ObjectNumber;
 use store_records::object::is_live;
+use wire::hash::index;
 
 // The parent of an object by the map.
 fn parent_of(parents: &[u8; Limit::MOST_OBJECTS], o: ObjectNumber) -> ObjectNumber

@@ -3,22 +3,22 @@ use mathlib.Core.Path.{_≡_, refl, sym, ap, ap₂, _∙_}
 use mathlib.Core.Bool.{Bool, true, _&&_}
 use mathlib.Core.List.{List, [], _∷_, _++_}
 use Prim.Native.Nat.{ℕ, zero, suc, _+_, _*_, _-_, _/_, _%_, _^_, _≤_}
-use native.Mathlib.Numerals.{towards-suc}
 use native.Mathlib.Omega.{arith}
 use lib.Dec.{eqb, lit≤}
 use lib.ListN.{length, getD, drop}
 use borrow.Author.Tests.{eqb-true, eq-eqb}
 use Rattle.kinds.specs.Layout.{namesHead, objectLength, textOffset, nameRecordLength}
 use Rattle.kinds.specs.Numbers.{mostNameBytes}
-use Rattle.spec.specs.Bytes.{part, digits, beOf, zeros, sameBytes, allBytes}
+use Rattle.spec.specs.Bytes.{part, zeros, sameBytes, allBytes}
 use Rattle.spec.specs.Image.{Store, objects, nameStart, nameFrom, nameAt, nameLength}
 use Rattle.spec.specs.Room.{isUsedName, isIn, isNamed}
 use Rattle.spec.specs.Names.{goodByte, goodBytes}
-use Rattle.laws.proofs.Bytes.{part-cons, part-add, part-part, same-eq, same-yes}
+use Rattle.laws.proofs.Bytes.{part-add, part-part, same-eq, same-yes}
 use Rattle.laws.proofs.Count.{by-bool, true-false, and-both}
 use Rattle.wire.specs.LowFirst.{lowFirst}
 use Rattle.laws.proofs.Valid.{UsedName, good-bytes}
-use Rattle.fsck_names.specs.Distinct.{wordAt, joined, mix, paddedText, hash, isSame}
+use Rattle.wire.specs.Hash.{wordAt, joined}
+use Rattle.fsck_names.specs.Distinct.{mix, paddedText, hash, isSame}
 use Rattle.fsck_names.proofs.Joins.{is-used}
 
 -- lists of no zero that are equal when zeros are put after them
@@ -125,24 +125,6 @@ module _ (s : Store) where
     same-found p a b x y t ep ea eb ex ey et u = rw (et, ex, ey, ea, eb, ep) (same-is u)
 
 -- ---- the hash as the code makes it
-pub word-low : (b : List ℕ) (at : ℕ) → at + 8 ≤ length b
-    → getD b at 0 + getD b (at + 1) 0 * 256 + getD b (at + 2) 0 * 65536 + getD b (at + 3) 0 * 16777216 + getD b (at + 4) 0 * 4294967296
-    + getD b (at + 5) 0 * 1099511627776 + getD b (at + 6) 0 * 281474976710656 + getD b (at + 7) 0 * 72057594037927936
-    ≡ wordAt b at
-unfolding lowFirst beOf digits part
-word-low b at h =
-    rw (
-      part-cons b at 7 (omega arith),
-      part-cons b (suc at) 6 (omega arith),
-      part-cons b (suc (suc at)) 5 (omega arith),
-      part-cons b (suc (suc (suc at))) 4 (omega arith),
-      part-cons b (suc (suc (suc (suc at)))) 3 (omega arith),
-      part-cons b (suc (suc (suc (suc (suc at))))) 2 (omega arith),
-      part-cons b (suc (suc (suc (suc (suc (suc at)))))) 1 (omega arith),
-      part-cons b (suc (suc (suc (suc (suc (suc (suc at))))))) 0 (omega arith),
-    )
-    (simp towards-suc (omega arith))
-
 pub hash-by : (s : Store) (p n at d a b e f u v w x : ℕ) → p ≡ objects s → at ≡ namesHead + objectLength * p + nameRecordLength * n
     → d ≡ nameAt s n .directory → a ≡ wordAt s (at + textOffset) → b ≡ wordAt s (at + textOffset + 8)
     → e ≡ wordAt s (at + textOffset + 16) → f ≡ wordAt s (at + textOffset + 24) → u ≡ joined d a → v ≡ joined u b → w ≡ joined v e

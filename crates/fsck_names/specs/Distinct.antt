@@ -13,15 +13,7 @@ use Rattle.spec.specs.Image.{Store, names, nameStart, nameAt}
 use Rattle.spec.specs.Room.{isUsedName, isNamed}
 use Rattle.spec.specs.Check.{goodNameRecord}
 use Rattle.laws.proofs.Valid.{UsedName}
-use Rattle.wire.specs.LowFirst.{lowFirst}
-
--- the number in the eight bytes from `at`, least significant first
-abbrev pub wordAt : List ℕ → ℕ → ℕ
-wordAt b at = lowFirst (part b at 8)
-
--- the 64 bits of x turned, the lowest 6 to the top, and w added
-unfoldable pub joined : ℕ → ℕ → ℕ
-joined x w = (x / 64 + x % 64 * 2 ^ 58 + w) % 2 ^ 64
+use Rattle.wire.specs.Hash.{wordAt, joined}
 
 -- one byte of a directory and the four words of 32 name bytes. Each word is turned by another number of bits, so that its place counts, and
 -- the halves of the sum have factors of their own; all these numbers were chosen by trying, so that names spread that differ in one or two

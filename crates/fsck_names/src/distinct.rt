@@ -8,42 +8,16 @@ ghost use Rattle.kinds.specs.Numbers.{mostNameRecords};
 ghost use Rattle.spec.specs.Image.{objects, names};
 ghost use Rattle.laws.proofs.Valid.{Framed, UsedName};
 ghost use Rattle.fsck_objects.specs.Told.{Told};
-ghost use Rattle.fsck_names.specs.Distinct.{wordAt, joined, hash, isSame, New, Chains};
+ghost use Rattle.fsck_names.specs.Distinct.{hash, isSame, New, Chains};
 use crate::record::directory_of;
 use crate::text::same_text;
 use kinds::layout::NameRecord;
 use kinds::numbers::Limit;
 use kinds::numbers::NameNumber;
 use store_places::name_place;
-
-// A byte as a number.
-pub fn index(x: u8) -> usize
-    ensures { λ r. ⌜ (r ≡ x) × (r < 256) ⌝ }
-{
-    x as usize
-}
-
-// The number in the eight bytes from `at`, least significant first: one load for the compiler.
-fn word_at(s: &[u8], at: usize) -> usize
-    requires { ⌜ at + 8 ≤ length (now s) ⌝ }
-    ensures { λ r. ⌜ r ≡ wordAt (now (s .entry)) at ⌝ }
-{
-    index(s[at])
-        + index(s[at + 1]) * 256
-        + index(s[at + 2]) * 65536
-        + index(s[at + 3]) * 16777216
-        + index(s[at + 4]) * 4294967296
-        + index(s[at + 5]) * 1099511627776
-        + index(s[at + 6]) * 281474976710656
-        + index(s[at + 7]) * 72057594037927936
-}
-
-// The 64 bits of x turned, the lowest 6 to the top, and w added.
-fn join(x: usize, w: usize) -> usize
-    ensures { λ r. ⌜ r ≡ joined x w ⌝ }
-{
-    std::num::wrapping_add_usize(x / 64 + x % 64 * 288230376151711744, w)
-}
+use wire::hash::index;
+use wire::hash::join;
+use wire::hash::word_at;
 
 // The hash of a name record's directory and name bytes.
 pub fn hash_of(store: &[u8], p: usize, n: NameNumber) -> usize

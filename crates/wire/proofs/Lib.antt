@@ -4,3 +4,4 @@ pub mod LowFirst
 pub mod Pairs
 pub mod Dots
 pub mod TwoWords
+pub mod WordLow

@@ -1,2 +1,3 @@
 -- Numbers that the compiler reads and writes at once.
 pub mod LowFirst
+pub mod Hash

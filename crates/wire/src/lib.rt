@@ -8,6 +8,7 @@ ghost use Rattle.spec.specs.Check.{isZero};
 ghost use Rattle.wire.specs.LowFirst.{lowFirst};
 
 pub mod names; // the names "." and ".."
+pub mod hash; // numbers for a hash
 
 // The smaller of two numbers.
 pub fn smaller(a: usize, b: usize) -> usize

@@ -1,8 +1,8 @@
 use native.Mathlib.Omega.{arith}
-use Rattle.fsck_names.proofs.Same.{word-low}
+use Rattle.wire.proofs.WordLow.{word-low}
 use borrow.Author.Needs.{needs}
-use Rattle.fsck_names.proofs.distinct.word_at.Statement.{statement}
-use Rattle.fsck_names.proofs.distinct.word_at.Tie as tie
+use Rattle.wire.proofs.hash.word_at.Statement.{statement}
+use Rattle.wire.proofs.hash.word_at.Tie as tie
 
 shared-slice-read-index : tie.Need-shared-slice-read-index
 shared-slice-read-index c = search needs

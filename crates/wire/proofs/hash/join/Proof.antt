@@ -1,9 +1,9 @@
 use native.Mathlib.Omega.{arith}
 use Prim.Native.Nat.{ℕ, _+_, _*_, _^_, _<_}
-use Rattle.fsck_names.specs.Distinct.{joined}
+use Rattle.wire.specs.Hash.{joined}
 use borrow.Author.Needs.{needs}
-use Rattle.fsck_names.proofs.distinct.join.Statement.{statement}
-use Rattle.fsck_names.proofs.distinct.join.Tie as tie
+use Rattle.wire.proofs.hash.join.Statement.{statement}
+use Rattle.wire.proofs.hash.join.Tie as tie
 
 turned : (q r : ℕ) → q < 2 ^ 58 → r < 64 → q + r * 288230376151711744 < 2 ^ 64
 turned q r h l = omega arith
