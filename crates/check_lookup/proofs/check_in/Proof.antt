@@ -1,7 +1,7 @@
 use borrow.Author.Needs.{needs}
 use Rattle.spec.specs.Procedures.Names.{checkIn}
-use Rattle.act_read.proofs.lookup.check_in.Statement.{statement}
-use Rattle.act_read.proofs.lookup.check_in.Tie as tie
+use Rattle.check_lookup.proofs.check_in.Statement.{statement}
+use Rattle.check_lookup.proofs.check_in.Tie as tie
 
 check-name-requires : tie.Need-check-name-requires
 check-name-requires c κs = search needs

@@ -4,8 +4,8 @@ use Rattle.spec.specs.Procedures.{cut}
 use Rattle.spec.specs.Procedures.Names.{lookIn}
 use Rattle.store_search.proofs.Entry.{name-found}
 use Rattle.store_records.proofs.Good.{good-shaped, good-names-sound}
-use Rattle.act_read.proofs.lookup.look_in.Statement.{statement}
-use Rattle.act_read.proofs.lookup.look_in.Tie as tie
+use Rattle.check_lookup.proofs.look_in.Statement.{statement}
+use Rattle.check_lookup.proofs.look_in.Tie as tie
 
 is-dot-requires : tie.Need-is-dot-requires
 is-dot-requires c κs = search needs
