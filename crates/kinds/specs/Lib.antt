@@ -3,3 +3,4 @@ pub mod Layout
 pub mod Objects
 pub mod Reading
 pub mod BlockNumbers
+pub mod Mount

@@ -51,10 +51,13 @@ NOTSUPP = 10004
 abbrev pub TOOSMALL : ℕ
 TOOSMALL = 10005
 
+abbrev pub SERVERFAULT : ℕ
+SERVERFAULT = 10006
+
 abbrev pub statuses : List ℕ
 statuses =
     OK ∷ NOENT ∷ ACCES ∷ EXIST ∷ NOTDIR ∷ INVAL ∷ FBIG ∷ NOSPC ∷ NAMETOOLONG ∷ NOTEMPTY ∷ STALE ∷ BADHANDLE ∷ NOT-SYNC
-    ∷ BAD-COOKIE ∷ NOTSUPP ∷ TOOSMALL ∷ []
+    ∷ BAD-COOKIE ∷ NOTSUPP ∷ TOOSMALL ∷ SERVERFAULT ∷ []
 
 -- "With no live handle a failure body holds this many zero words, procedures 1 to 21: 0 2 1 1 1 1 2 2 2 2 2 2 2 4 3 1 1 1 1 1 2."
 abbrev pub zeroWords : List ℕ
@@ -183,6 +186,7 @@ limits =
     ∷ keptFlag ∷ mostFileBytes ∷ spentGeneration ∷ mostMode ∷ mostNameBytes ∷ handleLength ∷ mostHandleBytes ∷ mostCredentialBytes
     ∷ mostTransferBytes ∷ mostLinks ∷ fileSync ∷ fileSystemProperties ∷ listingCost ∷ entryFixedCost ∷ fileRights ∷ directoryRights ∷ []
 
--- the answers: done, store fails its check, reply space, clock, call over 8,192 bytes, no complete call header, format
+-- the answers: done, store fails its check, reply space, clock, call over 8,192 bytes, no complete call header, format; and "a table that fails
+-- its check 12"
 abbrev pub answers : List ℕ
-answers = 0 ∷ 1 ∷ 2 ∷ 3 ∷ 4 ∷ 5 ∷ 6 ∷ []
+answers = 0 ∷ 1 ∷ 2 ∷ 3 ∷ 4 ∷ 5 ∷ 6 ∷ 12 ∷ []

@@ -46,8 +46,10 @@ impl Status {
 
     pub const TOOSMALL: Status = Status(10005);
 
+    pub const SERVERFAULT: Status = Status(10006);
+
     // The numbers of the constants above, in their order.
-    pub fn numbers() -> [u32; 16]
+    pub fn numbers() -> [u32; 17]
         ensures { λ r. ⌜ r ≡ statuses ⌝ }
     {
         [
@@ -67,6 +69,7 @@ impl Status {
             Status::BAD_COOKIE.0,
             Status::NOTSUPP.0,
             Status::TOOSMALL.0,
+            Status::SERVERFAULT.0,
         ]
     }
 }
@@ -370,8 +373,10 @@ impl Answer {
 
     pub const FORMAT: u32 = 6;
 
+    pub const TABLE: u32 = 12;
+
     // The numbers of the constants above, in their order.
-    pub fn numbers() -> [u32; 7]
+    pub fn numbers() -> [u32; 8]
         ensures { λ r. ⌜ r ≡ answers ⌝ }
     {
         [
@@ -382,6 +387,7 @@ impl Answer {
             Answer::CALL,
             Answer::HEADER,
             Answer::FORMAT,
+            Answer::TABLE,
         ]
     }
 }
