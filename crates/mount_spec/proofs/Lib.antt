@@ -1,0 +1,4 @@
+pub mod Setting
+pub mod Paths
+pub mod Tables
+pub mod Entry
