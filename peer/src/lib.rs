@@ -1,17 +1,21 @@
 //! A small NFS version 3 file store on lent buffers.
 //!
-//! The caller owns the socket and the store. It hands in the bytes of one RPC
-//! call, the store image and a space for the reply, and gets back a number
-//! and the reply's length. A call allocates nothing and keeps nothing.
+//! The caller owns the socket, the store and the mount table. It hands in the
+//! bytes of one RPC call, the store image, for MOUNT the table too, and a space
+//! for the reply, and gets back a number and the reply's length. A call
+//! allocates nothing and keeps nothing.
 
 #![forbid(unsafe_code)]
 
 mod arguments;
 pub mod check;
+mod component;
 mod convert;
 mod format;
 pub mod generator;
 pub mod layout;
+mod mount;
+pub mod mount_table;
 mod name;
 pub mod numbers;
 pub mod old_check;
@@ -22,17 +26,27 @@ mod search;
 mod volume;
 mod xdr;
 
-use numbers::{message, procedure};
+use numbers::{message, mount_procedure, procedure};
 use reply::Reply;
-use rpc::Header;
+use rpc::Program;
 
 pub use convert::convert;
 pub use format::format;
-pub use reply::REPLY_SPACE;
+pub use reply::{MOUNT_REPLY_SPACE, REPLY_SPACE};
 pub use search::{search, Search};
 
 /// The longest call.
 pub const MAX_CALL: usize = 8192;
+
+/// The programs of the two entries for calls.
+const NFS: Program = Program {
+    number: message::PROGRAM,
+    last_procedure: procedure::LAST,
+};
+const MOUNT: Program = Program {
+    number: message::MOUNT_PROGRAM,
+    last_procedure: mount_procedure::LAST,
+};
 
 /// What an entry point answers.
 ///
@@ -40,7 +54,7 @@ pub const MAX_CALL: usize = 8192;
 /// length 0 that leave every lent buffer as it was: 1 the store, or the old
 /// image, fails its check, 2 too little reply space, 3 clock nanoseconds out of
 /// range, 4 call too long, 5 no complete call header, 6 a count out of range or
-/// a buffer of another length.
+/// a buffer of another length, 12 the mount table fails its check.
 #[derive(Clone, Copy, PartialEq, Eq, Debug)]
 pub struct Answer {
     pub number: u32,
@@ -94,33 +108,38 @@ pub fn call(
         return Answer::refused(5);
     };
     let mut reply = Reply::new(space);
-    match header {
-        Header::OtherVersion { xid } => rpc::write_denied(&mut reply, xid),
-        Header::Complete {
-            xid,
-            program,
-            version,
-            procedure,
-            arguments,
-        } => {
-            if program != message::PROGRAM {
-                rpc::write_accepted(&mut reply, xid, message::PROG_UNAVAIL);
-            } else if version != message::VERSION {
-                rpc::write_accepted(&mut reply, xid, message::PROG_MISMATCH);
-                reply.word(message::VERSION);
-                reply.word(message::VERSION);
-            } else if procedure > procedure::LAST {
-                rpc::write_accepted(&mut reply, xid, message::PROC_UNAVAIL);
-            } else {
-                rpc::write_accepted(&mut reply, xid, message::SUCCESS);
-                let mut volume = volume::Volume::new(store, &mut survey, seconds, nanoseconds);
-                let run = procedures::run(procedure, arguments, &mut volume, verifier, &mut reply);
-                if run.is_none() {
-                    // Nothing follows the head; only the outcome changes.
-                    reply.set_word(20, message::GARBAGE_ARGS);
-                }
-            }
-        }
+    rpc::answer(header, &NFS, &mut reply, |procedure, arguments, reply| {
+        let mut volume = volume::Volume::new(store, &mut survey, seconds, nanoseconds);
+        procedures::run(procedure, arguments, &mut volume, verifier, reply)
+    });
+    Answer::done(reply.length())
+}
+
+/// Answers one RPC call of the MOUNT program from the store, which stays as it
+/// is, and from the mount table. `host` is the caller's address, its first
+/// decimal in the highest byte.
+pub fn mount(call: &[u8], store: &[u8], table: &mut [u8], reply: &mut [u8], host: u32) -> Answer {
+    let Some(space) = reply.first_chunk_mut::<MOUNT_REPLY_SPACE>() else {
+        return Answer::refused(2);
+    };
+    if call.len() > MAX_CALL {
+        return Answer::refused(4);
     }
+    let mut survey = check::Survey::new();
+    if !survey.fill(store) {
+        return Answer::refused(1);
+    }
+    let Some(mut table) = mount_table::Table::new(table) else {
+        return Answer::refused(12);
+    };
+    let Some(header) = rpc::read_header(call) else {
+        return Answer::refused(5);
+    };
+    let mut reply = Reply::new(space);
+    rpc::answer(header, &MOUNT, &mut reply, |procedure, arguments, reply| {
+        mount::run(
+            procedure, arguments, store, &survey, &mut table, host, reply,
+        )
+    });
     Answer::done(reply.length())
 }

@@ -21,6 +21,9 @@ impl Status {
     pub const BAD_COOKIE: Status = Status(10003);
     pub const NOTSUPP: Status = Status(10004);
     pub const TOOSMALL: Status = Status(10005);
+    /// Only MOUNT has it (RFC 1813, appendix I); its other statuses have the
+    /// same numbers as here.
+    pub const SERVERFAULT: Status = Status(10006);
 }
 
 /// NFS version 3 procedure numbers.
@@ -51,6 +54,18 @@ pub mod procedure {
     pub const LAST: u32 = COMMIT;
 }
 
+/// MOUNT version 3 procedure numbers.
+pub mod mount_procedure {
+    pub const NULL: u32 = 0;
+    pub const MNT: u32 = 1;
+    pub const DUMP: u32 = 2;
+    pub const UMNT: u32 = 3;
+    pub const UMNTALL: u32 = 4;
+    pub const EXPORT: u32 = 5;
+    /// The largest procedure number.
+    pub const LAST: u32 = EXPORT;
+}
+
 /// Zero words of a failure body without a live handle, by procedure number.
 /// NULL has no failure body.
 pub const ZERO_WORDS: [usize; 22] = [
@@ -70,8 +85,9 @@ pub mod message {
     pub const PROG_MISMATCH: u32 = 2;
     pub const PROC_UNAVAIL: u32 = 3;
     pub const GARBAGE_ARGS: u32 = 4;
-    /// The NFS program and the one version served.
+    /// The NFS program, the MOUNT program, and the one version served of each.
     pub const PROGRAM: u32 = 100_003;
+    pub const MOUNT_PROGRAM: u32 = 100_005;
     pub const VERSION: u32 = 3;
     /// The longest credential or verifier.
     pub const MAX_AUTH: usize = 400;

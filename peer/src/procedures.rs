@@ -6,6 +6,7 @@
 //! are not exactly of their type; then nothing has been written.
 
 use crate::arguments::{handle, How, Place, RawHandle, Wanted};
+use crate::component::{step, want_directory, want_name};
 use crate::layout::*;
 use crate::name::Text;
 use crate::numbers::{procedure, Status, ZERO_WORDS};
@@ -88,37 +89,12 @@ fn resolve(volume: &Volume<'_>, raw: RawHandle<'_>) -> Result<Object, Status> {
     }
 }
 
-/// NOTDIR unless the object is a directory.
-fn want_directory(volume: &Volume<'_>, object: Object) -> Result<(), Status> {
-    if volume.survey.is_directory(object) {
-        Ok(())
-    } else {
-        Err(Status::NOTDIR)
-    }
-}
-
 /// INVAL unless the object is a regular file.
 fn want_file(volume: &Volume<'_>, object: Object) -> Result<(), Status> {
     if volume.survey.is_directory(object) {
         Err(Status::INVAL)
     } else {
         Ok(())
-    }
-}
-
-/// The tests that every name passes; answers its text.
-fn want_name(name: &[u8]) -> Result<Text, Status> {
-    if name.is_empty() {
-        return Err(Status::ACCES);
-    }
-    if name.len() > MAX_NAME {
-        return Err(Status::NAMETOOLONG);
-    }
-    let text = Text::padded(name);
-    if text.plain(name.len()) {
-        Ok(text)
-    } else {
-        Err(Status::ACCES)
     }
 }
 
@@ -222,21 +198,13 @@ fn lookup(reader: &mut Reader<'_>, volume: &Volume<'_>, reply: &mut Reply<'_>) -
     reader.ended(())?;
     let resolved = resolve(volume, place.directory);
     let outcome = resolved.and_then(|directory| {
-        want_directory(volume, directory)?;
-        let text = want_name(place.name)?;
-        let child = if text.is_dot() {
-            directory
-        } else if text.is_dot_dot() {
-            volume.survey.parent(directory)
-        } else {
-            volume.find(directory, place.name).ok_or(Status::NOENT)?
-        };
+        let child = step(volume.bytes(), volume.survey, directory, place.name)?;
         Ok((directory, child))
     });
     match outcome {
         Ok((directory, child)) => {
             write_status(reply, Status::OK);
-            reply.handle(volume, child);
+            reply.handle(volume.stamp(), child, volume.generation(child));
             reply.optional_attributes(volume, Some(child));
             reply.optional_attributes(volume, Some(directory));
         }
@@ -348,7 +316,7 @@ fn create(reader: &mut Reader<'_>, volume: &mut Volume<'_>, reply: &mut Reply<'_
     let resolved = resolve(volume, place.directory);
     let before = resolved.ok().map(|directory| volume.before(directory));
     let outcome = resolved.and_then(|directory| {
-        want_directory(volume, directory)?;
+        want_directory(volume.survey, directory)?;
         let text = want_name(place.name)?;
         refuse_dots(&text, Status::EXIST)?;
         let existing = volume.find(directory, place.name);
@@ -416,7 +384,7 @@ fn mkdir(reader: &mut Reader<'_>, volume: &mut Volume<'_>, reply: &mut Reply<'_>
     let resolved = resolve(volume, place.directory);
     let before = resolved.ok().map(|directory| volume.before(directory));
     let outcome = resolved.and_then(|directory| {
-        want_directory(volume, directory)?;
+        want_directory(volume.survey, directory)?;
         let text = want_name(place.name)?;
         refuse_dots(&text, Status::EXIST)?;
         if !wanted.valid() || wanted.size.is_some() {
@@ -444,7 +412,7 @@ fn write_made(
         Ok(object) => {
             write_status(reply, Status::OK);
             reply.word(1);
-            reply.handle(volume, object);
+            reply.handle(volume.stamp(), object, volume.generation(object));
             reply.optional_attributes(volume, Some(object));
             reply.change(volume, before);
         }
@@ -458,7 +426,7 @@ fn remove(reader: &mut Reader<'_>, volume: &mut Volume<'_>, reply: &mut Reply<'_
     let resolved = resolve(volume, place.directory);
     let before = resolved.ok().map(|directory| volume.before(directory));
     let outcome = resolved.and_then(|directory| {
-        want_directory(volume, directory)?;
+        want_directory(volume.survey, directory)?;
         let text = want_name(place.name)?;
         refuse_dots(&text, Status::ACCES)?;
         let found = volume.find(directory, place.name).ok_or(Status::NOENT)?;
@@ -478,11 +446,11 @@ fn rmdir(reader: &mut Reader<'_>, volume: &mut Volume<'_>, reply: &mut Reply<'_>
     let resolved = resolve(volume, place.directory);
     let before = resolved.ok().map(|directory| volume.before(directory));
     let outcome = resolved.and_then(|directory| {
-        want_directory(volume, directory)?;
+        want_directory(volume.survey, directory)?;
         let text = want_name(place.name)?;
         refuse_dots(&text, Status::INVAL)?;
         let found = volume.find(directory, place.name).ok_or(Status::NOENT)?;
-        want_directory(volume, found)?;
+        want_directory(volume.survey, found)?;
         if volume.survey.is_occupied(found) {
             return Err(Status::NOTEMPTY);
         }
@@ -519,9 +487,9 @@ fn try_rename(
     new_name: &[u8],
 ) -> Result<(), Status> {
     let from = from?;
-    want_directory(volume, from)?;
+    want_directory(volume.survey, from)?;
     let to = to?;
-    want_directory(volume, to)?;
+    want_directory(volume.survey, to)?;
     let old_text = want_name(old_name)?;
     let new_text = want_name(new_name)?;
     refuse_dots(&old_text, Status::INVAL)?;
@@ -564,7 +532,7 @@ fn readdir(reader: &mut Reader<'_>, volume: &Volume<'_>, reply: &mut Reply<'_>) 
     reader.ended(())?;
     let resolved = resolve(volume, raw);
     let outcome = resolved.and_then(|directory| {
-        want_directory(volume, directory)?;
+        want_directory(volume.survey, directory)?;
         if verifier != 0 {
             return Err(Status::BAD_COOKIE);
         }

@@ -5,16 +5,19 @@ use crate::volume::{Before, Volume};
 
 /// The least reply space, and the length of the longest reply.
 pub const REPLY_SPACE: usize = 4224;
+/// The same for the MOUNT entry: a list of 32 rows with the longest hosts and
+/// paths.
+pub const MOUNT_REPLY_SPACE: usize = 33_692;
 
 /// Writes fields one after the other. No reply is longer than the space.
-pub struct Reply<'a> {
-    space: &'a mut [u8; REPLY_SPACE],
+pub struct Reply<'a, const SPACE: usize = REPLY_SPACE> {
+    space: &'a mut [u8; SPACE],
     length: usize,
 }
 
-impl<'a> Reply<'a> {
+impl<'a, const SPACE: usize> Reply<'a, SPACE> {
     #[inline]
-    pub fn new(space: &'a mut [u8; REPLY_SPACE]) -> Reply<'a> {
+    pub fn new(space: &'a mut [u8; SPACE]) -> Reply<'a, SPACE> {
         Reply { space, length: 0 }
     }
 
@@ -42,7 +45,7 @@ impl<'a> Reply<'a> {
         // A reply never outgrows the space, so the array is always there.
         match rest.first_chunk_mut::<COUNT>() {
             Some(array) => array,
-            None => unreachable!("a reply is at most {REPLY_SPACE} bytes long"),
+            None => unreachable!("a reply is at most {SPACE} bytes long"),
         }
     }
 
@@ -82,13 +85,21 @@ impl<'a> Reply<'a> {
         self.room(length.wrapping_neg() % 4).fill(0);
     }
 
+    /// A field of variable length: its length, and its bytes with their
+    /// padding. The bytes have zeros after the field up to a multiple of 4.
+    pub fn padded(&mut self, bytes: &[u8], length: usize) {
+        self.word(length as u32);
+        let count = length.next_multiple_of(4);
+        self.room(count).copy_from_slice(&bytes[..count]);
+    }
+
     /// A handle: its length, then stamp, object, generation.
-    pub fn handle(&mut self, volume: &Volume<'_>, object: Object) {
+    pub fn handle(&mut self, stamp: u32, object: Object, generation: u32) {
         let fields = self.array::<16>();
         fields[0..4].copy_from_slice(&12u32.to_be_bytes());
-        fields[4..8].copy_from_slice(&volume.stamp().to_be_bytes());
+        fields[4..8].copy_from_slice(&stamp.to_be_bytes());
         fields[8..12].copy_from_slice(&(object.0 as u32).to_be_bytes());
-        fields[12..16].copy_from_slice(&volume.generation(object).to_be_bytes());
+        fields[12..16].copy_from_slice(&generation.to_be_bytes());
     }
 
     /// The attributes of a live object.

@@ -44,8 +44,53 @@ pub fn read_header(call: &[u8]) -> Option<Header<'_>> {
     })
 }
 
+/// A program that an entry serves.
+pub struct Program {
+    pub number: u32,
+    /// The largest procedure number.
+    pub last_procedure: u32,
+}
+
+/// Writes the reply to a call with this header. `run` runs a procedure of the
+/// program and writes its result; `None` means that the arguments are not
+/// exactly of their type, and that nothing has been written.
+#[inline]
+pub fn answer<const SPACE: usize>(
+    header: Header<'_>,
+    served: &Program,
+    reply: &mut Reply<'_, SPACE>,
+    run: impl FnOnce(u32, &[u8], &mut Reply<'_, SPACE>) -> Option<()>,
+) {
+    match header {
+        Header::OtherVersion { xid } => write_denied(reply, xid),
+        Header::Complete {
+            xid,
+            program,
+            version,
+            procedure,
+            arguments,
+        } => {
+            if program != served.number {
+                write_accepted(reply, xid, message::PROG_UNAVAIL);
+            } else if version != message::VERSION {
+                write_accepted(reply, xid, message::PROG_MISMATCH);
+                reply.word(message::VERSION);
+                reply.word(message::VERSION);
+            } else if procedure > served.last_procedure {
+                write_accepted(reply, xid, message::PROC_UNAVAIL);
+            } else {
+                write_accepted(reply, xid, message::SUCCESS);
+                if run(procedure, arguments, reply).is_none() {
+                    // Nothing follows the head; only the outcome changes.
+                    reply.set_word(20, message::GARBAGE_ARGS);
+                }
+            }
+        }
+    }
+}
+
 /// Writes the reply to a call of another RPC version.
-pub fn write_denied(reply: &mut Reply<'_>, xid: u32) {
+fn write_denied<const SPACE: usize>(reply: &mut Reply<'_, SPACE>, xid: u32) {
     reply.word(xid);
     reply.word(message::REPLY);
     reply.word(message::DENIED);
@@ -56,7 +101,7 @@ pub fn write_denied(reply: &mut Reply<'_>, xid: u32) {
 
 /// Writes the head of an accepted reply: its verifier has flavor 0 and
 /// length 0.
-pub fn write_accepted(reply: &mut Reply<'_>, xid: u32, outcome: u32) {
+fn write_accepted<const SPACE: usize>(reply: &mut Reply<'_, SPACE>, xid: u32, outcome: u32) {
     reply.word(xid);
     reply.word(message::REPLY);
     reply.word(message::ACCEPTED);

@@ -87,6 +87,19 @@ fn equal_in_group<const N: usize>(text: &[u8], name: &[u8], at: usize) -> Option
     Some(equal)
 }
 
+/// The object of this name in the directory of a checked store.
+#[inline]
+pub(crate) fn find(
+    store: &[u8],
+    survey: &Survey,
+    directory: Object,
+    name: &[u8],
+) -> Option<Object> {
+    let records = survey.name_records(store);
+    let found = search_records(records, directory.0 as u32, name).found?;
+    Some(Object(word(&records[found], name_field::CHILD) as usize))
+}
+
 /// Searches a directory of a store for a name. `None` if the store fails its
 /// check.
 ///

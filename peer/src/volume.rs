@@ -2,7 +2,7 @@
 
 use crate::check::Survey;
 use crate::layout::*;
-use crate::search::search_records;
+use crate::search::find;
 
 /// A checked store with its survey and the caller's clock.
 pub struct Volume<'a> {
@@ -41,6 +41,11 @@ impl<'a> Volume<'a> {
             survey,
             clock,
         }
+    }
+
+    /// The bytes of the store.
+    pub fn bytes(&self) -> &[u8] {
+        self.store
     }
 
     pub fn stamp(&self) -> u32 {
@@ -131,9 +136,7 @@ impl<'a> Volume<'a> {
 
     /// The object of this name in the directory.
     pub fn find(&self, directory: Object, name: &[u8]) -> Option<Object> {
-        let records = self.survey.name_records(self.store);
-        let found = search_records(records, directory.0 as u32, name).found?;
-        Some(Object(word(&records[found], name_field::CHILD) as usize))
+        find(self.store, self.survey, directory, name)
     }
 
     /// The block in a place that a file uses.

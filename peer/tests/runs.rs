@@ -6,8 +6,9 @@ mod common;
 use common::plain::{plain_check, plain_old_check};
 use common::plain_rename::plain_rename;
 use common::store_of;
-use peer::generator::driver::{Call, Driver, Format, Outcome, Peer};
+use peer::generator::driver::{Call, Driver, Format, Mount, Outcome, Peer};
 use peer::generator::lane::status_of;
+use peer::generator::mounts::{self, definition::defined};
 use peer::generator::random_runs::{self, Extent, RENAMES};
 use peer::generator::scripts::{self, Runs};
 use peer::Answer;
@@ -17,6 +18,9 @@ use peer::Answer;
 struct Tester {
     peer: Peer,
     calls: usize,
+    /// MOUNT calls by their answers, and those that changed the table.
+    mounts: BTreeMap<u32, usize>,
+    mounted: usize,
     changed: usize,
     damaged: usize,
     /// Conversions answered 0, 1 and 6.
@@ -123,6 +127,34 @@ impl Driver for Tester {
         &self.peer.store
     }
 
+    fn set_table(&mut self, table: &[u8]) {
+        self.peer.set_table(table);
+    }
+
+    fn mount(&mut self, mount: Mount<'_>) -> Outcome {
+        let (store, table) = (self.peer.store.clone(), self.peer.table.clone());
+        let wanted = defined(&mount, &store, &table);
+        let outcome = self.peer.mount(mount);
+        assert!(self.peer.store == store);
+        assert!(self.peer.table == wanted.table);
+        assert_eq!(outcome.answer.number, wanted.number);
+        assert_eq!(outcome.reply, wanted.reply);
+        if wanted.number == 0 {
+            assert!((24..=33_692).contains(&outcome.reply.len()));
+            assert!(peer::mount_table::sound(&self.peer.table));
+        } else {
+            assert_eq!(outcome.answer.length, 0);
+            assert!(self.peer.table == table);
+        }
+        *self.mounts.entry(wanted.number).or_default() += 1;
+        self.mounted += usize::from(self.peer.table != table);
+        outcome
+    }
+
+    fn table(&self) -> &[u8] {
+        &self.peer.table
+    }
+
     fn note(&mut self, group: &'static str, label: &str) {
         if group == RENAMES {
             *self.renames.entry(label.to_owned()).or_default() += 1;
@@ -180,4 +212,29 @@ fn random_runs() {
         assert_eq!(label, wanted);
         assert!(count >= least, "{label}: {count}");
     }
+}
+
+/// Every MOUNT call has the outcome that the papers ask for, written down a
+/// second time.
+#[test]
+fn mount_runs() {
+    let mut tester = Tester::default();
+    let mut runs = Runs {
+        driver: &mut tester,
+        next: 0,
+    };
+    mounts::all_scripts(&mut runs);
+    for number in 0..40 {
+        mounts::run(&mut tester, number, 94, mounts::Extent::Small, 200);
+    }
+    for number in 0..10 {
+        mounts::run(&mut tester, number, 93, mounts::Extent::Middle, 200);
+    }
+    mounts::run(&mut tester, 0, 92, mounts::Extent::Full, 40);
+    for (answer, least) in [(0, 6000), (1, 100), (2, 30), (4, 10), (5, 150), (12, 700)] {
+        let count = tester.mounts.remove(&answer).unwrap_or_default();
+        assert!(count >= least, "answer {answer}: {count}");
+    }
+    assert!(tester.mounts.is_empty());
+    assert!(tester.mounted > 2000, "{}", tester.mounted);
 }

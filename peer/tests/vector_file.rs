@@ -1,8 +1,8 @@
-//! The vector file and the file of searches: what they reach, and their replay
-//! on the peer.
+//! The vector file, the file of searches and the file of mounts: what they
+//! reach, and their replay on the peer.
 
-use peer::generator::driver::{Call, Format};
-use peer::generator::recorder::{record, record_searches};
+use peer::generator::driver::{Call, Format, Mount};
+use peer::generator::recorder::{record, record_mounts, record_searches};
 use peer::generator::vector_file::{digest, replay, Own, Subject};
 use peer::{Answer, Search};
 
@@ -28,7 +28,7 @@ fn reach_and_replay() {
     assert_eq!(differences, 0);
     assert_eq!(text, recording.stdout.as_bytes());
     assert_eq!(recording.stdout.lines().count(), 1);
-    assert!(recording.stdout.contains(", 0 searches, "));
+    assert!(recording.stdout.contains(", 0 searches, 0 mounts, "));
 }
 
 #[test]
@@ -52,6 +52,50 @@ fn searches_reach_and_replay() {
     assert!(lines.contains(&tag));
     // It is the same each time.
     assert!(record_searches().file == recording.file);
+}
+
+#[test]
+fn mounts_reach_and_replay() {
+    let recording = record_mounts();
+    assert!(recording.file.len() <= 2_500_000);
+    assert!(recording.digested <= 300_000_000);
+    assert_eq!(recording.coverage.missing_mounts(), Vec::<String>::new());
+    assert_eq!(recording.coverage.unexpected(), Vec::<String>::new());
+    let (text, differences) = replay(&recording.file, &mut Own).unwrap();
+    assert_eq!(differences, 0);
+    assert_eq!(text, recording.stdout.as_bytes());
+    assert_eq!(recording.stdout.lines().count(), 1);
+    let mounts = recording.coverage.mounts.calls();
+    let total = format!(", 0 searches, {mounts} mounts, 0 differences\n");
+    assert!(recording.stdout.ends_with(&total));
+    assert!(mounts >= 4000);
+    // It is the same each time.
+    assert!(record_mounts().file == recording.file);
+}
+
+/// Only the file of mounts has rows about mounts, and it has all of them.
+#[test]
+fn rows_of_the_mounts() {
+    let tags = |file: &[u8]| {
+        let mut tags = std::collections::BTreeSet::new();
+        let mut at = 0;
+        while at < file.len() {
+            let word = u32::from_be_bytes(file[at + 1..at + 5].try_into().unwrap());
+            tags.insert(file[at]);
+            at += 5;
+            if (128..192).contains(&file[at - 5]) {
+                at += word as usize;
+            }
+        }
+        tags
+    };
+    let new = [14, 15, 68, 69, 133, 195, 229];
+    let mounts = tags(&record_mounts().file);
+    assert!(new.iter().all(|tag| mounts.contains(tag)));
+    for file in [record().file, record_searches().file] {
+        let old = tags(&file);
+        assert!(new.iter().all(|tag| !old.contains(tag)));
+    }
 }
 
 /// Where the first row of this tag and this word starts, after `from`.
@@ -104,11 +148,11 @@ fn replay_finds_altered_files() {
     // lent than there is; bytes outside of what is lent; a wrong count of runs.
     let number = row_at(&file, middle, 4, None);
     for (at, with) in [
-        (number, 4 ^ 14),
-        (length, 64 ^ 68),
-        (reply, 130 ^ 133),
-        (number, 4 ^ 195),
-        (call, 226 ^ 229),
+        (number, 4 ^ 16),
+        (length, 64 ^ 70),
+        (reply, 130 ^ 134),
+        (number, 4 ^ 196),
+        (call, 226 ^ 230),
         (row_at(&file, middle, 192, None) + 4, 1),
         (row_at(&file, middle, 0, None) + 1, 1),
         (row_at(&file, middle, 1, None) + 2, 1),
@@ -165,6 +209,61 @@ fn replay_finds_altered_searches() {
     spoiled.extend([3, 0, 0, 0, 0, 128, 0, 0, 0, 4, 0, 0, 0, 9]);
     spoiled.extend(&file[found..]);
     assert!(replay(&spoiled, &mut Own).is_none());
+}
+
+#[test]
+fn replay_finds_altered_mounts() {
+    let file = record_mounts().file;
+    let altered = |at: usize, with: u8| {
+        let mut file = file.clone();
+        file[at] ^= with;
+        replay(&file, &mut Own).map(|(_, differences)| differences)
+    };
+    let middle = file.len() / 2;
+    let row = |tag: u8, word: Option<u32>| row_at(&file, middle, tag, word);
+    // An answer, its length, both halves of the table's digest and of the
+    // store's, a byte of a reply.
+    for (at, with) in [
+        (row(229, Some(0)) + 4, 1),
+        (row(229, Some(12)) + 4, 1),
+        (row(64, None) + 4, 1),
+        (row(68, None) + 1, 1),
+        (row(69, None) + 4, 1),
+        (row(65, None) + 1, 1),
+        (row(66, None) + 4, 1),
+        (row(130, None) + 5 + 3, 1),
+    ] {
+        assert!(altered(at, with).unwrap() > 0, "row at {at}");
+    }
+    // More lent than there is, bytes outside of what is lent, a row that
+    // makes the table zero with another word, and unknown tags.
+    for (at, with) in [
+        (row(14, None) + 2, 1),
+        (row(195, None) + 4, 1),
+        (row(2, None) + 2, 1),
+        (row(133, None), 133 ^ 134),
+        (row(229, None), 229 ^ 230),
+        (row(195, None), 195 ^ 196),
+    ] {
+        assert_eq!(altered(at, with), None, "row at {at}");
+    }
+    // The digest of the table is that after the last MOUNT call, whatever is
+    // written to the table since; before the first it is 0.
+    let last = row_at(&file, 0, 193, None);
+    let mut end = file[..last].to_vec();
+    end.extend([14, 0, 0, 0, 4, 3, 0, 0, 0, 0, 133, 0, 0, 0, 4, 1, 2, 3, 4]);
+    end.extend([225, 0, 0, 0, 0]);
+    end.extend(&file[last..]);
+    let (_, differences) = replay(&end, &mut Own).unwrap();
+    // The reply's length may differ from the check's, which is 0.
+    assert!(differences <= 1);
+    let check_first = [225, 0, 0, 0, 1, 193, 0, 0, 0, 0];
+    let mut first = vec![65];
+    first.extend((digest(&[]) >> 32).to_be_bytes()[4..].iter());
+    first.push(66);
+    first.extend((digest(&[]) as u32).to_be_bytes());
+    first.extend(check_first);
+    assert_eq!(replay(&first, &mut Own).unwrap().1, 0);
 }
 
 /// Row by row: the texts are at most 160 bytes, each printed search has its own
@@ -231,6 +330,16 @@ impl Subject for Miscounting {
         Own.convert(old, store)
     }
 
+    fn mount(
+        &mut self,
+        store: &[u8],
+        table: &mut [u8],
+        mount: &Mount<'_>,
+        reply: &mut [u8],
+    ) -> Answer {
+        Own.mount(store, table, mount, reply)
+    }
+
     fn search(&mut self, store: &[u8], directory: u32, name: &[u8]) -> Option<Search> {
         let mut search = Own.search(store, directory, name)?;
         self.searches += 1;
@@ -250,7 +359,7 @@ fn replay_finds_a_miscounted_search() {
     let text = String::from_utf8(text).unwrap();
     assert!(text.contains("  one name, found, tag in directory 0: no record, 3 pairs\n"));
     assert!(text.contains("tags in directory 0: no record, 1 pairs\n"));
-    assert!(text.ends_with(" searches, 3 differences\n"));
+    assert!(text.ends_with(" searches, 0 mounts, 3 differences\n"));
 }
 
 /// Changes the outcome of a call: store, reply space, answer.
@@ -281,6 +390,7 @@ const SPOILS: [Spoil; 5] = [
 struct Spoiled {
     calls: usize,
     conversions: usize,
+    mounts: usize,
 }
 
 impl Subject for Spoiled {
@@ -311,6 +421,37 @@ impl Subject for Spoiled {
         }
         answer
     }
+
+    /// The mounts 100, 200, 300 and 400 are spoiled.
+    fn mount(
+        &mut self,
+        store: &[u8],
+        table: &mut [u8],
+        mount: &Mount<'_>,
+        reply: &mut [u8],
+    ) -> Answer {
+        let mut answer = Own.mount(store, table, mount, reply);
+        self.mounts += 1;
+        match self.mounts {
+            100 => answer.number ^= 1,
+            200 => answer.length ^= 4,
+            300 => reply[33_000] ^= 1,
+            400 => table[33_000] ^= 1,
+            _ => {}
+        }
+        answer
+    }
+}
+
+#[test]
+fn replay_finds_spoiled_mounts() {
+    let mut subject = Spoiled {
+        calls: usize::MAX / 2,
+        conversions: 0,
+        mounts: 0,
+    };
+    let (_, differences) = replay(&record_mounts().file, &mut subject).unwrap();
+    assert!(differences >= 4);
 }
 
 #[test]
@@ -318,6 +459,7 @@ fn replay_finds_spoiled_calls() {
     let mut subject = Spoiled {
         calls: 0,
         conversions: 0,
+        mounts: 0,
     };
     let (text, differences) = replay(&record().file, &mut subject).unwrap();
     assert!(differences >= 6);

@@ -1,4 +1,5 @@
-//! Measures the static library `libnfs3.a` against the peer.
+//! Measures the static libraries `libnfs3.a` and `libmount3.a` against the
+//! peer.
 //!
 //! Usage: bench
 //!
@@ -31,14 +32,15 @@ mod measuring {
     use std::time::{Duration, Instant};
 
     use super::library;
-    use peer::generator::driver::{Call, Format};
+    use peer::generator::driver::{Call, Format, Mount};
     use peer::generator::encode::{handle, Attributes, Request};
     use peer::generator::lane::*;
+    use peer::generator::mounts::{self, alike_rows, tables};
     use peer::generator::old_images::old_image;
     use peer::generator::padding::{Padded, ARGUMENTS};
     use peer::layout::Shape;
-    use peer::numbers::Status;
-    use peer::Answer;
+    use peer::numbers::{mount_procedure, Status};
+    use peer::{Answer, MOUNT_REPLY_SPACE};
 
     const STAMP: u32 = 7;
     /// The verifier of an EXCLUSIVE CREATE.
@@ -520,6 +522,130 @@ mod measuring {
         rows
     }
 
+    /// The entry point for MOUNT calls of one implementation.
+    type MountEntry = fn(&Mount<'_>, &[u8], &mut [u8], &mut [u8]) -> Answer;
+
+    fn peer_mount(mount: &Mount<'_>, store: &[u8], table: &mut [u8], reply: &mut [u8]) -> Answer {
+        peer::mount(mount.bytes, store, table, reply, mount.host)
+    }
+
+    const HOST: u32 = 0xC000_0201;
+
+    /// One of the two implementations with its own buffers, for MOUNT calls.
+    struct MountSide {
+        mount: MountEntry,
+        store: Vec<u8>,
+        table: Vec<u8>,
+        reply: Vec<u8>,
+    }
+
+    impl MountSide {
+        fn new(mount: MountEntry, store: &[u8], table: &[u8]) -> MountSide {
+            MountSide {
+                mount,
+                store: store.to_vec(),
+                table: table.to_vec(),
+                reply: vec![0; MOUNT_REPLY_SPACE],
+            }
+        }
+
+        /// Makes the calls one after the other; answers the last length.
+        fn round(&mut self, calls: &[Vec<u8>]) -> Answer {
+            let mut last = Answer {
+                number: 0,
+                length: 0,
+            };
+            for bytes in calls {
+                let mount = Mount {
+                    bytes: black_box(bytes),
+                    host: HOST,
+                    space: self.reply.len(),
+                };
+                let (store, table) = (&self.store, &mut self.table);
+                last = black_box((self.mount)(&mount, store, table, &mut self.reply));
+            }
+            last
+        }
+    }
+
+    /// The times of both for the MOUNT calls, made again and again. The last
+    /// reply has this length and, of one MNT, the status OK.
+    fn mount_times(store: &[u8], table: &[u8], calls: &[Vec<u8>], length: u32) -> (f64, f64) {
+        let mut own = MountSide::new(peer_mount, store, table);
+        let mut other = MountSide::new(library::mount, store, table);
+        let wanted = Answer { number: 0, length };
+        assert_eq!(own.round(calls), wanted, "peer: another answer");
+        assert_eq!(other.round(calls), wanted, "library: another answer");
+        assert!(own.reply == other.reply && own.table == other.table);
+        assert!(own.table == table, "a round leaves the table as it was");
+        best_of_both(
+            || {
+                own.round(calls);
+            },
+            || {
+                other.round(calls);
+            },
+        )
+    }
+
+    /// A table of one row of the host, or none.
+    fn table_with(path: Option<&[u8]>) -> Vec<u8> {
+        tables::write(&[path.map(|path| tables::Row::new(HOST, path))])
+    }
+
+    /// A full store with eight directories one in another behind its files, and
+    /// the path of the innermost.
+    fn with_directories(shape: Shape) -> (Vec<u8>, Vec<u8>) {
+        let mut store = with_files(shape, FULL - 8, 8192);
+        let mut above = handle(STAMP, 0, 0);
+        let mut path = Vec::new();
+        for number in FULL - 7..=FULL {
+            let name = format!("directory-{number}");
+            let request = mkdir(&above, name.as_bytes(), Attributes::default());
+            apply(&mut store, &request);
+            above = handle(STAMP, number as u32, 0);
+            path.push(b'/');
+            path.extend(name.as_bytes());
+        }
+        assert_eq!(peer::check(&store).number, 0);
+        (store, path)
+    }
+
+    /// The rows of MOUNT for a store.
+    fn mount_rows(shape: Shape, store: &[u8], full: bool) -> Vec<(&'static str, f64, f64)> {
+        let call = |procedure: u32, path: Option<&[u8]>| mounts::call(77, procedure, path);
+        let null = [call(mount_procedure::NULL, None)];
+        let empty = table_with(None);
+        let rows = alike_rows(HOST, 1023).into_iter().map(Some);
+        let paths = tables::write(&rows.collect::<Vec<_>>());
+        let mut times = Vec::new();
+        let mut row = |name, store: &[u8], table: &[u8], calls: &[Vec<u8>], length| {
+            let (peer, other) = mount_times(store, table, calls, length);
+            times.push((name, peer, other));
+        };
+        row("MOUNT NULL, empty table", store, &empty, &null, 24);
+        row("MOUNT NULL, 32 paths", store, &paths, &null, 24);
+        if full {
+            let (store, path) = with_directories(shape);
+            let first = path[1..].iter().position(|&byte| byte == b'/');
+            let name = &path[..first.map_or(path.len(), |at| at + 1)];
+            for (label, path) in [("MNT, 1 name", name), ("MNT, 8 names", &path)] {
+                let calls = [call(mount_procedure::MNT, Some(path))];
+                row(label, &store, &table_with(Some(path)), &calls, 56);
+            }
+            let pair = [mount_procedure::MNT, mount_procedure::UMNT];
+            let calls = pair.map(|procedure| call(procedure, Some(name)));
+            row("MNT+UMNT", &store, &empty, &calls, 24);
+            // "192.0.2.1" has 9 bytes, padded to 12.
+            let length = 24 + 32 * (4 + 4 + 12 + 4 + 1024) + 4;
+            let calls = [call(mount_procedure::DUMP, None)];
+            row("DUMP, 32 paths", &store, &paths, &calls, length);
+            let calls = [call(mount_procedure::EXPORT, None)];
+            row("EXPORT", &store, &empty, &calls, 44);
+        }
+        times
+    }
+
     fn line(store: &str, operation: &str, peer: f64, library: f64) -> f64 {
         let ratio = library / peer;
         println!("{store:<6} {operation:<25} {peer:>10.0} {library:>12.0} {ratio:>8.2}");
@@ -566,6 +692,14 @@ mod measuring {
                     largest = largest.max(line(label, &name, peer, other));
                 }
             }
+            if library::HAS_MOUNT {
+                for (name, peer, other) in mount_rows(*shape, store, *shape == full) {
+                    largest = largest.max(line(label, name, peer, other));
+                }
+            }
+        }
+        if !library::HAS_MOUNT {
+            library::report_no_mount("bench");
         }
         println!();
         println!("The converter, which runs once in the life of a store:");

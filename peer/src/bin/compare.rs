@@ -1,12 +1,15 @@
-//! Compares the static library `libnfs3.a` with the peer, call by call.
+//! Compares the static libraries `libnfs3.a` and `libmount3.a` with the peer,
+//! call by call.
 //!
 //! Usage: compare [--calls N] [--seed S] [--run R] [--show]
+//!        compare --mounts N [--seed S] [--run R] [--show]
 //!        compare --old-images N [--seed S]
 //!        compare --replay FILE
 //!
 //! The scripted runs come first, then random runs until N calls are made.
 //! `--run R` makes only that random run; `--show` prints each step before it
-//! is made. `--old-images` converts N old images, whole and damaged.
+//! is made. `--mounts` does the same with the runs of the file of mounts and
+//! with random ones of their kind, until N MOUNT calls are made. `--old-images` converts N old images, whole and damaged.
 //! `--replay` replays a vector file on the library; the searches of a file are
 //! the peer's, through the stores that the library leaves.
 
@@ -38,13 +41,15 @@ mod comparison {
 
     use super::library;
     use peer::generator::coverage::Coverage;
-    use peer::generator::driver::{Call, Driver, Format, Outcome, Peer, FRESH, SPARE};
+    use peer::generator::driver::{Call, Driver, Format, Mount, Outcome, Peer, FRESH, SPARE};
+    use peer::generator::mounts;
     use peer::generator::old_images::Pool;
     use peer::generator::random::Random;
     use peer::generator::random_runs::{self, Extent};
     use peer::generator::rules;
     use peer::generator::scripts::{self, Runs};
     use peer::generator::vector_file::{replay, Subject};
+    use peer::mount_table::ROW_BYTES;
     use peer::Answer;
 
     /// Random runs have numbers from here on.
@@ -104,6 +109,25 @@ mod comparison {
         Check,
         Call(Call<'a>),
         Convert(&'a [u8]),
+        Mount(Mount<'a>),
+    }
+
+    impl<'a> Step<'a> {
+        /// The bytes of a call of either kind.
+        fn call(&self) -> Option<&'a [u8]> {
+            match self {
+                Step::Call(call) => Some(call.bytes),
+                Step::Mount(mount) => Some(mount.bytes),
+                _ => None,
+            }
+        }
+    }
+
+    /// What is to be compared.
+    #[derive(Clone, Copy)]
+    enum Wanted {
+        Calls(u64),
+        Mounts(u64),
     }
 
     struct Comparer {
@@ -114,14 +138,18 @@ mod comparison {
         step: u64,
         calls_in_run: u64,
         calls: u64,
+        mounts: u64,
         steps: u64,
-        wanted_calls: u64,
+        wanted: Wanted,
         peer: Peer,
+        call: Fenced,
         store: Fenced,
+        table: Fenced,
         reply: Fenced,
         old: Fenced,
         peer_reply: Vec<u8>,
         before: Vec<u8>,
+        table_before: Vec<u8>,
         coverage: Coverage,
         started: Instant,
         shown: u64,
@@ -148,7 +176,7 @@ mod comparison {
     }
 
     impl Comparer {
-        fn new(seed: u64, show: bool, wanted_calls: u64) -> Comparer {
+        fn new(seed: u64, show: bool, wanted: Wanted) -> Comparer {
             Comparer {
                 seed,
                 show,
@@ -157,14 +185,18 @@ mod comparison {
                 step: 0,
                 calls_in_run: 0,
                 calls: 0,
+                mounts: 0,
                 steps: 0,
-                wanted_calls,
+                wanted,
                 peer: Peer::default(),
+                call: Fenced::default(),
                 store: Fenced::default(),
+                table: Fenced::default(),
                 reply: Fenced::default(),
                 old: Fenced::default(),
                 peer_reply: Vec::new(),
                 before: Vec::new(),
+                table_before: Vec::new(),
                 coverage: Coverage::default(),
                 started: Instant::now(),
                 shown: 0,
@@ -199,23 +231,54 @@ mod comparison {
                         call.space
                     );
                 }
+                Step::Mount(mount) => {
+                    let _ = writeln!(
+                        text,
+                        "MOUNT call of {} bytes: {}\nhost {:#010x}, reply space {}, table of {} bytes",
+                        mount.bytes.len(),
+                        hex(mount.bytes),
+                        mount.host,
+                        mount.space,
+                        self.table_before.len()
+                    );
+                }
             }
             text
         }
 
-        /// Counts a step and keeps the store as it was before.
+        /// Counts a step and keeps store and table as they were before.
         fn begin(&mut self, step: &Step<'_>) {
             self.step += 1;
             self.steps += 1;
-            if matches!(step, Step::Call(_)) {
-                self.calls_in_run += 1;
-                self.calls += 1;
-            }
+            self.calls_in_run += u64::from(step.call().is_some());
+            self.calls += u64::from(matches!(step, Step::Call(_)));
+            self.mounts += u64::from(matches!(step, Step::Mount(_)));
+            self.before.clear();
+            self.before.extend_from_slice(&self.peer.store);
+            self.table_before.clear();
+            self.table_before.extend_from_slice(&self.peer.table);
             if self.show {
                 print!("{}", self.describe(step));
             }
-            self.before.clear();
-            self.before.extend_from_slice(&self.peer.store);
+        }
+
+        /// Whether enough calls are made.
+        fn is_enough(&self) -> bool {
+            match self.wanted {
+                Wanted::Calls(wanted) => self.calls >= wanted,
+                Wanted::Mounts(wanted) => self.mounts >= wanted,
+            }
+        }
+
+        /// Readies the buffers that the library gets for a call, at any
+        /// alignment, and the reply space as the peer has left it.
+        fn ready(&mut self, bytes: &[u8], space: usize, outcome: &Outcome) {
+            self.peer_reply.clear();
+            self.peer_reply.extend_from_slice(&outcome.reply);
+            self.peer_reply.resize(space, SPARE);
+            let shift = self.step as usize % 8;
+            self.reply.reset(space, shift, SPARE);
+            self.call.hold(bytes, (shift + 3) % 8);
         }
 
         /// Compares both outcomes; ends the program at a difference.
@@ -224,7 +287,7 @@ mod comparison {
             if peer != library {
                 let _ = writeln!(differences, "answer: peer {peer:?}, library {library:?}");
             }
-            if matches!(step, Step::Call(_)) {
+            if let Some(bytes) = step.call() {
                 let (own, other) = (&self.peer_reply[..], self.reply.inside());
                 if let Some(at) = first_difference(own, other) {
                     let _ = writeln!(
@@ -238,6 +301,9 @@ mod comparison {
                 }
                 if !self.reply.fences_stand() {
                     differences.push_str("the library wrote outside the reply space\n");
+                }
+                if !self.call.holds(bytes) {
+                    differences.push_str("the library wrote in or beside the call\n");
                 }
             }
             if matches!(step, Step::Convert(old) if !self.old.holds(old)) {
@@ -254,41 +320,66 @@ mod comparison {
             if !self.store.fences_stand() {
                 differences.push_str("the library wrote outside the store\n");
             }
+            let (own, other) = (&self.peer.table[..], self.table.inside());
+            if let Some(at) = first_difference(own, other) {
+                let _ = writeln!(
+                    differences,
+                    "table at {at} (row {}, byte {}): peer {:#04x}, library {:#04x}, before {:#04x}",
+                    at / ROW_BYTES,
+                    at % ROW_BYTES,
+                    own[at],
+                    other[at],
+                    self.table_before[at]
+                );
+            }
+            if !self.table.fences_stand() {
+                differences.push_str("the library wrote outside the table\n");
+            }
             if differences.is_empty() {
                 self.progress();
                 return;
             }
+            eprint!("DIFFERENCE\n{}{differences}", self.describe(step));
+            self.keep("store", &self.before);
+            if matches!(step, Step::Mount(_)) {
+                self.keep("table", &self.table_before);
+            }
+            let mode = match self.wanted {
+                Wanted::Calls(_) => "--calls",
+                Wanted::Mounts(_) => "--mounts",
+            };
+            if self.run >= FIRST_RANDOM_RUN {
+                let (seed, run) = (self.seed, self.run);
+                eprintln!("again: compare {mode} 1 --seed {seed} --run {run}");
+            } else {
+                eprintln!("again: compare {mode} 1 (the scripted runs come first)");
+            }
+            exit(1);
+        }
+
+        /// Keeps a buffer as it was before the step in a file.
+        fn keep(&self, what: &str, bytes: &[u8]) {
             let name = format!(
-                "nfs3-compare-{}-{}-{}.store",
+                "nfs3-compare-{}-{}-{}.{what}",
                 self.seed, self.run, self.step
             );
             let file = std::env::temp_dir().join(name);
-            let written = std::fs::write(&file, &self.before);
-            eprint!("DIFFERENCE\n{}{differences}", self.describe(step));
-            match written {
-                Ok(()) => eprintln!(
-                    "store before: {} bytes in {}",
-                    self.before.len(),
-                    file.display()
-                ),
-                Err(error) => eprintln!("store before could not be written: {error}"),
+            match std::fs::write(&file, bytes) {
+                Ok(()) => eprintln!("{what} before: {} bytes in {}", bytes.len(), file.display()),
+                Err(error) => eprintln!("{what} before could not be written: {error}"),
             }
-            if self.run >= FIRST_RANDOM_RUN {
-                eprintln!("again: compare --seed {} --run {}", self.seed, self.run);
-            } else {
-                eprintln!("again: compare --calls 1 (the scripted runs come first)");
-            }
-            exit(1);
         }
 
         fn progress(&mut self) {
             let passed = self.started.elapsed().as_secs() / 2;
             if passed > self.shown {
                 self.shown = passed;
+                let (done, wanted, what) = match self.wanted {
+                    Wanted::Calls(wanted) => (self.calls, wanted, "calls"),
+                    Wanted::Mounts(wanted) => (self.mounts, wanted, "MOUNT calls"),
+                };
                 println!(
-                    "{} of {} calls, run {}, {:.0} s",
-                    self.calls,
-                    self.wanted_calls,
+                    "{done} of {wanted} {what}, run {}, {:.0} s",
                     self.run,
                     self.started.elapsed().as_secs_f64()
                 );
@@ -339,16 +430,9 @@ mod comparison {
             let step = Step::Call(call);
             self.begin(&step);
             let outcome = self.peer.call(call);
-            self.peer_reply.clear();
-            self.peer_reply.extend_from_slice(&outcome.reply);
-            self.peer_reply.resize(call.space, SPARE);
-            self.reply.reset(call.space, self.step as usize % 8, SPARE);
-            // The library gets its own copy of the call, at any alignment.
-            let shift = self.step as usize % 4;
-            let mut copy = vec![FENCE_BYTE; shift];
-            copy.extend_from_slice(call.bytes);
+            self.ready(call.bytes, call.space, &outcome);
             let library_call = Call {
-                bytes: &copy[shift..],
+                bytes: self.call.inside(),
                 ..call
             };
             let other = library::call(
@@ -376,9 +460,39 @@ mod comparison {
             &self.peer.store
         }
 
+        fn set_table(&mut self, table: &[u8]) {
+            self.peer.set_table(table);
+            self.table.hold(table, self.steps as usize % 8);
+        }
+
+        fn mount(&mut self, mount: Mount<'_>) -> Outcome {
+            let step = Step::Mount(mount);
+            self.begin(&step);
+            self.coverage.mounts.before(&self.table_before);
+            let outcome = self.peer.mount(mount);
+            self.ready(mount.bytes, mount.space, &outcome);
+            let library_mount = Mount {
+                bytes: self.call.inside(),
+                ..mount
+            };
+            let other = library::mount(
+                &library_mount,
+                self.store.inside(),
+                self.table.inside_mut(),
+                self.reply.inside_mut(),
+            );
+            self.finish(&step, outcome.answer, other);
+            self.coverage.mounts.after(&mount, &outcome);
+            outcome
+        }
+
+        fn table(&self) -> &[u8] {
+            &self.peer.table
+        }
+
         /// Of the labels only the rules and the random RENAMEs are counted.
         fn note(&mut self, group: &'static str, label: &str) {
-            if group == rules::GROUP || group == random_runs::RENAMES {
+            if [rules::GROUP, rules::MOUNT_GROUP, random_runs::RENAMES].contains(&group) {
                 self.coverage.note(group, label);
             }
         }
@@ -514,6 +628,17 @@ mod comparison {
         random_runs::run(driver, number, seed, extent, steps, transfer);
     }
 
+    /// The same for a run with MOUNT calls.
+    fn mount_run(driver: &mut dyn Driver, seed: u64, number: u32) {
+        let mut random = Random::part(!seed, u64::from(number));
+        let (extent, steps) = match random.below(200) {
+            0..=159 => (mounts::Extent::Small, 300),
+            160..=197 => (mounts::Extent::Middle, 300),
+            _ => (mounts::Extent::Full, 80),
+        };
+        mounts::run(driver, number, seed, extent, steps);
+    }
+
     struct Library;
 
     impl Subject for Library {
@@ -531,6 +656,16 @@ mod comparison {
 
         fn convert(&mut self, old: &[u8], store: &mut [u8]) -> Answer {
             library::convert(old, store)
+        }
+
+        fn mount(
+            &mut self,
+            store: &[u8],
+            table: &mut [u8],
+            mount: &Mount<'_>,
+            reply: &mut [u8],
+        ) -> Answer {
+            library::mount(mount, store, table, reply)
         }
     }
 
@@ -562,7 +697,7 @@ mod comparison {
     }
 
     struct Options {
-        calls: u64,
+        wanted: Wanted,
         seed: u64,
         run: Option<u32>,
         show: bool,
@@ -572,7 +707,7 @@ mod comparison {
 
     fn options() -> Option<Options> {
         let mut options = Options {
-            calls: 100_000,
+            wanted: Wanted::Calls(100_000),
             seed: 1,
             run: None,
             show: false,
@@ -582,7 +717,8 @@ mod comparison {
         let mut arguments = std::env::args().skip(1);
         while let Some(argument) = arguments.next() {
             match &argument[..] {
-                "--calls" => options.calls = arguments.next()?.parse().ok()?,
+                "--calls" => options.wanted = Wanted::Calls(arguments.next()?.parse().ok()?),
+                "--mounts" => options.wanted = Wanted::Mounts(arguments.next()?.parse().ok()?),
                 "--seed" => options.seed = arguments.next()?.parse().ok()?,
                 "--run" => options.run = Some(arguments.next()?.parse().ok()?),
                 "--show" => options.show = true,
@@ -597,7 +733,7 @@ mod comparison {
     pub fn main() -> ExitCode {
         let Some(options) = options() else {
             eprintln!(
-                "usage: compare [--calls N] [--seed S] [--run R] [--show] | \
+                "usage: compare [--calls N | --mounts N] [--seed S] [--run R] [--show] | \
                  compare --old-images N [--seed S] | compare --replay FILE"
             );
             return ExitCode::from(2);
@@ -608,7 +744,13 @@ mod comparison {
         if let Some(count) = options.old_images {
             return compare_old_images(count, options.seed);
         }
-        let mut comparer = Comparer::new(options.seed, options.show, options.calls);
+        let with_mounts = matches!(options.wanted, Wanted::Mounts(_));
+        if with_mounts && !library::HAS_MOUNT {
+            library::report_no_mount("compare");
+            return ExitCode::from(2);
+        }
+        let random_run = if with_mounts { mount_run } else { random_run };
+        let mut comparer = Comparer::new(options.seed, options.show, options.wanted);
         if let Some(run) = options.run {
             random_run(&mut comparer, options.seed, run);
         } else {
@@ -616,26 +758,42 @@ mod comparison {
                 driver: &mut comparer,
                 next: 0,
             };
-            scripts::all(&mut runs);
-            println!("scripted runs agree, {} calls", comparer.calls);
+            if with_mounts {
+                mounts::all_scripts(&mut runs);
+            } else {
+                scripts::all(&mut runs);
+            }
+            println!(
+                "scripted runs agree, {} calls, {} MOUNT calls",
+                comparer.calls, comparer.mounts
+            );
             let mut number = FIRST_RANDOM_RUN;
-            while comparer.calls < options.calls {
+            while !comparer.is_enough() {
                 random_run(&mut comparer, options.seed, number);
                 number += 1;
             }
             println!("{} random runs agree", number - FIRST_RANDOM_RUN);
         }
         print!("{}", comparer.coverage.tables());
+        if with_mounts {
+            print!("{}", comparer.coverage.mounts.tables());
+        }
         if options.run.is_none() {
-            for missing in comparer.coverage.missing() {
+            let missing = if with_mounts {
+                comparer.coverage.missing_mounts()
+            } else {
+                comparer.coverage.missing()
+            };
+            for missing in missing {
                 println!("not reached: {missing}");
             }
         }
         println!(
-            "seed {}: {} steps, {} calls, 0 differences, {:.1} s",
+            "seed {}: {} steps, {} calls, {} MOUNT calls, 0 differences, {:.1} s",
             options.seed,
             comparer.steps,
             comparer.calls,
+            comparer.mounts,
             comparer.started.elapsed().as_secs_f64()
         );
         ExitCode::SUCCESS

@@ -5,10 +5,12 @@ use std::fmt::Write;
 
 use super::driver::Outcome;
 use super::lane::status_of;
+use super::mounts::counts::Mounts;
 use super::random_runs::{meetings, RENAMES};
 use super::rules;
 use super::searches;
 use crate::arguments::{How, Place};
+use crate::layout::word;
 use crate::numbers::{message, procedure, Status};
 use crate::rpc::{read_header, Header};
 use crate::xdr::Reader;
@@ -38,7 +40,7 @@ pub const PROCEDURE_NAMES: [&str; 22] = [
     "COMMIT",
 ];
 
-const STATUS_NAMES: [(Status, &str); 16] = [
+const STATUS_NAMES: [(Status, &str); 17] = [
     (Status::OK, "OK"),
     (Status::NOENT, "NOENT"),
     (Status::ACCES, "ACCES"),
@@ -55,6 +57,7 @@ const STATUS_NAMES: [(Status, &str); 16] = [
     (Status::BAD_COOKIE, "BAD_COOKIE"),
     (Status::NOTSUPP, "NOTSUPP"),
     (Status::TOOSMALL, "TOOSMALL"),
+    (Status::SERVERFAULT, "SERVERFAULT"),
 ];
 
 pub fn status_name(status: u32) -> &'static str {
@@ -164,7 +167,7 @@ pub fn expected_pairs() -> Vec<(u32, Status)> {
 }
 
 /// The RPC outcomes, in the order of their tests.
-const OUTCOMES: [&str; 6] = [
+pub const OUTCOMES: [&str; 6] = [
     "denied, RPC_MISMATCH",
     "PROG_UNAVAIL",
     "PROG_MISMATCH",
@@ -186,7 +189,23 @@ pub struct Coverage {
     formats: [u64; 7],
     checks: [u64; 7],
     conversions: [u64; 7],
+    /// Those of MOUNT calls.
+    pub mounts: Mounts,
     notes: BTreeMap<&'static str, BTreeMap<String, u64>>,
+}
+
+/// Which of the RPC outcomes a reply tells.
+pub fn outcome_of(reply: &[u8]) -> usize {
+    if word(reply, 8) != message::ACCEPTED {
+        return 0;
+    }
+    match word(reply, 20) {
+        message::PROG_UNAVAIL => 1,
+        message::PROG_MISMATCH => 2,
+        message::PROC_UNAVAIL => 3,
+        message::GARBAGE_ARGS => 4,
+        _ => 5,
+    }
 }
 
 impl Coverage {
@@ -216,27 +235,9 @@ impl Coverage {
         if outcome.answer.number != 0 {
             return;
         }
-        let word = |bytes: &[u8], at: usize| {
-            u32::from_be_bytes([
-                bytes[4 * at],
-                bytes[4 * at + 1],
-                bytes[4 * at + 2],
-                bytes[4 * at + 3],
-            ])
-        };
-        let place = if word(&outcome.reply, 2) != message::ACCEPTED {
-            0
-        } else {
-            match word(&outcome.reply, 5) {
-                message::PROG_UNAVAIL => 1,
-                message::PROG_MISMATCH => 2,
-                message::PROC_UNAVAIL => 3,
-                message::GARBAGE_ARGS => 4,
-                _ => 5,
-            }
-        };
+        let place = outcome_of(&outcome.reply);
         *self.outcomes.entry(place).or_default() += 1;
-        let number = if place >= 4 { word(call, 5) } else { 0 };
+        let number = if place >= 4 { word(call, 20) } else { 0 };
         if place == 4 {
             *self.garbage.entry(number).or_default() += 1;
         } else if place == 5 {
@@ -352,6 +353,17 @@ impl Coverage {
         missing
     }
 
+    /// What the file of mounts should have reached and has not.
+    pub fn missing_mounts(&self) -> Vec<String> {
+        let mut missing = self.mounts.missing();
+        for rule in rules::mount::all() {
+            if !self.noted(rules::MOUNT_GROUP, &rule) {
+                missing.push(format!("rule of E5: {rule}"));
+            }
+        }
+        missing
+    }
+
     /// Statuses that the papers do not give for their procedure.
     pub fn unexpected(&self) -> Vec<String> {
         let expected = expected_pairs();
@@ -373,7 +385,12 @@ impl Coverage {
             .flat_map(|labels| labels.keys())
             .filter(|&label| !known.contains(label))
             .map(|label| format!("random RENAME: {label}"));
-        pairs.chain(exclusive).chain(renames).collect()
+        let mounts = self.mounts.unexpected();
+        pairs
+            .chain(exclusive)
+            .chain(renames)
+            .chain(mounts)
+            .collect()
     }
 
     /// The tables as text.

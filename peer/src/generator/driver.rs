@@ -24,6 +24,15 @@ pub struct Call<'a> {
     pub space: usize,
 }
 
+/// The arguments of a MOUNT call besides the store and the table.
+#[derive(Clone, Copy, PartialEq, Eq, Debug)]
+pub struct Mount<'a> {
+    pub bytes: &'a [u8],
+    pub host: u32,
+    /// The length of the reply space.
+    pub space: usize,
+}
+
 /// What a call answered, with the reply's bytes.
 #[derive(Clone, PartialEq, Eq, Debug)]
 pub struct Outcome {
@@ -38,7 +47,8 @@ pub const SPARE: u8 = 0x5A;
 /// The most bytes of one patch.
 pub const MAX_PATCH: usize = 8192;
 
-/// Carries out the steps of a run on a store buffer of its own.
+/// Carries out the steps of a run on a store buffer and a mount table of its
+/// own.
 pub trait Driver {
     /// A new run: the store buffer becomes `length` bytes of value 0xA5.
     fn start(&mut self, number: u32, length: usize, title: &str);
@@ -50,6 +60,10 @@ pub trait Driver {
     /// Converts an old image; the store buffer is the target.
     fn convert(&mut self, old: &[u8]) -> Answer;
     fn store(&self) -> &[u8];
+    /// The mount table becomes these bytes. A new run leaves it as it is.
+    fn set_table(&mut self, table: &[u8]);
+    fn mount(&mut self, mount: Mount<'_>) -> Outcome;
+    fn table(&self) -> &[u8];
     /// Searches a directory of the store, which passes its check.
     fn search(&mut self, directory: u32, name: &[u8]) -> Search {
         let search = crate::search(self.store(), directory, name);
@@ -63,11 +77,18 @@ pub trait Driver {
     fn note(&mut self, _group: &'static str, _label: &str) {}
 }
 
-/// The peer's own store buffer.
+/// The peer's own store buffer and mount table.
 #[derive(Default)]
 pub struct Peer {
     pub store: Vec<u8>,
+    pub table: Vec<u8>,
     space: Vec<u8>,
+}
+
+/// Whether a call left the spare bytes of its reply space alone.
+fn all_spare(bytes: &[u8]) -> bool {
+    let (groups, rest) = bytes.as_chunks::<64>();
+    groups.iter().all(|group| *group == [SPARE; 64]) && rest.iter().all(|&byte| byte == SPARE)
 }
 
 impl Peer {
@@ -108,11 +129,34 @@ impl Peer {
             call.nanoseconds,
             call.verifier,
         );
-        let length = answer.length as usize;
-        assert!(self.space[length..].iter().all(|&byte| byte == SPARE));
+        self.outcome(answer)
+    }
+
+    pub fn set_table(&mut self, table: &[u8]) {
+        self.table.clear();
+        self.table.extend_from_slice(table);
+    }
+
+    pub fn mount(&mut self, mount: Mount<'_>) -> Outcome {
+        self.space.clear();
+        self.space.resize(mount.space, SPARE);
+        let answer = crate::mount(
+            mount.bytes,
+            &self.store,
+            &mut self.table,
+            &mut self.space,
+            mount.host,
+        );
+        self.outcome(answer)
+    }
+
+    /// The answer with the reply that stands in the space.
+    fn outcome(&self, answer: Answer) -> Outcome {
+        let (reply, rest) = self.space.split_at(answer.length as usize);
+        assert!(all_spare(rest));
         Outcome {
             answer,
-            reply: self.space[..length].to_vec(),
+            reply: reply.to_vec(),
         }
     }
 }

@@ -5,6 +5,7 @@ pub mod coverage;
 pub mod driver;
 pub mod encode;
 pub mod lane;
+pub mod mounts;
 pub mod old_images;
 pub mod padding;
 pub mod random;

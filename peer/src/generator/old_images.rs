@@ -1,6 +1,6 @@
 //! Images in the layout of document 01, whole and damaged.
 
-use super::driver::{Call, Driver, Format, Outcome, Peer};
+use super::driver::{Call, Driver, Format, Mount, Outcome, Peer};
 use super::random::Random;
 use super::random_runs::{self, Extent};
 use crate::layout::{object_field, Shape, OBJECTS_AT, OBJECT_BYTES};
@@ -331,6 +331,18 @@ impl Driver for Quiet {
 
     fn store(&self) -> &[u8] {
         &self.0.store
+    }
+
+    fn set_table(&mut self, table: &[u8]) {
+        self.0.set_table(table);
+    }
+
+    fn mount(&mut self, mount: Mount<'_>) -> Outcome {
+        self.0.mount(mount)
+    }
+
+    fn table(&self) -> &[u8] {
+        &self.0.table
     }
 }
 

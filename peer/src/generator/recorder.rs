@@ -1,8 +1,9 @@
-//! The runs of the vector file and of the file of searches, recorded with the
-//! peer's answers.
+//! The runs of the vector file, of the file of searches and of the file of
+//! mounts, recorded with the peer's answers.
 
 use super::coverage::Coverage;
-use super::driver::{Call, Driver, Format, Outcome, Peer};
+use super::driver::{Call, Driver, Format, Mount, Outcome, Peer};
+use super::mounts::{self, definition::defined};
 use super::random_runs::{self, Extent};
 use super::scripts::{self, Runs};
 use super::searches;
@@ -95,6 +96,31 @@ impl Driver for Recorder {
         &self.peer.store
     }
 
+    fn set_table(&mut self, table: &[u8]) {
+        self.peer.set_table(table);
+    }
+
+    /// Each outcome is held against the definition.
+    fn mount(&mut self, mount: Mount<'_>) -> Outcome {
+        let wanted = defined(&mount, &self.peer.store, &self.peer.table);
+        self.writer.table(&self.peer.table);
+        self.coverage.mounts.before(&self.peer.table);
+        let outcome = self.peer.mount(mount);
+        assert_eq!(outcome.answer.number, wanted.number, "{mount:?}");
+        assert_eq!(outcome.reply, wanted.reply, "{mount:?}");
+        assert!(self.peer.table == wanted.table, "{mount:?}");
+        let digest = self.digest();
+        self.digested += self.peer.table.len() as u64;
+        self.writer
+            .mount(&mount, &outcome, &self.peer.table, digest);
+        self.coverage.mounts.after(&mount, &outcome);
+        outcome
+    }
+
+    fn table(&self) -> &[u8] {
+        &self.peer.table
+    }
+
     fn search(&mut self, directory: u32, name: &[u8]) -> Search {
         let search = crate::search(&self.peer.store, directory, name);
         let search = search.expect("the store passes its check");
@@ -122,7 +148,7 @@ pub struct Recording {
     /// What a replay without differences prints.
     pub stdout: String,
     pub coverage: Coverage,
-    /// Store bytes that a replay digests.
+    /// Bytes of stores and mount tables that a replay digests.
     pub digested: u64,
 }
 
@@ -155,5 +181,16 @@ pub fn record_searches() -> Recording {
         next: 0,
     };
     searches::all(&mut runs, SEED);
+    recorder.finish()
+}
+
+/// Records every run of the file of mounts.
+pub fn record_mounts() -> Recording {
+    let mut recorder = Recorder::default();
+    let mut runs = Runs {
+        driver: &mut recorder,
+        next: 0,
+    };
+    mounts::all(&mut runs, SEED);
     recorder.finish()
 }

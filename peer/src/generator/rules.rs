@@ -10,11 +10,14 @@ pub const GROUP: &str = "Rules of document 02";
 /// The group of labels for the rules of request E4.
 pub const SEARCH_GROUP: &str = "Rules of request E4";
 
+/// The group of labels for the rules of request E5.
+pub const MOUNT_GROUP: &str = "Rules of request E5";
+
 /// Gives each label its name, and lists them all.
 macro_rules! labels {
     ($list:ident: $($name:ident = $label:literal;)*) => {
         $(pub const $name: &str = $label;)*
-        const $list: &[&str] = &[$($name),*];
+        pub const $list: &[&str] = &[$($name),*];
     };
 }
 
@@ -302,4 +305,230 @@ pub fn all() -> Vec<String> {
         }
     }
     labels
+}
+
+/// The rules of request E5, which the file of mounts must show.
+pub mod mount {
+    use crate::generator::mounts::counts::{ANSWERS, PROCEDURE_NAMES};
+    use crate::numbers::mount_procedure;
+
+    labels! { LABELS:
+        // The entry.
+        SPACE = "entry: 33,692 bytes of reply space are enough, 33,691 are not";
+        LONGEST_CALL = "entry: a call of 8,192 bytes is read, one of 8,193 is not";
+        REFUSED = "entry: a refusal has length 0 and changes no byte";
+        SPARE = "entry: bytes of the reply space past the reply stay";
+        STORE_STAYS = "entry: no MOUNT call changes the store";
+        CUT_HEADER = "entry: answer 5 for a header cut at any byte";
+        NO_CALL = "entry: answer 5 for a message type other than 0";
+        DAMAGED_STORE = "entry: answer 1 for damaged stores";
+        // RPC outcomes, in their order.
+        DENIED = "rpc: another RPC version is denied";
+        DENIED_FIRST = "rpc: another RPC version before another program, with 12 bytes too";
+        NFS_PROGRAM = "rpc: program 100003 at this entry, PROG_UNAVAIL";
+        MOUNT_AT_NFS = "rpc: program 100005 at the NFS entry, PROG_UNAVAIL";
+        OTHER_PROGRAM = "rpc: any other program, PROG_UNAVAIL";
+        PROGRAM_FIRST = "rpc: another program before another version";
+        VERSION_FIRST = "rpc: another version before a procedure over 5";
+        PROCEDURE_FIRST = "rpc: a procedure over 5 before its arguments";
+        ARGUMENTS_FIRST = "rpc: GARBAGE_ARGS before any status";
+        ANY_FLAVOR = "rpc: credential and verifier of any flavor";
+        LONGEST_AUTH = "rpc: a credential or verifier of 400 bytes is read, 401 are answer 5";
+        // Reading a path.
+        LENGTH_CUT = "path: longer than the call, GARBAGE_ARGS";
+        LENGTH_MISSING = "path: no length, or a length cut short, GARBAGE_ARGS";
+        // What MNT answers.
+        ROOT = "MNT: \"/\", \"//\" and more slashes are the root";
+        REPLY = "MNT: OK, the handle of 12 bytes, flavors 0 and 1: 56 bytes";
+        FAILURE = "MNT: a failure is the status alone: 28 bytes, and the table stays";
+        EMPTY_PATH = "MNT: an empty path, INVAL";
+        NO_SLASH = "MNT: a path that does not start with a slash, INVAL";
+        // Components.
+        FOUND = "MNT: components one after the other";
+        EMPTY_COMPONENTS = "MNT: empty components are passed over, everywhere";
+        TRAILING = "MNT: slashes at the end";
+        DOT = "MNT: \".\" is the directory itself";
+        DOT_DOT = "MNT: \"..\" is the directory above";
+        ABOVE_ROOT = "MNT: \"..\" of the root is the root";
+        DOTS_OF_NOTHING = "MNT: a missing name before \"..\", NOENT";
+        LIKE_DOTS = "MNT: \"...\" is a name like any other";
+        NAME_32 = "MNT: a name of 32 bytes is found";
+        NAME_33 = "MNT: a name of 33 bytes, NAMETOOLONG";
+        ZERO_BYTE = "MNT: a name with a zero byte, ACCES";
+        LONG_WITH_ZERO = "MNT: a name of 33 bytes with a zero byte, NAMETOOLONG";
+        MISSING = "MNT: a missing name, NOENT";
+        PREFIX = "MNT: the beginning of a name, NOENT";
+        OTHER_DIRECTORY = "MNT: a name of another directory, NOENT";
+        DEEPEST = "MNT: 63 components deep, and back up";
+        ANY_BYTES = "MNT: names of any other bytes";
+        // Files.
+        FILE = "MNT: \"/file\", NOTDIR";
+        FILE_SLASH = "MNT: \"/file/\", NOTDIR";
+        FILE_DOT = "MNT: \"/file/.\", NOTDIR";
+        FILE_DOT_DOT = "MNT: \"/file/..\", NOTDIR";
+        FILE_NAME = "MNT: \"/file/x\", NOTDIR";
+        FILE_LONG = "MNT: a file before a name of 33 bytes or with a zero byte, NOTDIR";
+        // The first failing component decides.
+        MISSING_FIRST = "MNT: NOENT before a later NAMETOOLONG, ACCES or NOENT";
+        LONG_FIRST = "MNT: NAMETOOLONG before a later ACCES or NOENT";
+        ZERO_FIRST = "MNT: ACCES before a later NAMETOOLONG or NOENT";
+        FILE_FIRST = "MNT: NOTDIR before what follows the file";
+        INVAL_FIRST = "MNT: INVAL before anything of the components";
+        // The table.
+        ADDED = "MNT: the pair goes into the lowest free row, zeros behind the path";
+        AS_SENT = "MNT: the path is kept as sent";
+        THERE = "MNT: a pair that is there is not added again";
+        THERE_FULL = "MNT: a pair that is there in a full table, OK";
+        FULL = "MNT: another pair in a full table, SERVERFAULT";
+        FULL_LAST = "MNT: the last free row is taken";
+        FULL_INVAL = "MNT: full table, INVAL first";
+        FULL_NOENT = "MNT: full table, NOENT first";
+        FULL_ACCES = "MNT: full table, ACCES first";
+        FULL_LONG = "MNT: full table, NAMETOOLONG first";
+        FULL_NOTDIR = "MNT: full table, NOTDIR first, inside the path and at its end";
+        THERE_GONE = "MNT: a pair that is there but fails now has the failure's status";
+        MIDDLE = "MNT: a row that became free in the middle is taken first";
+        OTHER_HOST = "MNT: the same path from another host is another pair";
+        OTHER_PATH = "MNT: paths to one directory that differ as sent are two pairs";
+        ANY_HOST = "MNT: host 0 is a host like any other";
+        // The store between calls.
+        AFTER_CREATE = "MNT: after MKDIR and CREATE of names on the path";
+        AFTER_REMOVE = "MNT: after REMOVE of a name on the path";
+        AFTER_RMDIR = "MNT: after RMDIR and MKDIR, the handle of the new directory";
+        AFTER_RENAME = "MNT: after RENAME of names on the path, the same handle";
+        AFTER_RENAME_OVER = "MNT: after RENAME over a directory on the path";
+        // UMNT and UMNTALL.
+        STRUCK = "UMNT: the pair's row becomes zero, the others stay where they are";
+        NOT_THERE = "UMNT: a pair that is not there, nothing changes";
+        OTHERS_PAIR = "UMNT: the same path of another host stays";
+        OTHER_SPELLING = "UMNT: another path to the same directory stays";
+        GONE = "UMNT: a path that exists no longer is struck";
+        NEVER = "UMNT: a path that never existed, or has no slash, or is empty";
+        UMNT_REPLY = "UMNT: always OK, 24 bytes";
+        ALL_NONE = "UMNTALL: a host without rows, nothing changes";
+        ALL_SOME = "UMNTALL: some rows, the others stay where they are";
+        ALL_ROWS = "UMNTALL: all rows, the table becomes zero";
+        UMNTALL_REPLY = "UMNTALL: always OK, 24 bytes";
+        // Lists.
+        DUMP_EMPTY = "DUMP: an empty table, 28 bytes";
+        DUMP_MIXED = "DUMP: used rows in the order of their numbers";
+        DUMP_FULL = "DUMP: a full table with the longest hosts and paths, 33,692 bytes";
+        DUMP_STRANGE = "DUMP: paths that exist no longer, or of any bytes, as they are";
+        DUMP_STAYS = "DUMP: the table stays";
+        EXPORT = "EXPORT: words 1, 1, 2F000000, 0, 0";
+        NULL = "NULL: 24 bytes, the table stays";
+        // Good tables.
+        GOOD_LONGEST = "table: a path of 1,024 bytes is good";
+        GOOD_SHORTEST = "table: a path of one slash is good";
+        GOOD_BYTES = "table: any bytes inside a path are good, zeros at its end too";
+        GOOD_HOSTS = "table: one path with two hosts is good";
+        GOOD_PREFIX = "table: paths of which one begins with the other are good";
+        GOOD_LAST_BYTE = "table: 32 paths of 1,024 bytes that differ in the last byte are good";
+        GOOD_FIRST_BYTE = "table: 32 paths of 1,024 bytes that differ in the second byte are good";
+        GOOD_GAPS = "table: free rows between used ones are good";
+        // Damaged tables, answer 12.
+        BAD_FREE_HOST = "table: a host in a free row, each of its four bytes";
+        BAD_FREE_PATH = "table: a byte in a free row's path, first, middle or last";
+        BAD_BEHIND = "table: a byte right behind a path";
+        BAD_LAST = "table: a byte at the end of a used row";
+        BAD_EVERY_PLACE = "table: a byte at each of the 32 places behind a path's end";
+        BAD_LENGTH = "table: a path length of 1,025";
+        BAD_HUGE = "table: a path length of 4,294,967,295, and others over 1,024";
+        BAD_SLASH = "table: a path without a slash at its start";
+        BAD_ZERO_PATH = "table: a path that starts with a zero byte";
+        BAD_NEIGHBOURS = "table: a pair twice in neighbouring rows";
+        BAD_ENDS = "table: a pair twice, in the first and the last row";
+        BAD_LONG_TWICE = "table: a pair twice with a path of 1,024 bytes among 31 others";
+        BAD_ZERO_HOST = "table: a pair of host 0 twice";
+        BAD_SIZE = "table: another length, 0 to 33,056 bytes";
+        BAD_FOR_ALL = "table: answer 12 for every procedure";
+    }
+
+    /// The label for two refusals that are due at once.
+    pub fn refusal(first: u32, second: u32) -> String {
+        format!("entry: answer {first} before {second}")
+    }
+
+    /// The versions that are not served.
+    pub const VERSIONS: [u32; 6] = [0, 1, 2, 4, 0x0300_0000, u32::MAX];
+
+    pub fn version(version: u32) -> String {
+        format!("rpc: version {version}, PROG_MISMATCH 3 3")
+    }
+
+    /// The procedures that there are not.
+    pub const BEYOND: [u32; 6] = [6, 7, 21, 22, 0x0100_0000, u32::MAX];
+
+    pub fn beyond(procedure: u32) -> String {
+        format!("rpc: procedure {procedure}, PROC_UNAVAIL")
+    }
+
+    /// How many bytes are left over behind the arguments.
+    pub const LEFT_OVER: [usize; 4] = [1, 3, 4, 8];
+
+    pub fn left_over(procedure: u32, count: usize) -> String {
+        let name = PROCEDURE_NAMES[procedure as usize];
+        format!("{name}: {count} bytes left over, GARBAGE_ARGS")
+    }
+
+    /// The procedures that take a path.
+    pub const WITH_PATH: [u32; 2] = [mount_procedure::MNT, mount_procedure::UMNT];
+    /// Lengths of paths at the limit.
+    pub const LENGTHS: [u32; 4] = [1023, 1024, 1025, u32::MAX];
+
+    pub fn length(procedure: u32, length: u32) -> String {
+        let name = PROCEDURE_NAMES[procedure as usize];
+        let outcome = if length > 1024 {
+            "GARBAGE_ARGS"
+        } else {
+            "read"
+        };
+        format!("{name}: a path of {length} bytes, {outcome}")
+    }
+
+    /// The padded fields of a call.
+    pub const FIELDS: [&str; 3] = ["credential", "verifier", "path"];
+
+    pub fn padding(procedure: u32, field: &str, count: usize, cut: bool) -> String {
+        let name = PROCEDURE_NAMES[procedure as usize];
+        let state = if cut { "cut" } else { "not zero" };
+        format!("{name}: padding of {count} behind the {field}, {state}")
+    }
+
+    /// Hosts that are listed.
+    pub const HOSTS: [u32; 5] = [0, u32::MAX, 0xC000_0201, 0x0A00_0001, 0x0102_0304];
+
+    pub fn host(host: u32) -> String {
+        format!("DUMP: host {host:#010X} as dotted decimal")
+    }
+
+    pub fn remainder(remainder: usize) -> String {
+        format!("DUMP: a path whose length is {remainder} modulo 4")
+    }
+
+    /// Every label of request E5.
+    pub fn all() -> Vec<String> {
+        let mut labels: Vec<String> = LABELS.iter().map(|&label| label.to_owned()).collect();
+        let refusals = &ANSWERS[..ANSWERS.len() - 1];
+        for (at, &first) in refusals.iter().enumerate() {
+            let later = refusals[at + 1..].iter();
+            labels.extend(later.map(|&second| refusal(first, second)));
+        }
+        labels.extend(VERSIONS.map(version));
+        labels.extend(BEYOND.map(beyond));
+        for number in 0..=mount_procedure::LAST {
+            labels.extend(LEFT_OVER.map(|count| left_over(number, count)));
+        }
+        for number in WITH_PATH {
+            labels.extend(LENGTHS.map(|bytes| length(number, bytes)));
+            for field in FIELDS {
+                for count in 1..=3 {
+                    labels.extend([false, true].map(|cut| padding(number, field, count, cut)));
+                }
+            }
+        }
+        labels.extend(HOSTS.map(host));
+        labels.extend([0, 1, 2, 3].map(remainder));
+        labels
+    }
 }

@@ -2,7 +2,7 @@
 
 use std::ops::Range;
 
-use super::driver::{Call, Format, Outcome, FRESH, MAX_PATCH, SPARE};
+use super::driver::{Call, Format, Mount, Outcome, FRESH, MAX_PATCH, SPARE};
 use crate::{Answer, Search};
 
 /// The tags of the rows.
@@ -21,12 +21,15 @@ mod tag {
     pub const BLOCKS: u8 = 11;
     pub const OLD_LENGTH: u8 = 12;
     pub const DIRECTORY: u8 = 13;
-    pub const LAST_GIVEN: u8 = 13;
+    pub const TABLE_LENGTH: u8 = 14;
+    pub const HOST: u8 = 15;
+    pub const LAST_GIVEN: u8 = 15;
     // Numbers that must come back.
     pub const LENGTH: u8 = 64;
     pub const STORE_DIGEST: u8 = 65;
     pub const COMPARED: u8 = 67;
-    pub const LAST_WANTED: u8 = 67;
+    pub const TABLE_DIGEST: u8 = 68;
+    pub const LAST_WANTED: u8 = 69;
     // Bytes of buffers.
     pub const STORE: u8 = 128;
     pub const CALL: u8 = 129;
@@ -34,23 +37,28 @@ mod tag {
     pub const OLD: u8 = 131;
     // Bytes that a replay prints.
     pub const TEXT: u8 = 132;
-    // Runs, and the last search as a replay prints it.
+    // Bytes of the mount table.
+    pub const TABLE: u8 = 133;
+    // Runs, the last search as a replay prints it, and a table of zeros.
     pub const RUN: u8 = 192;
     pub const END: u8 = 193;
     pub const SHOW: u8 = 194;
+    pub const CLEAR_TABLE: u8 = 195;
     // Entries.
     pub const FORMAT_ENTRY: u8 = 224;
     pub const CHECK_ENTRY: u8 = 225;
     pub const CALL_ENTRY: u8 = 226;
     pub const CONVERT_ENTRY: u8 = 227;
     pub const SEARCH_ENTRY: u8 = 228;
+    pub const MOUNT_ENTRY: u8 = 229;
 }
 
 /// The room for each buffer.
 const LARGEST_STORE: usize = 535_829;
 const LARGEST_CALL: usize = 10_000;
-const LARGEST_REPLY: usize = 8192;
+const LARGEST_REPLY: usize = 33_800;
 const LARGEST_OLD: usize = 535_061;
+const LARGEST_TABLE: usize = 33_056;
 /// The longest text of one row.
 const LARGEST_TEXT: usize = 160;
 
@@ -102,6 +110,7 @@ struct Counts {
     checks: u32,
     conversions: u32,
     searches: u32,
+    mounts: u32,
 }
 
 impl Counts {
@@ -112,6 +121,7 @@ impl Counts {
             tag::CHECK_ENTRY => self.checks += 1,
             tag::CONVERT_ENTRY => self.conversions += 1,
             tag::SEARCH_ENTRY => self.searches += 1,
+            tag::MOUNT_ENTRY => self.mounts += 1,
             _ => self.calls += 1,
         }
     }
@@ -120,8 +130,14 @@ impl Counts {
     fn total(&self, differences: u64) -> String {
         format!(
             "total: {} runs, {} calls, {} formats, {} checks, {} conversions, {} searches, \
-             {differences} differences\n",
-            self.runs, self.calls, self.formats, self.checks, self.conversions, self.searches
+             {} mounts, {differences} differences\n",
+            self.runs,
+            self.calls,
+            self.formats,
+            self.checks,
+            self.conversions,
+            self.searches,
+            self.mounts
         )
     }
 }
@@ -155,10 +171,23 @@ pub struct Writer {
     counts: Counts,
     /// The bytes of the old image that are written so far.
     old: Vec<u8>,
+    /// The bytes of the mount table as they stand, as far as they were lent.
+    table: Vec<u8>,
 }
 
 /// What a row of bytes costs beside them: its own head and that of its place.
 const ROW_COST: usize = 10;
+
+/// What the rows of these pieces cost.
+fn cost(pieces: &[Range<usize>]) -> usize {
+    pieces.iter().map(|piece| ROW_COST + piece.len()).sum()
+}
+
+/// Lets the known bytes begin with these.
+fn learn(known: &mut Vec<u8>, bytes: &[u8]) {
+    known.resize(known.len().max(bytes.len()), 0);
+    known[..bytes.len()].copy_from_slice(bytes);
+}
 
 /// Where the bytes are unlike those that are known, in as few pieces as pay.
 pub(super) fn unlike(known: &[u8], bytes: &[u8]) -> Vec<Range<usize>> {
@@ -246,8 +275,7 @@ impl Writer {
         for piece in unlike(&self.old, old) {
             self.buffer(tag::OLD, piece.start, &old[piece]);
         }
-        self.old.resize(self.old.len().max(old.len()), 0);
-        self.old[..old.len()].copy_from_slice(old);
+        learn(&mut self.old, old);
         self.step(tag::CONVERT_ENTRY, answer, digest);
     }
 
@@ -271,6 +299,36 @@ impl Writer {
         self.number(tag::COMPARED, search.compared);
         self.step(tag::SEARCH_ENTRY, answer_of(&search), digest);
         self.search = search;
+    }
+
+    /// Lends these bytes as the mount table.
+    pub fn table(&mut self, table: &[u8]) {
+        assert!(table.len() <= LARGEST_TABLE);
+        self.number(tag::TABLE_LENGTH, table.len() as u32);
+        let mut pieces = unlike(&self.table, table);
+        let from_zeros = unlike(&[0; LARGEST_TABLE], table);
+        if 5 + cost(&from_zeros) < cost(&pieces) {
+            self.row(tag::CLEAR_TABLE, 0);
+            self.table = vec![0; LARGEST_TABLE];
+            pieces = from_zeros;
+        }
+        for piece in pieces {
+            self.buffer(tag::TABLE, piece.start, &table[piece]);
+        }
+        learn(&mut self.table, table);
+    }
+
+    /// A MOUNT call, after which the table is this one.
+    pub fn mount(&mut self, mount: &Mount<'_>, outcome: &Outcome, table: &[u8], store: u64) {
+        assert!(mount.space <= LARGEST_REPLY && mount.bytes.len() <= LARGEST_CALL);
+        self.number(tag::HOST, mount.host);
+        self.number(tag::CALL_LENGTH, mount.bytes.len() as u32);
+        self.buffer(tag::CALL, 0, mount.bytes);
+        self.number(tag::REPLY_LENGTH, mount.space as u32);
+        self.buffer(tag::REPLY, 0, &outcome.reply);
+        self.hyper(tag::TABLE_DIGEST, digest(table));
+        self.step(tag::MOUNT_ENTRY, outcome.answer, store);
+        learn(&mut self.table, table);
     }
 
     /// Lets a replay print a text.
@@ -301,6 +359,13 @@ pub trait Subject {
     fn check(&mut self, store: &[u8]) -> Answer;
     fn call(&mut self, store: &mut [u8], call: &Call<'_>, reply: &mut [u8]) -> Answer;
     fn convert(&mut self, old: &[u8], store: &mut [u8]) -> Answer;
+    fn mount(
+        &mut self,
+        store: &[u8],
+        table: &mut [u8],
+        mount: &Mount<'_>,
+        reply: &mut [u8],
+    ) -> Answer;
 
     /// Searches a directory; `None` if the store fails its check. It is the
     /// peer's search where an implementation shows none.
@@ -343,6 +408,16 @@ impl Subject for Own {
     fn convert(&mut self, old: &[u8], store: &mut [u8]) -> Answer {
         crate::convert(old, store)
     }
+
+    fn mount(
+        &mut self,
+        store: &[u8],
+        table: &mut [u8],
+        mount: &Mount<'_>,
+        reply: &mut [u8],
+    ) -> Answer {
+        crate::mount(mount.bytes, store, table, reply, mount.host)
+    }
 }
 
 /// The vector file from the next row on.
@@ -370,6 +445,9 @@ struct Buffers {
     old: Vec<u8>,
     reply: Vec<u8>,
     wanted: Vec<u8>,
+    table: Vec<u8>,
+    /// The digest of the table after the last MOUNT call.
+    table_digest: u64,
     /// The last search.
     search: Search,
 }
@@ -382,6 +460,8 @@ impl Buffers {
             old: vec![SPARE; LARGEST_OLD],
             reply: vec![SPARE; LARGEST_REPLY],
             wanted: vec![SPARE; LARGEST_REPLY],
+            table: vec![SPARE; LARGEST_TABLE],
+            table_digest: 0,
             search: Search::default(),
         }
     }
@@ -393,6 +473,7 @@ impl Buffers {
             tag::CALL => (&mut self.call, tag::CALL_LENGTH),
             tag::REPLY => (&mut self.wanted, tag::REPLY_LENGTH),
             tag::OLD => (&mut self.old, tag::OLD_LENGTH),
+            tag::TABLE => (&mut self.table, tag::TABLE_LENGTH),
             _ => return None,
         };
         let place = numbers.size(tag::PLACE);
@@ -415,6 +496,7 @@ impl Buffers {
         let call = self.call.get(..numbers.size(tag::CALL_LENGTH))?;
         let reply = self.reply.get_mut(..numbers.size(tag::REPLY_LENGTH))?;
         let old = self.old.get(..numbers.size(tag::OLD_LENGTH))?;
+        let table = self.table.get_mut(..numbers.size(tag::TABLE_LENGTH))?;
         let (seconds, nanoseconds) = (numbers.get(tag::SECONDS), numbers.get(tag::NANOSECONDS));
         let answer = match entry {
             tag::FORMAT_ENTRY => subject.format(
@@ -444,11 +526,22 @@ impl Buffers {
                 self.search = subject.search(store, numbers.get(tag::DIRECTORY), call)?;
                 answer_of(&self.search)
             }
+            tag::MOUNT_ENTRY => {
+                let mount = Mount {
+                    bytes: call,
+                    host: numbers.get(tag::HOST),
+                    space: reply.len(),
+                };
+                let answer = subject.mount(store, table, &mount, reply);
+                self.table_digest = digest(table);
+                answer
+            }
             _ => return None,
         };
         let length = numbers.get(tag::LENGTH);
         let agrees = answer == Answer { number, length }
             && self.search.compared == numbers.get(tag::COMPARED)
+            && self.table_digest == numbers.hyper(tag::TABLE_DIGEST)
             && self.reply == self.wanted
             && digest(store) == numbers.hyper(tag::STORE_DIGEST);
         self.reply.fill(SPARE);
@@ -480,6 +573,12 @@ pub fn replay(file: &[u8], subject: &mut dyn Subject) -> Option<(Vec<u8>, u64)> 
                     return None;
                 }
                 printed.extend(line_of(&buffers.search).into_bytes());
+            }
+            tag::CLEAR_TABLE => {
+                if word != 0 {
+                    return None;
+                }
+                buffers.table.fill(0);
             }
             tag::STORE..tag::RUN => {
                 let bytes = source.take(word as usize)?;

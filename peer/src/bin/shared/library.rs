@@ -1,6 +1,6 @@
-//! The C interface of the static library.
+//! The C interface of the static libraries.
 
-use peer::generator::driver::{Call, Format};
+use peer::generator::driver::{Call, Format, Mount};
 use peer::Answer;
 
 #[repr(C)]
@@ -95,4 +95,58 @@ pub fn convert(old: &[u8], store: &mut [u8]) -> Answer {
     // null and, borrowed as they are, never overlap.
     let raw = unsafe { nfs3_convert(old.as_ptr(), old.len(), store.as_mut_ptr(), store.len()) };
     raw.into()
+}
+
+/// Whether the library with the MOUNT entry is there.
+pub const HAS_MOUNT: bool = cfg!(mount3_library);
+
+/// Says that it is not.
+pub fn report_no_mount(program: &str) {
+    eprintln!(
+        "{program}: there is no library at {}; build it or set NFS3_LIBRARY to its folder",
+        env!("MOUNT3_LIBRARY_FILE")
+    );
+}
+
+#[cfg(mount3_library)]
+extern "C" {
+    fn mount3_call(
+        call: *const u8,
+        call_len: usize,
+        store: *const u8,
+        store_len: usize,
+        table: *mut u8,
+        table_len: usize,
+        reply: *mut u8,
+        reply_len: usize,
+        host: u32,
+    ) -> RawAnswer;
+}
+
+/// Answers one MOUNT call; the arguments are those of the peer's `mount`.
+#[cfg(mount3_library)]
+pub fn mount(mount: &Mount<'_>, store: &[u8], table: &mut [u8], reply: &mut [u8]) -> Answer {
+    // SAFETY: the pointers and lengths are those of slices, which are never
+    // null and, borrowed as they are, never overlap.
+    let raw = unsafe {
+        mount3_call(
+            mount.bytes.as_ptr(),
+            mount.bytes.len(),
+            store.as_ptr(),
+            store.len(),
+            table.as_mut_ptr(),
+            table.len(),
+            reply.as_mut_ptr(),
+            reply.len(),
+            mount.host,
+        )
+    };
+    raw.into()
+}
+
+/// Ends the program: there is nothing to call.
+#[cfg(not(mount3_library))]
+pub fn mount(_: &Mount<'_>, _: &[u8], _: &mut [u8], _: &mut [u8]) -> Answer {
+    report_no_mount("MOUNT");
+    std::process::exit(2)
 }
