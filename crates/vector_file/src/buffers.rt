@@ -8,7 +8,9 @@ pub const OLD_ROOM: usize = 535061;
 
 pub const CALL_ROOM: usize = 10000;
 
-pub const REPLY_ROOM: usize = 8192;
+pub const REPLY_ROOM: usize = 33800;
+
+pub const TABLE_ROOM: usize = 33056;
 
 pub type Store = [u8; STORE_ROOM];
 
@@ -17,6 +19,8 @@ pub type Old = [u8; OLD_ROOM];
 pub type Call = [u8; CALL_ROOM];
 
 pub type Reply = [u8; REPLY_ROOM];
+
+pub type Table = [u8; TABLE_ROOM];
 
 // The last place of a reply space.
 pub const LAST_PLACE: usize = REPLY_ROOM - 1;
@@ -32,7 +36,7 @@ pub fn fill(buf: &mut [u8], value: u8) {
 
 // The first place at which two reply spaces differ, or their last.
 pub fn first_difference(a: &Reply, b: &Reply) -> usize
-    ensures { λ r. ⌜ r < 8192 ⌝ }
+    ensures { λ r. ⌜ r < 33800 ⌝ }
 {
     let mut i = 0;
     while i < LAST_PLACE {

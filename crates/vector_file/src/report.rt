@@ -59,6 +59,7 @@ pub fn print_total(numbers: &Numbers) {
     print(b" formats, ", numbers[Tag::CHECK_ENTRY]);
     print(b" checks, ", numbers[Tag::CONVERT_ENTRY]);
     print(b" conversions, ", numbers[Tag::SEARCH_ENTRY]);
-    print(b" searches, ", numbers[Tag::DIFFERENCES]);
+    print(b" searches, ", numbers[Tag::MOUNT_ENTRY]);
+    print(b" mounts, ", numbers[Tag::DIFFERENCES]);
     io::write_all(STDOUT_FILENO, b" differences\n");
 }

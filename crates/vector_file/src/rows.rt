@@ -4,6 +4,7 @@ use crate::buffers::Call;
 use crate::buffers::Old;
 use crate::buffers::Reply;
 use crate::buffers::Store;
+use crate::buffers::Table;
 use crate::buffers::fill;
 use crate::buffers::wide;
 use crate::numbers::Numbers;
@@ -69,6 +70,7 @@ pub fn take(
     call: &mut Call,
     want: &mut Reply,
     old: &mut Old,
+    table: &mut Table,
 ) -> bool
     requires { ⌜ row .tag < 256 ⌝ }
 {
@@ -85,8 +87,13 @@ pub fn take(
         Tag::REPLY => read_bytes(fd, want, place, word, numbers[Tag::REPLY_LENGTH]),
         Tag::OLD => read_bytes(fd, old, place, word, numbers[Tag::OLD_LENGTH]),
         Tag::TEXT => copy_text(fd, word),
+        Tag::TABLE => read_bytes(fd, table, place, word, numbers[Tag::TABLE_LENGTH]),
         Tag::SHOW => {
             print_search(numbers);
+            word == 0
+        }
+        Tag::CLEAR_TABLE => {
+            fill(table, 0);
             word == 0
         }
         Tag::RUN => {

@@ -33,9 +33,15 @@ impl Tag {
     // The directory that is searched: its object's number.
     pub const DIRECTORY: usize = 13;
 
-    pub const LAST_GIVEN: usize = 13;
+    // How much is lent of the mount table, and the host that calls MOUNT.
+    pub const TABLE_LENGTH: usize = 14;
 
-    // Numbers that must come back: the answer's length, the digest of the store, the byte pairs that the last search compared, ..
+    pub const HOST: usize = 15;
+
+    pub const LAST_GIVEN: usize = 15;
+
+    // Numbers that must come back: the answer's length, the digest of the store, the byte pairs that the last search compared, the digest of the mount table
+    // after the last call of MOUNT, ..
     pub const FIRST_WANTED: usize = 64;
 
     pub const LENGTH: usize = 64;
@@ -44,7 +50,9 @@ impl Tag {
 
     pub const PAIRS: usize = 67;
 
-    pub const LAST_WANTED: usize = 67;
+    pub const TABLE_DIGEST: usize = 68;
+
+    pub const LAST_WANTED: usize = 69;
 
     // .. and those that no row of their own sets: the answer's number, how far the reply space is as wanted, and the byte there.
     pub const NUMBER: usize = 93;
@@ -65,8 +73,10 @@ impl Tag {
 
     pub const OLD: usize = 131;
 
-    // .. and of a text that is printed.
+    // .. of a text that is printed, and of the mount table.
     pub const TEXT: usize = 132;
+
+    pub const TABLE: usize = 133;
 
     // A new run, and the end of the file. The word is the number of runs so far.
     pub const RUN: usize = 192;
@@ -75,6 +85,9 @@ impl Tag {
 
     // Prints what the last search found.
     pub const SHOW: usize = 194;
+
+    // Makes the mount table zero.
+    pub const CLEAR_TABLE: usize = 195;
 
     // Calls of an entry, and searches. The word is the number that must be answered.
     pub const FIRST_ENTRY: usize = 224;
@@ -88,6 +101,8 @@ impl Tag {
     pub const CONVERT_ENTRY: usize = 227;
 
     pub const SEARCH_ENTRY: usize = 228;
+
+    pub const MOUNT_ENTRY: usize = 229;
 
     // What the last search answered: 0, or one more than the number of the record that it found.
     pub const SEARCHED: usize = 252;

@@ -36,6 +36,21 @@ fn send(numbers: &Numbers, store: &mut [u8], call: &[u8], reply: &mut [u8]) -> A
     )
 }
 
+// Calls `mount3_call` with the numbers of the table, and puts there the digest of the mount table after it.
+fn mount(
+    numbers: &mut Numbers,
+    store: &[u8],
+    call: &[u8],
+    table: &mut [u8],
+    reply: &mut [u8],
+) -> Answer {
+    let answer = mount3::mount3_call(call, store, table, reply, numbers[Tag::HOST]);
+    let lanes = digest(table);
+    numbers[Tag::TABLE_DIGEST + Tag::FOUND] = lanes.first;
+    numbers[Tag::TABLE_DIGEST + Tag::FOUND + 1] = lanes.second;
+    answer
+}
+
 // Calls the entry of this tag on what is lent of the buffers.
 fn ask(
     tag: usize,
@@ -44,6 +59,7 @@ fn ask(
     call: &[u8],
     reply: &mut [u8],
     old: &[u8],
+    table: &mut [u8],
 ) -> Answer {
     if tag == Tag::FORMAT_ENTRY {
         return format(numbers, store);
@@ -60,14 +76,36 @@ fn ask(
     if tag == Tag::SEARCH_ENTRY {
         return search(numbers, store, call);
     }
+    if tag == Tag::MOUNT_ENTRY {
+        return mount(numbers, store, call, table, reply);
+    }
     Answer {
         number: NO_ENTRY,
         length: 0,
     }
 }
 
-// Lends the buffers to the entry of this tag, and puts what comes back into the table; false where there is no such entry, no such length, or no store
-// to search.
+// Calls the entry of this tag on what is lent of the buffers, and puts what comes back into the table; false where there is no such entry, or no store to
+// search.
+fn take_answer(
+    tag: usize,
+    numbers: &mut Numbers,
+    store: &mut [u8],
+    call: &[u8],
+    reply: &mut [u8],
+    old: &[u8],
+    table: &mut [u8],
+) -> bool {
+    let answer = ask(tag, numbers, store, call, reply, old, table);
+    let lanes = digest(store);
+    numbers[Tag::NUMBER + Tag::FOUND] = answer.number;
+    numbers[Tag::LENGTH + Tag::FOUND] = answer.length;
+    numbers[Tag::STORE_DIGEST + Tag::FOUND] = lanes.first;
+    numbers[Tag::STORE_DIGEST + Tag::FOUND + 1] = lanes.second;
+    answer.number != NO_ENTRY
+}
+
+// Lends the buffers to the entry of this tag; false where that is at fault, or a buffer has no such length.
 pub fn step(
     tag: usize,
     numbers: &mut Numbers,
@@ -75,26 +113,26 @@ pub fn step(
     call: &[u8],
     reply: &mut [u8],
     old: &[u8],
+    table: &mut [u8],
 ) -> bool {
     let used = size(numbers[Tag::STORE_LENGTH]);
     let length = size(numbers[Tag::CALL_LENGTH]);
     let space = size(numbers[Tag::REPLY_LENGTH]);
     let image = size(numbers[Tag::OLD_LENGTH]);
+    let rows = size(numbers[Tag::TABLE_LENGTH]);
     if used > store.len() || length > call.len() || space > reply.len() || image > old.len() {
         return false;
     }
-    let answer = ask(
+    if rows > table.len() {
+        return false;
+    }
+    take_answer(
         tag,
         numbers,
         &mut store[0..used],
         &call[0..length],
         &mut reply[0..space],
         &old[0..image],
-    );
-    let lanes = digest(&store[0..used]);
-    numbers[Tag::NUMBER + Tag::FOUND] = answer.number;
-    numbers[Tag::LENGTH + Tag::FOUND] = answer.length;
-    numbers[Tag::STORE_DIGEST + Tag::FOUND] = lanes.first;
-    numbers[Tag::STORE_DIGEST + Tag::FOUND + 1] = lanes.second;
-    answer.number != NO_ENTRY
+        &mut table[0..rows],
+    )
 }

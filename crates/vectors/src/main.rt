@@ -1,5 +1,5 @@
-// Runs the steps of the files `vectors` and `searches` through the entries of the library and its search for a name, and prints a line for each thing
-// that differs, the counts, and what the searches of a table found. The files in `data` and `stdout` are what the independent program in `peer`
+// Runs the steps of the files `vectors`, `searches` and `mounts` through the entries of the libraries and the search for a name, and prints a line for each
+// thing that differs, the counts, and what the searches of a table found. The files in `data` and `stdout` are what the independent program in `peer`
 // wrote (`peer/README.md`).
 mod entries;
 mod search;
@@ -13,6 +13,8 @@ use vector_file::buffers::REPLY_ROOM;
 use vector_file::buffers::Reply;
 use vector_file::buffers::STORE_ROOM;
 use vector_file::buffers::Store;
+use vector_file::buffers::TABLE_ROOM;
+use vector_file::buffers::Table;
 use vector_file::judge::SPACE_BYTE;
 use vector_file::judge::goes_on;
 use vector_file::numbers::Numbers;
@@ -23,6 +25,7 @@ use vector_file::tags::Tag;
 fn main() {
     replay(b"vectors");
     replay(b"searches");
+    replay(b"mounts");
 }
 
 // Replays the file of this name.
@@ -45,12 +48,13 @@ fn turn(
     reply: &mut Reply,
     want: &mut Reply,
     old: &mut Old,
+    table: &mut Table,
 ) -> bool {
     let row = read_row(fd);
     let good = if row.tag < Tag::FIRST_ENTRY {
-        take(fd, row, numbers, store, call, want, old)
+        take(fd, row, numbers, store, call, want, old, table)
     } else {
-        step(row.tag, numbers, store, call, reply, old)
+        step(row.tag, numbers, store, call, reply, old, table)
     };
     goes_on(row, good, numbers, reply, want)
 }
@@ -63,6 +67,7 @@ fn run(fd: i32) {
     let mut reply = [SPACE_BYTE; REPLY_ROOM];
     let mut want = [SPACE_BYTE; REPLY_ROOM];
     let mut old = [0u8; OLD_ROOM];
+    let mut table = [0u8; TABLE_ROOM];
     let mut left: u64 = 10000000;
     while left > 0
         && turn(
@@ -73,6 +78,7 @@ fn run(fd: i32) {
             &mut reply,
             &mut want,
             &mut old,
+            &mut table,
         )
     {
         left -= 1;

@@ -3,10 +3,10 @@ use Rattle.vectors.proofs.run.Statement.{statement}
 use Rattle.vectors.proofs.run.Tie as tie
 
 abbrev Inv-loop : tie.InvT-loop
-Inv-loop fd numbers₀ store₀ call₀ reply₀ want₀ old₀ left₀ numbers store call reply want old left = Unit
+Inv-loop fd numbers₀ store₀ call₀ reply₀ want₀ old₀ table₀ left₀ numbers store call reply want old table left = Unit
 
 abbrev μ-loop : tie.MeasureT-loop
-μ-loop fd numbers₀ store₀ call₀ reply₀ want₀ old₀ left₀ numbers store call reply want old left = left
+μ-loop fd numbers₀ store₀ call₀ reply₀ want₀ old₀ table₀ left₀ numbers store call reply want old table left = left
 
 loop-holds : tie.Need-loop-holds Inv-loop μ-loop
 loop-holds c = search needs

@@ -4,10 +4,10 @@ use Rattle.vector_file.proofs.buffers.first_difference.Statement.{state
 use Rattle.vector_file.proofs.buffers.first_difference.Tie as tie
 
 abbrev Inv-loop : tie.InvT-loop
-Inv-loop a b i₀ i = i ≤ 8191
+Inv-loop a b i₀ i = i ≤ 33799
 
 abbrev μ-loop : tie.MeasureT-loop
-μ-loop a b i₀ i = 8191 - i
+μ-loop a b i₀ i = 33799 - i
 
 loop-holds : tie.Need-loop-holds Inv-loop μ-loop
 loop-holds c = search needs
