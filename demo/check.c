@@ -1,7 +1,8 @@
 /*
- * Calls the check, format and the converter from C, prints a line for each answer, and compares it and the bytes with those written out here from the
- * rules of the store. Exits 1 on a difference.
+ * Calls the check, format and the converter from C, and mount3_call with good and bad tables; prints a line for each answer, and compares it and the
+ * bytes with those written out here from the rules of the store and of the mount table. Exits 1 on a difference.
  */
+#include "mount3.h"
 #include "same.h"
 
 #include <string.h>
@@ -10,7 +11,7 @@ static int steps;
 
 static void same_number(const char *what, struct nfs3_answer a, uint32_t number) {
     steps++;
-    printf("answer %u  %s\n", (unsigned)a.number, what);
+    printf("answer %-2u %s\n", (unsigned)a.number, what);
     same_answer(what, a, number, 0);
 }
 
@@ -235,6 +236,98 @@ static void both_layouts(void) {
     same_number("what the conversion left", nfs3_check(made, MADE), 0);
 }
 
+/* A mount table, a call of DUMP (xid 7, RPC version 2, program 100005, version 3, procedure 2), and a reply space; each with a byte more. */
+static uint8_t table[MOUNT3_TABLE_LENGTH + 1], reply[MOUNT3_REPLY_SPACE + 1];
+static uint8_t dump[NFS3_CALL_MOST + 1] = { 0, 0, 0, 7, 0, 0, 0, 0, 0, 0, 0, 2, 0, 1, 0x86, 0xA5, 0, 0, 0, 3, 0, 0, 0, 2 };
+enum { DUMP_LENGTH = 40, EMPTY_DUMP = 28 };
+
+/* A row of the table: the host 127.0.0.HOST, and a path of so many slashes. */
+static void put_row(size_t row, uint8_t host, uint32_t len) {
+    uint8_t *at = table + MOUNT3_ROW_LENGTH * row;
+    memset(at, 0, MOUNT3_ROW_LENGTH);
+    at[0] = 127;
+    at[3] = host;
+    at[6] = (uint8_t)(len >> 8);
+    at[7] = (uint8_t)len;
+    memset(at + 8, '/', len);
+}
+
+/* Lends so many bytes of each. Where the number is not NFS3_DONE, no byte changes. */
+static void lend(const char *what, size_t call_len, size_t store_len, size_t table_len, size_t reply_len, uint32_t number, size_t length) {
+    static uint8_t table_before[sizeof table], reply_before[sizeof reply];
+    memset(reply, 0x5A, sizeof reply);
+    memcpy(table_before, table, sizeof table);
+    memcpy(reply_before, reply, sizeof reply);
+    struct nfs3_answer a = mount3_call(dump, call_len, smallest, store_len, table, table_len, reply, reply_len, 0x7F000001);
+    steps++;
+    printf("answer %-2u %s\n", (unsigned)a.number, what);
+    same_answer(what, a, number, length);
+    same_bytes(what, table, table_before, sizeof table);
+    same_bytes(what, reply + length, reply_before + length, sizeof reply - length);
+}
+
+/* The table as it is: good, with a reply of this length, or bad, where that is 0. */
+static void table_is(const char *what, size_t length) {
+    lend(what, DUMP_LENGTH, sizeof smallest, MOUNT3_TABLE_LENGTH, MOUNT3_REPLY_SPACE, length == 0 ? MOUNT3_BAD_TABLE : NFS3_DONE, length);
+}
+
+/* A table with two rows, of which one byte is changed. */
+static void table_changed(const char *what, size_t at, uint8_t byte, size_t length) {
+    memset(table, 0, sizeof table);
+    put_row(0, 1, 1);
+    put_row(2, 2, 1);
+    table[at] = byte;
+    table_is(what, length);
+}
+
+/* A call to a program that the function does not serve: the reply says PROG_UNAVAIL. */
+static void is_unavailable(const char *what, struct nfs3_answer a) {
+    static const uint8_t unavailable[24] = { [3] = 7, [7] = 1, [23] = 1 };
+    steps++;
+    printf("answer %-2u %s\n", (unsigned)a.number, what);
+    same_answer(what, a, NFS3_DONE, sizeof unavailable);
+    same_bytes(what, reply, unavailable, sizeof unavailable);
+}
+
+static void mounts(void) {
+    lend("all faults of a MOUNT call", NFS3_CALL_MOST + 1, 111, MOUNT3_TABLE_LENGTH - 1, MOUNT3_REPLY_SPACE - 1, 2, 0);
+    lend("all but the reply space", NFS3_CALL_MOST + 1, 111, MOUNT3_TABLE_LENGTH - 1, MOUNT3_REPLY_SPACE, 4, 0);
+    lend("a header that is cut, store and table", DUMP_LENGTH - 1, 111, MOUNT3_TABLE_LENGTH - 1, MOUNT3_REPLY_SPACE, 1, 0);
+    lend("a header that is cut, and the table", DUMP_LENGTH - 1, 112, MOUNT3_TABLE_LENGTH - 1, MOUNT3_REPLY_SPACE, 12, 0);
+    lend("a header that is cut", DUMP_LENGTH - 1, 112, MOUNT3_TABLE_LENGTH, MOUNT3_REPLY_SPACE, 5, 0);
+    lend("a table of one byte more", DUMP_LENGTH, 112, MOUNT3_TABLE_LENGTH + 1, MOUNT3_REPLY_SPACE, 12, 0);
+    lend("a reply space of one byte more", DUMP_LENGTH, 112, MOUNT3_TABLE_LENGTH, MOUNT3_REPLY_SPACE + 1, 0, EMPTY_DUMP);
+    for (size_t len = 0; len < MOUNT3_TABLE_LENGTH; len += 43)
+        same_answer("a shorter table", mount3_call(dump, DUMP_LENGTH, smallest, 112, table, len, reply, MOUNT3_REPLY_SPACE, 0), MOUNT3_BAD_TABLE, 0);
+    table_is("an empty table", EMPTY_DUMP);
+
+    enum { TWO_ROWS = EMPTY_DUMP + 2 * 28, THIRD_ROW = 2 * MOUNT3_ROW_LENGTH };
+    table_changed("two rows, and a free one between them", 0, 127, TWO_ROWS);
+    table_changed("one pair twice", THIRD_ROW + 3, 1, 0);
+    table_changed("a free row with a host", MOUNT3_ROW_LENGTH, 1, 0);
+    table_changed("a free row with a path", MOUNT3_ROW_LENGTH + 8, '/', 0);
+    table_changed("the last byte of a free row", MOUNT3_TABLE_LENGTH - 1, 1, 0);
+    table_changed("a row that has lost its length", 7, 0, 0);
+    table_changed("a path without a slash", THIRD_ROW + 8, '.', 0);
+    table_changed("a path that ends with a zero byte", THIRD_ROW + 7, 2, TWO_ROWS);
+    table_changed("a byte behind a path", THIRD_ROW + 9, '/', 0);
+    table_changed("a byte at the end of a row", THIRD_ROW + MOUNT3_ROW_LENGTH - 1, 1, 0);
+    table_changed("a path of 1,025 bytes", THIRD_ROW + 6, 4, 0);
+    table_changed("a path of 16,777,217 bytes", THIRD_ROW + 4, 1, 0);
+
+    for (size_t row = 0; row < MOUNT3_ROWS; row++) {
+        put_row(row, (uint8_t)(100 + row), MOUNT3_PATH_MOST);
+        table[MOUNT3_ROW_LENGTH * row + 1] = table[MOUNT3_ROW_LENGTH * row + 2] = 255; /* hosts of 15 characters */
+    }
+    table_is("a full table with the longest hosts and paths", MOUNT3_REPLY_SPACE);
+
+    make_store();
+    is_unavailable("a MOUNT call in nfs3_call", nfs3_call(dump, DUMP_LENGTH, store, LENGTH, reply, sizeof reply, 0, 0, 0));
+    dump[15] = 0xA3; /* program 100003 */
+    is_unavailable("an NFS call in mount3_call",
+                   mount3_call(dump, DUMP_LENGTH, store, LENGTH, table, MOUNT3_TABLE_LENGTH, reply, MOUNT3_REPLY_SPACE, 0x7F000001));
+}
+
 int main(void) {
     formats();
     checks();
@@ -242,5 +335,6 @@ int main(void) {
     names();
     conversions();
     both_layouts();
+    mounts();
     return end("check", steps);
 }

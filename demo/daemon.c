@@ -1,14 +1,17 @@
 /*
- * A reference daemon: serves a store over NFS version 3, with the three procedures of MOUNT that a host needs, over TCP on 127.0.0.1. It shows
- * one right way to do the caller's part that include/nfs3.h lists; "duty N" below is the number there. Like every daemon it is no part of the
- * verified library. demo/daemon_test tests it.
+ * A reference daemon: serves a store over NFS version 3 and MOUNT version 3, over TCP on one port of 127.0.0.1. It shows one right way to do
+ * the caller's part; "duty N" below is the number in include/nfs3.h, "MOUNT duty N" that in include/mount3.h. Like every daemon it is no part
+ * of the verified libraries. demo/daemon_test tests it.
  *
  *     daemon --format OBJECTS NAMES BLOCKS STORE_FILE    makes a new, empty store; what was in the file is lost
  *     daemon --stamp STORE_FILE                          gives a copy that was brought back a new stamp; its files stay
  *     daemon STORE_FILE PORT                             serves it; with port 0 on any free port. Prints "port N" when hosts can connect
  *
- * A Linux host mounts it, with N for the port, by
- *     mount -t nfs -o vers=3,proto=tcp,port=N,mountproto=tcp,mountport=N,nolock 127.0.0.1:/ FOLDER
+ * A Linux host mounts a directory of the store by its path, with N for the port, by
+ *     mount -t nfs -o vers=3,proto=tcp,port=N,mountproto=tcp,mountport=N,nolock 127.0.0.1:/PATH FOLDER
+ *
+ * The mount table is kept in memory: it is empty after a restart. Where it is full of hosts that are gone, SIGUSR1 makes it empty, and nothing
+ * else is lost: kill -USR1 PROCESS.
  *
  * A store of the old layout is converted when it is read, by --stamp too; the old file stays as STORE_FILE.old.
  *
@@ -16,6 +19,7 @@
  * Beside STORE_FILE stand STORE_FILE.lock and, within a save, STORE_FILE.new.
  */
 #define _DEFAULT_SOURCE
+#include "mount3.h"
 #include "nfs3.h"
 
 #include <arpa/inet.h>
@@ -240,23 +244,34 @@ static void restamp(void) {
     save();
 }
 
-enum { RPC_CALL = 0, RPC_REPLY = 1, RPC_VERSION = 2, SUCCESS = 0, PROG_MISMATCH = 2, PROC_UNAVAIL = 3, GARBAGE_ARGS = 4 };
-enum { SETATTR = 2, WRITE = 7, CREATE = 8, MKDIR = 9, REMOVE = 12, RMDIR = 13, RENAME = 14 };
+/* ---- The mount table (MOUNT duty 1) ---- */
 
-/* Whether the message is an RPC call to this program. */
-static bool is_call_to(uint32_t program, const uint8_t *call, size_t len) {
-    return len >= 24 && get_word(call + 4) == RPC_CALL && get_word(call + 8) == RPC_VERSION && get_word(call + 12) == program;
+static uint8_t table[MOUNT3_TABLE_LENGTH]; /* empty at the start */
+static volatile sig_atomic_t is_to_be_empty; /* an operator said so, by SIGUSR1 */
+
+/* The table is emptied before the next call of MOUNT, and not here, since this may run within one. */
+static void on_signal(int signal) {
+    (void)signal;
+    is_to_be_empty = 1;
 }
 
-/* The place after opaque data of at most so many bytes whose length word is at a place in the call; 0 where it is cut or too long. */
-static size_t after_opaque(const uint8_t *call, size_t len, size_t at, size_t most) {
-    if (at == 0 || at + 4 > len || get_word(call + at) > most)
-        return 0;
-    size_t end = at + 4 + ((size_t)get_word(call + at) + 3) / 4 * 4;
-    return end <= len ? end : 0;
+/* MOUNT duty 3: whether a message is for mount3_call. */
+static bool is_mount(const uint8_t *call, size_t len) {
+    return len >= 16 && get_word(call + 12) == MOUNT3_PROGRAM;
 }
 
-/* ---- Replies that are kept (duty 5) ---- */
+/* Answers a call of MOUNT from the host with this address, in network order as the system gives it. */
+static struct nfs3_answer call_mount(const uint8_t *call, size_t call_len, uint8_t *reply, size_t reply_len, uint32_t address) {
+    if (is_to_be_empty) {
+        is_to_be_empty = 0;
+        memset(table, 0, sizeof table);
+    }
+    return mount3_call(call, call_len, store, store_len, table, sizeof table, reply, reply_len, ntohl(address)); /* MOUNT duty 2 */
+}
+
+/* ---- Replies that are kept (duty 5); none of MOUNT (MOUNT duty 4) ---- */
+
+enum { RPC_CALL = 0, RPC_VERSION = 2, SETATTR = 2, WRITE = 7, CREATE = 8, MKDIR = 9, REMOVE = 12, RMDIR = 13, RENAME = 14 };
 
 /* So many, and for so long. */
 enum { KEPT = 256, KEPT_SECONDS = 180 };
@@ -280,14 +295,23 @@ static time_t seconds_running(void) {
 
 /* Whether the reply to a call is kept, whatever it says: the procedure is one that may change the store. */
 static bool is_to_keep(const uint8_t *call, size_t len) {
-    if (!is_call_to(NFS3_PROGRAM, call, len) || get_word(call + 16) != NFS3_VERSION)
+    if (len < 24 || get_word(call + 4) != RPC_CALL || get_word(call + 8) != RPC_VERSION || get_word(call + 12) != NFS3_PROGRAM ||
+        get_word(call + 16) != NFS3_VERSION)
         return false;
     uint32_t procedure = get_word(call + 20);
     return procedure == SETATTR || procedure == WRITE || procedure == CREATE || procedure == MKDIR || procedure == REMOVE ||
            procedure == RMDIR || procedure == RENAME;
 }
 
-/* The place after opaque data, as above, whose padding is set to zero. */
+/* The place after opaque data of at most so many bytes whose length word is at a place in the call; 0 where it is cut or too long. */
+static size_t after_opaque(const uint8_t *call, size_t len, size_t at, size_t most) {
+    if (at == 0 || at + 4 > len || get_word(call + at) > most)
+        return 0;
+    size_t end = at + 4 + ((size_t)get_word(call + at) + 3) / 4 * 4;
+    return end <= len ? end : 0;
+}
+
+/* The same, and the padding of the data is set to zero. */
 static size_t clear_opaque(uint8_t *call, size_t len, size_t at, size_t most) {
     size_t end = after_opaque(call, len, at, most);
     if (end != 0) {
@@ -335,45 +359,10 @@ static void keep(uint32_t address, const uint8_t *call, size_t call_len, const u
     memcpy(k->reply, reply, reply_len);
 }
 
-/* ---- MOUNT version 3 (duty 9): NULL, MNT of "/", UMNT ---- */
-
-enum { MOUNT_PROGRAM = 100005, MOUNT_VERSION = 3, MOUNT_NULL = 0, MOUNT_MNT = 1, MOUNT_UMNT = 3, MOUNT_NOENT = 2, PATH_MOST = 1024 };
-enum { AUTH_NONE = 0, AUTH_SYS = 1 };
-
-/* The length of the reply to a call of MOUNT; 0 where the call has no complete header. */
-static size_t answer_mount(const uint8_t *call, size_t len, uint8_t *reply) {
-    size_t credential_end = after_opaque(call, len, 28, NFS3_CREDENTIAL_MOST);
-    size_t header_end = credential_end == 0 ? 0 : after_opaque(call, len, credential_end + 4, NFS3_CREDENTIAL_MOST);
-    if (header_end == 0)
-        return 0;
-    uint32_t version = get_word(call + 16), procedure = get_word(call + 20);
-    memcpy(reply, call, 4);
-    uint8_t *at = reply + 4;
-    at = put_word(at, RPC_REPLY);
-    at = put_word(at, 0); /* accepted */
-    at = put_word(put_word(at, AUTH_NONE), 0);
-    if (version != MOUNT_VERSION)
-        return (size_t)(put_word(put_word(put_word(at, PROG_MISMATCH), MOUNT_VERSION), MOUNT_VERSION) - reply);
-    if (procedure != MOUNT_NULL && procedure != MOUNT_MNT && procedure != MOUNT_UMNT)
-        return (size_t)(put_word(at, PROC_UNAVAIL) - reply);
-    size_t end = procedure == MOUNT_NULL ? header_end : after_opaque(call, len, header_end, PATH_MOST);
-    if (end != len)
-        return (size_t)(put_word(at, GARBAGE_ARGS) - reply);
-    at = put_word(at, SUCCESS);
-    if (procedure != MOUNT_MNT)
-        return (size_t)(at - reply);
-    if (get_word(call + header_end) != 1 || call[header_end + 4] != '/')
-        return (size_t)(put_word(at, MOUNT_NOENT) - reply);
-    at = put_word(put_word(at, SUCCESS), NFS3_HANDLE_LENGTH);
-    at = put_word(at, get_word(store + NFS3_STAMP_OFFSET));
-    at = put_word(put_word(at, 0), 0); /* object 0, generation 0 */
-    at = put_word(put_word(put_word(at, 2), AUTH_NONE), AUTH_SYS);
-    return (size_t)(at - reply);
-}
-
 /* ---- Connections ---- */
 
-enum { CONNECTIONS = 32, MARK = 4 };
+/* The last is room for a reply of either program. */
+enum { CONNECTIONS = 32, MARK = 4, REPLY_SPACE = MOUNT3_REPLY_SPACE > NFS3_REPLY_SPACE ? MOUNT3_REPLY_SPACE : NFS3_REPLY_SPACE };
 #define LAST_FRAGMENT 0x80000000u
 
 struct connection {
@@ -385,7 +374,7 @@ struct connection {
     uint32_t fragment_left; /* bytes of it that are still to come */
     uint8_t call[NFS3_CALL_MOST];
     size_t call_len;
-    uint8_t reply[MARK + NFS3_REPLY_SPACE];
+    uint8_t reply[MARK + REPLY_SPACE];
     size_t reply_len, reply_sent;
 };
 
@@ -419,7 +408,7 @@ static bool send_reply(struct connection *c) {
     return true;
 }
 
-/* Answers the call that has come: from the kept replies, or from MOUNT, or from the library. False where the connection is to be closed. */
+/* Answers the call that has come: from the kept replies, or by the library of its program. False where the connection is to be closed. */
 static bool answer(struct connection *c) {
     uint8_t *reply = c->reply + MARK;
     size_t len;
@@ -434,24 +423,22 @@ static bool answer(struct connection *c) {
     if (k != NULL) {
         len = k->reply_len;
         memcpy(reply, k->reply, len);
-    } else if (is_call_to(MOUNT_PROGRAM, c->call, c->call_len)) {
-        len = answer_mount(c->call, c->call_len, reply);
-        if (len == 0) {
-            report_refused(c, NFS3_NO_CALL, "a message", c->call_len);
-            return false;
-        }
     } else {
-        struct timespec now = next_time();
-        struct nfs3_answer a = nfs3_call(c->call, c->call_len, store, store_len, reply, NFS3_REPLY_SPACE, (uint32_t)now.tv_sec,
-                                         (uint32_t)now.tv_nsec, verifier);
+        struct nfs3_answer a;
+        if (is_mount(c->call, c->call_len)) {
+            a = call_mount(c->call, c->call_len, reply, REPLY_SPACE, c->address);
+        } else {
+            struct timespec now = next_time();
+            a = nfs3_call(c->call, c->call_len, store, store_len, reply, REPLY_SPACE, (uint32_t)now.tv_sec, (uint32_t)now.tv_nsec, verifier);
+        }
         if (a.number == NFS3_LONG_CALL || a.number == NFS3_NO_CALL) {
             report_refused(c, a.number, "a message", c->call_len);
             return false;
         }
-        if (a.number != NFS3_DONE)
+        if (a.number != NFS3_DONE) /* NFS3_BAD_STORE and MOUNT3_BAD_TABLE too: something else wrote into memory */
             stop_at("a call", a.number);
         len = a.length;
-        bool changed = memcmp(store, saved, store_len) != 0;
+        bool changed = memcmp(store, saved, store_len) != 0; /* never by MOUNT (MOUNT duty 5) */
         if (changed)
             save();
         if (keeps)
@@ -579,6 +566,7 @@ static uint32_t number(const char *text, uint32_t most) {
 
 int main(int argc, char **argv) {
     signal(SIGPIPE, SIG_IGN); /* duty 8 */
+    sigaction(SIGUSR1, &(struct sigaction){ .sa_handler = on_signal, .sa_flags = SA_RESTART }, NULL); /* a save goes on after it */
     if (argc == 6 && strcmp(argv[1], "--format") == 0) {
         open_place(argv[5]);
         format(number(argv[2], NFS3_OBJECTS_MOST), number(argv[3], NFS3_NAMES_MOST), number(argv[4], NFS3_BLOCKS_MOST));

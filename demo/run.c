@@ -5,9 +5,13 @@
  *
  * Two bag tags are files of the root: 0123456789 and 123456789. The second is made EXCLUSIVE: sent again, its CREATE is answered in the same way,
  * and another host's is refused. Each is found under its own name, and 0123456780, which is as long as the first, is not there. The first is
- * removed; its handle is stale then, and the second is as it was. SETATTR gives the second a mode; from then on its CREATE is refused too. At last
- * the second is replaced: a new file is made under the first name and renamed onto the second one.
+ * removed; its handle is stale then, and the second is as it was. SETATTR gives the second a mode; from then on its CREATE is refused too. Then the
+ * second is replaced: a new file is made under the first name and renamed onto the second one.
+ *
+ * At last the directory 07 is made, and the host 192.0.2.1 mounts the root and the directory by their paths (MOUNT): it gets their handles, and
+ * DUMP lists what it mounted, until it unmounts the root.
  */
+#include "mount3.h"
 #include "same.h"
 
 #include <stdbool.h>
@@ -19,10 +23,14 @@
 /* The head of a call: xid, call, RPC version 2, program 100003, version 3, procedure, no credential, no verifier. */
 #define CALL(xid, procedure) W(xid), W(0), W(2), W(100003), W(3), W(procedure), W(0), W(0), W(0), W(0)
 
+/* The same for MOUNT: program 100005. */
+#define MOUNT_CALL(xid, procedure) W(xid), W(0), W(2), W(100005), W(3), W(procedure), W(0), W(0), W(0), W(0)
+
 /* The head of a reply: xid, reply, accepted, no verifier, success. */
 #define REPLY(xid) W(xid), W(1), W(0), W(0), W(0), W(0)
 
-enum { GETATTR = 1, SETATTR = 2, LOOKUP = 3, READ = 6, WRITE = 7, CREATE = 8, REMOVE = 12, RENAME = 14, READDIR = 16 };
+enum { GETATTR = 1, SETATTR = 2, LOOKUP = 3, READ = 6, WRITE = 7, CREATE = 8, MKDIR = 9, REMOVE = 12, RENAME = 14, READDIR = 16 };
+enum { MNT = 1, DUMP = 2, UMNT = 3 };
 enum { OK = 0, NOENT = 2, EXIST = 17, STALE = 70 };
 
 /* A handle: its length, then the store's stamp, object and generation. */
@@ -32,6 +40,7 @@ enum { OK = 0, NOENT = 2, EXIST = 17, STALE = 70 };
 #define FIRST HANDLE(1, 0)
 #define SECOND HANDLE(2, 0)
 #define THIRD HANDLE(1, 1)
+#define DIRECTORY HANDLE(2, 1)
 
 /* The names and contents of the two files, and a name that differs from the first in its last digit, as XDR opaque data. */
 #define FIRST_NAME W(10), '0', '1', '2', '3', '4', '5', '6', '7', '8', '9', 0, 0
@@ -39,6 +48,17 @@ enum { OK = 0, NOENT = 2, EXIST = 17, STALE = 70 };
 #define MISSING_NAME W(10), '0', '1', '2', '3', '4', '5', '6', '7', '8', '0', 0, 0
 #define FIRST_DATA W(11), 'O', 'S', 'L', ' ', 'g', 'a', 't', 'e', ' ', '1', '2', 0
 #define SECOND_DATA W(10), 'T', 'R', 'D', ' ', 'g', 'a', 't', 'e', ' ', '7', 0, 0
+
+/* The name of the directory; the paths of the root, of the directory, and of a name that is not there; the host, as a number and as DUMP lists it. */
+#define DIRECTORY_NAME W(2), '0', '7', 0, 0
+#define ROOT_PATH W(1), '/', 0, 0, 0
+#define DIRECTORY_PATH W(3), '/', '0', '7', 0
+#define MISSING_PATH W(2), '/', '7', 0, 0
+#define HOST 0xC0000201
+#define HOST_TEXT W(9), '1', '9', '2', '.', '0', '.', '2', '.', '1', 0, 0, 0
+
+/* The flavors of credentials that MNT tells: two, AUTH_NONE and AUTH_UNIX. */
+#define FLAVORS W(2), W(0), W(1)
 
 /* A 64-bit number that fits a word, and a time of whole seconds. */
 #define HYPER(n) W(0), W(n)
@@ -52,6 +72,8 @@ enum { OK = 0, NOENT = 2, EXIST = 17, STALE = 70 };
 #define FIRST_ATTRIBUTES(size, used, changed) ATTRIBUTES(1, 420, 1, size, used, 2, 1001, changed, changed)
 #define SECOND_ATTRIBUTES(size, used, changed) ATTRIBUTES(1, 0, 1, size, used, 3, 1002, changed, changed)
 #define THIRD_ATTRIBUTES(changed) ATTRIBUTES(1, 420, 1, 0, 0, 2, 1010, 1010, changed)
+#define DIRECTORY_ATTRIBUTES ATTRIBUTES(2, 493, 2, 512, 0, 3, 1013, 1013, 1013)
+#define ROOT_ATTRIBUTES_LAST ATTRIBUTES(2, 493, 3, 512, 0, 1, 1000, 1013, 1013)
 
 /* Attributes before a change (wcc_attr), present. */
 #define BEFORE(size, changed) W(1), HYPER(size), TIME(changed), TIME(changed)
@@ -59,6 +81,7 @@ enum { OK = 0, NOENT = 2, EXIST = 17, STALE = 70 };
 /* CREATE's last arguments: GUARDED with mode 420 and nothing else set, and EXCLUSIVE with the verifier of this host, or of another. */
 #define MODE_420 W(1), W(420), W(0), W(0), W(0), W(0), W(0)
 #define GUARDED_420 W(1), MODE_420
+#define MODE_493 W(1), W(493), W(0), W(0), W(0), W(0), W(0)
 #define EXCLUSIVE W(2), W(0xFEDCBA98), W(0x76543210)
 #define EXCLUSIVE_OTHER W(2), W(0xFEDCBA98), W(0x76543211)
 
@@ -76,21 +99,25 @@ enum { RECORD = 92, VERIFIER_AT = 80, NAME_0 = 16 + RECORD * OBJECTS, NAME_1 = N
 #define NO_BLOCKS_4 255, 255, 255, 255, 255, 255, 255, 255
 
 /*
- * The store at the end: the new file is object 1 of generation 1, in the name record that it was made with; object 2, its name and both blocks are
- * free and zero, but for the generation, which is raised by one.
+ * The store at the end: the new file is object 1 of generation 1, in the name record that it was made with; the directory is object 2 of generation 1,
+ * in the second name record; both blocks are free and zero.
  */
 static const uint8_t last[LENGTH] = {
     W(1), W(STAMP),
     W(OBJECTS),
-    W(2), W(0), W(493), W(0), W(0), W(0), TIME(1000), TIME(1011), TIME(1011), NO_BLOCKS_4, NO_BLOCKS_4, NO_BLOCKS_4, NO_BLOCKS_4,
+    W(2), W(0), W(493), W(0), W(0), W(0), TIME(1000), TIME(1013), TIME(1013), NO_BLOCKS_4, NO_BLOCKS_4, NO_BLOCKS_4, NO_BLOCKS_4,
     [12 + RECORD * 1] = W(1), W(1), W(420), W(0), W(0), W(0), TIME(1010), TIME(1010), TIME(1011), NO_BLOCKS_4, NO_BLOCKS_4, NO_BLOCKS_4, NO_BLOCKS_4,
-    [12 + RECORD * 2] = W(0), W(1),
+    [12 + RECORD * 2] = W(2), W(1), W(493), W(0), W(0), W(0), TIME(1013), TIME(1013), TIME(1013), NO_BLOCKS_4, NO_BLOCKS_4, NO_BLOCKS_4, NO_BLOCKS_4,
     [NAME_0 - 4] = W(NAMES),
     [NAME_0] = W(0), W(1), SECOND_NAME,
+    [NAME_1] = W(0), W(2), DIRECTORY_NAME,
     [BLOCK_0 - 4] = W(BLOCKS),
 };
 
-static uint8_t store[LENGTH], reply[NFS3_REPLY_SPACE];
+/* The mount table at the end: the first row is free again, the second has the host and the path of the directory. */
+static const uint8_t last_table[MOUNT3_TABLE_LENGTH] = { [MOUNT3_ROW_LENGTH] = W(HOST), DIRECTORY_PATH };
+
+static uint8_t store[LENGTH], table[MOUNT3_TABLE_LENGTH], reply[MOUNT3_REPLY_SPACE]; /* an empty table is all zero */
 static bool verbose;
 static int calls;
 
@@ -117,9 +144,19 @@ static const char *procedure_name(uint32_t procedure) {
     case READ: return "READ";
     case WRITE: return "WRITE";
     case CREATE: return "CREATE";
+    case MKDIR: return "MKDIR";
     case REMOVE: return "REMOVE";
     case RENAME: return "RENAME";
     case READDIR: return "READDIR";
+    default: return "another";
+    }
+}
+
+static const char *mount_procedure_name(uint32_t procedure) {
+    switch (procedure) {
+    case MNT: return "MNT";
+    case DUMP: return "DUMP";
+    case UMNT: return "UMNT";
     default: return "another";
     }
 }
@@ -155,7 +192,7 @@ static void tell_result(uint32_t procedure, size_t len) {
         printf("size %u", (unsigned)word(reply, 52));
     if (procedure == LOOKUP && len == 220)
         printf("object %u", (unsigned)word(reply, 36));
-    if (procedure == CREATE && len == 252)
+    if ((procedure == CREATE || procedure == MKDIR) && len == 252)
         printf("handle: stamp %08X, object %u, generation %u", (unsigned)word(reply, 36), (unsigned)word(reply, 40), (unsigned)word(reply, 44));
     if (procedure == WRITE && len == 160)
         printf("%u bytes written", (unsigned)word(reply, 144));
@@ -192,12 +229,60 @@ static void tell(const char *about, uint32_t procedure, struct nfs3_answer a) {
     printf("\n");
 }
 
-/* Sends a call, tells what came back, and compares it with the wanted reply. The reply space past the reply stays as it was. */
+/* Prints a text of the reply whose length word is at a place, and gives the place after it, or the reply's end where it is cut. */
+static size_t tell_text(size_t at, size_t len) {
+    if (at + 4 > len || word(reply, at) > len - at - 4)
+        return len;
+    print_text(reply + at + 4, word(reply, at));
+    return at + 4 + (word(reply, at) + 3) / 4 * 4;
+}
+
+/* The rows of a reply to DUMP. */
+static void tell_rows(size_t len) {
+    size_t at = 24;
+    while (at + 4 <= len && word(reply, at) == 1) {
+        at = tell_text(at + 4, len);
+        printf(" has mounted ");
+        at = tell_text(at, len);
+        printf(", ");
+    }
+    printf("no more");
+}
+
+/* One line on what came back from MOUNT. Only MNT has a status. */
+static void tell_mount(const char *about, uint32_t procedure, struct nfs3_answer a) {
+    printf("%-8s %-11s ", mount_procedure_name(procedure), about);
+    if (a.number != NFS3_DONE || a.length < 24 || a.length > sizeof reply) {
+        printf("answer %u, length %u\n", (unsigned)a.number, (unsigned)a.length);
+        return;
+    }
+    printf("%-6s %4u bytes  ", procedure == MNT ? status_name(word(reply, 24)) : "", (unsigned)a.length);
+    if (procedure == MNT && a.length == 56)
+        printf("handle: stamp %08X, object %u, generation %u", (unsigned)word(reply, 32), (unsigned)word(reply, 36), (unsigned)word(reply, 40));
+    else if (procedure == MNT && word(reply, 24) == NOENT)
+        printf("there is no such name");
+    else if (procedure == DUMP)
+        tell_rows(a.length);
+    else if (procedure == UMNT)
+        printf("the row is free again");
+    printf("\n");
+}
+
+/*
+ * Sends a call to the library of its program, tells what came back, and compares it with the wanted reply. The reply space past the reply stays as
+ * it was.
+ */
 static void send(const char *about, uint32_t seconds, const uint8_t *call, size_t call_len, const uint8_t *wanted, size_t wanted_len) {
     memset(reply, 0x5A, sizeof reply);
-    struct nfs3_answer a = nfs3_call(call, call_len, store, LENGTH, reply, sizeof reply, seconds, 0, VERIFIER);
+    struct nfs3_answer a;
+    if (word(call, 12) == MOUNT3_PROGRAM) {
+        a = mount3_call(call, call_len, store, LENGTH, table, sizeof table, reply, sizeof reply, HOST);
+        tell_mount(about, word(call, 20), a);
+    } else {
+        a = nfs3_call(call, call_len, store, LENGTH, reply, sizeof reply, seconds, 0, VERIFIER);
+        tell(about, word(call, 20), a);
+    }
     calls++;
-    tell(about, word(call, 20), a);
     if (verbose) {
         print_words("call", call, call_len);
         print_words("reply", reply, a.length <= sizeof reply ? a.length : 0);
@@ -331,6 +416,32 @@ static void replace(void) {
     SEND("123456789", 1012, rename_itself, not_renamed);
 }
 
+/* A directory, which a host mounts by its path, and the root. */
+static void mount(void) {
+    static const uint8_t make_directory[] = { CALL(27, MKDIR), ROOT, DIRECTORY_NAME, MODE_493 };
+    static const uint8_t made_directory[] = { REPLY(27), W(OK), W(1), DIRECTORY, W(1), DIRECTORY_ATTRIBUTES,
+                                              BEFORE(512, 1011), W(1), ROOT_ATTRIBUTES_LAST };
+    static const uint8_t mount_root[] = { MOUNT_CALL(28, MNT), ROOT_PATH };
+    static const uint8_t mounted_root[] = { REPLY(28), W(OK), ROOT, FLAVORS };
+    static const uint8_t mount_directory[] = { MOUNT_CALL(29, MNT), DIRECTORY_PATH };
+    static const uint8_t mounted_directory[] = { REPLY(29), W(OK), DIRECTORY, FLAVORS };
+    static const uint8_t mount_missing[] = { MOUNT_CALL(30, MNT), MISSING_PATH };
+    static const uint8_t not_mounted[] = { REPLY(30), W(NOENT) };
+    static const uint8_t list[] = { MOUNT_CALL(31, DUMP) };
+    static const uint8_t listed[] = { REPLY(31), W(1), HOST_TEXT, ROOT_PATH, W(1), HOST_TEXT, DIRECTORY_PATH, W(0) };
+    static const uint8_t unmount_root[] = { MOUNT_CALL(32, UMNT), ROOT_PATH };
+    static const uint8_t unmounted_root[] = { REPLY(32) };
+    static const uint8_t list_again[] = { MOUNT_CALL(33, DUMP) };
+    static const uint8_t listed_again[] = { REPLY(33), W(1), HOST_TEXT, DIRECTORY_PATH, W(0) };
+    SEND("07", 1013, make_directory, made_directory);
+    SEND("/", 1013, mount_root, mounted_root);
+    SEND("/07", 1013, mount_directory, mounted_directory);
+    SEND("/7", 1013, mount_missing, not_mounted);
+    SEND("the table", 1013, list, listed);
+    SEND("/", 1013, unmount_root, unmounted_root);
+    SEND("the table", 1013, list_again, listed_again);
+}
+
 int main(int argc, char **argv) {
     verbose = argc == 2 && strcmp(argv[1], "-v") == 0;
     if (argc > 2 || (argc == 2 && !verbose)) {
@@ -347,8 +458,11 @@ int main(int argc, char **argv) {
     look_again();
     settle();
     replace();
+    mount();
     printf("check    the store, and each of its %d bytes\n", LENGTH);
     same_answer("the check", nfs3_check(store, LENGTH), NFS3_DONE, 0);
     same_bytes("the store", store, last, LENGTH);
+    printf("check    each of the %d bytes of the mount table\n", MOUNT3_TABLE_LENGTH);
+    same_bytes("the mount table", table, last_table, MOUNT3_TABLE_LENGTH);
     return end("run", calls);
 }

@@ -103,9 +103,9 @@
  *    are lost; the host then sends its calls again.
  *    OTHERWISE: a host that goes away (SIGPIPE), or one that sends garbage (a log that nobody reads, or that fills the disk), stops the daemon.
  *
- * 9. The root's handle. Hosts get it through the MOUNT protocol (RFC 1813, appendix I: program 100005, version 3), which is not in the library:
- *    the daemon answers it, on the same port or another, or a program beside it does. It has NFS3_HANDLE_LENGTH bytes: the stamp (bytes 4 to 7 of
- *    the store), then 8 zero bytes (object 0, generation 0). The root is never removed, so the handle stays the same until the stamp changes.
+ * 9. The root's handle. Hosts get it through the MOUNT protocol (RFC 1813, appendix I: program 100005, version 3): mount3.h is a library for
+ *    it, which a daemon may serve on the same port. The handle has NFS3_HANDLE_LENGTH bytes: the stamp (bytes 4 to 7 of the store), then 8 zero bytes
+ *    (object 0, generation 0). The root is never removed, so the handle stays the same until the stamp changes.
  *    Every other handle comes from the library's replies.
  *
  * 10. Rights are not looked at yet. Any credential is accepted, and whoever reaches the socket can read and change every file. Listen only where

@@ -5,9 +5,14 @@
  *
  * EXCLUSIVE is a CREATE that comes again: the last file of the store is made by it. RENAME gives the last file a new name, and the old one again: two
  * calls. LOOKUP finds the last file; in LOOKUP,first and LOOKUP,last the files have names of 32 bytes that differ in the first byte or in the last
- * one only. Ends with status 1 where a call is not answered OK.
+ * one only. Compiled with MOUNT defined it has the rows of MOUNT too: NULL with an empty mount table and with 32 paths of 1,024 bytes that differ in
+ * the last one, MNT of "/" whose pair is there, and DUMP of the 32 paths. Ends with status 1 where a call is not answered OK.
  */
+#ifdef MOUNT
+#include "mount3.h"
+#else
 #include "nfs3.h"
+#endif
 
 #include <stdio.h>
 #include <stdlib.h>
@@ -105,6 +110,32 @@ static void name_file(char *name, const char *operation, unsigned number) {
     name[strcmp(operation, "LOOKUP,first") == 0 ? 0 : NFS3_NAME_MOST - 1] = (char)('0' + number);
 }
 
+#ifdef MOUNT
+static uint8_t table[MOUNT3_TABLE_LENGTH], space[MOUNT3_REPLY_SPACE];
+
+/* Gives every row of the mount table host 1 and a path of 1,024 bytes; the paths differ in their last byte. */
+static void fill_table(void) {
+    for (size_t row = 0; row < MOUNT3_ROWS; row++) {
+        uint8_t *at = table + row * MOUNT3_ROW_LENGTH;
+        memset(at, 0, 8);
+        at[3] = 1;
+        at[6] = MOUNT3_PATH_MOST / 256;
+        memset(at + 8, '/', MOUNT3_PATH_MOST);
+        at[7 + MOUNT3_PATH_MOST] = (uint8_t)(1 + row);
+    }
+}
+
+/* A call of MOUNT from host 1, with a path where it is not null. */
+static void call_mount(uint32_t procedure, const char *path) {
+    len = 0;
+    words((uint32_t[]){ 9, 0, 2, MOUNT3_PROGRAM, MOUNT3_VERSION, procedure, 0, 0, 0, 0 }, 10);
+    if (path != NULL)
+        opaque(path, strlen(path));
+    struct nfs3_answer a = mount3_call(call, len, store, store_len, table, sizeof table, space, sizeof space, 1);
+    wrong |= a.number | space[23] | (path != NULL ? space[27] : 0);
+}
+#endif
+
 static void turn(const char *operation, int full, const char *last) {
     if (strcmp(operation, "check") == 0)
         wrong |= nfs3_check(store, store_len).number;
@@ -123,6 +154,10 @@ static void turn(const char *operation, int full, const char *last) {
         end();
     } else if (strcmp(operation, "WRITE") == 0)
         write_bytes(1, 0, 512);
+#ifdef MOUNT
+    else if (strncmp(operation, "MOUNT", 5) == 0)
+        call_mount(strcmp(operation, "MOUNT,MNT") == 0 ? 1 : strcmp(operation, "MOUNT,DUMP") == 0 ? 2 : 0, strcmp(operation, "MOUNT,MNT") == 0 ? "/" : NULL);
+#endif
     else {
         static const struct {
             const char *name;
@@ -169,6 +204,12 @@ int main(int argc, char **argv) {
             write_bytes(file, NFS3_DATA_MOST, NFS3_DATA_MOST);
     }
     make_old(objects);
+#ifdef MOUNT
+    if (strcmp(argv[2], "MOUNT,full") == 0 || strcmp(argv[2], "MOUNT,DUMP") == 0)
+        fill_table();
+    else if (strcmp(argv[2], "MOUNT,MNT") == 0)
+        call_mount(1, "/");
+#endif
     for (int i = 0; i < times; i++)
         turn(argv[2], full, last);
     return wrong != 0;
