@@ -3,7 +3,7 @@ use Prim.Native.Nat.{ℕ, _+_, _≤_}
 use mathlib.Core.List.{List, [], _∷_, _++_}
 use mathlib.Core.Path.{_≡_, refl}
 use native.Mathlib.Omega.{arith}
-use lib.Dec.{eqb, lit≤}
+use lib.Dec.{lit≤}
 use lib.ListN.{length, take, length-append, length-replicate}
 use Rattle.kinds.specs.Numbers.{OK, leastReplyBytes, mostTransferBytes, listingCost}
 use Rattle.spec.specs.Bytes.{bytesOf, words, opaqueBytes}
@@ -13,10 +13,10 @@ use Rattle.spec.specs.Image.{Store}
 use Rattle.spec.specs.Count.{bit}
 use Rattle.spec.specs.Procedures.Listing.{entries, entriesAbove}
 use Rattle.spec.specs.Replies.{hyper, fattr3, postOp, preOp, wccData, wccOption, entriesBytes, resultBytes}
-use Rattle.spec.specs.Rpc.{Program, SUCCESS, PROG-MISMATCH, accepted, mismatch}
-use Rattle.laws.proofs.Count.{by-bool}
+use Rattle.spec.specs.Rpc.{SUCCESS, accepted}
 use Rattle.laws.proofs.FileBytes.{readFile-length}
 use Rattle.laws.proofs.Words.{words-length, opaque-length}
+use Rattle.rpc.proofs.Stopped.{accepted-length}
 use Rattle.results.specs.Meaning.{handleChangeIn, resultOf}
 use Rattle.results.specs.Writable.{Writable}
 use Rattle.results.specs.declared.HandleChange.{HandleChange}
@@ -24,18 +24,6 @@ use Rattle.results.specs.declared.Reply.{Reply}
 use Rattle.results.specs.declared.Reply.the-variants as Reply
 use Rattle.reply_bodies.proofs.Sizes.{change-small}
 use Rattle.reply_fields.proofs.ZeroWords.{zeroWords-small}
-
--- the head of an accepted reply is 24 bytes
-accepted-length : (xid stat : ℕ) (body : List ℕ) → length (accepted xid stat body) ≡ 24 + length body
-unfolding accepted
-accepted-length xid stat body = simp (length-append, words-length)
-
--- the reply to a call that does not run: at most the head and two words
-pub stopped-short : (p : Program) (xid stat : ℕ) → length (accepted xid stat (mismatch p stat)) ≤ 32
-unfolding mismatch
-stopped-short p xid stat =
-    rw (accepted-length xid stat (mismatch p stat))
-    (by-bool (eqb stat PROG-MISMATCH) (λ t. rw (t, words-length) (lit≤ tt)) (λ t. rw t (lit≤ tt)))
 
 -- ---- the results of a procedure, which fit into the least reply space after the head of the reply
 abbrev Short : List ℕ → Type 0

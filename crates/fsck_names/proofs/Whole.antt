@@ -1,21 +1,21 @@
 -- The pass over the name records, one further, and what it shows at the end. Assumes nothing.
-use mathlib.Core.Path.{_≡_, refl, sym, ap, _∙_}
+use mathlib.Core.Path.{_≡_, refl, sym, _∙_}
 use mathlib.Core.Logic.{_≢_, by-cases, ⊎-elim}
-use mathlib.Core.Bool.{Bool, true, false}
+use mathlib.Core.Bool.{true, false}
 use mathlib.Core.List.{List}
-use Prim.Native.Nat.{ℕ, zero, suc, _+_, _≤_, _<_}
+use Prim.Native.Nat.{ℕ, _+_, _≤_, _<_}
 use native.Mathlib.Nat.{not-suc-le-zero}
 use native.Mathlib.Decide.{ℕ-discrete}
 use native.Mathlib.Omega.{arith}
 use lib.Dec.{eqb}
 use borrow.Author.Tests.{eq-eqb}
 use Rattle.kinds.specs.Numbers.{mostObjects, mostNameRecords}
-use Rattle.spec.specs.Count.{bit, sum, count, every}
+use Rattle.spec.specs.Count.{count, every}
 use Rattle.spec.specs.Image.{Store, names, nameAt}
 use Rattle.spec.specs.Room.{isUsedName, isNamed}
 use Rattle.spec.specs.Check.{goodNameRecord, isDistinct}
 use Rattle.laws.proofs.Bytes.{lt-or-le}
-use Rattle.laws.proofs.Count.{by-bool, true-false, every-at, every-all, every-more, sum-zero}
+use Rattle.laws.proofs.Count.{by-bool, true-false, count-one, every-at, every-all, every-more}
 use Rattle.laws.proofs.Valid.{Framed, UsedName}
 use Rattle.fsck_objects.specs.Objects.{Blank}
 use Rattle.fsck_names.specs.Distinct.{isSame, Chains}
@@ -56,16 +56,6 @@ names-used s n parents head next parents′ head′ next′ a g f b d =
     }
 
 -- ---- every name is distinct
-count-one : (p : ℕ → Bool) (q n : ℕ) → n < q → p n ≡ true → ((m : ℕ) → m < q → m ≢ n → p m ≡ false) → count q p ≡ 1
-unfolding sum
-count-one p zero n l e f = absurd (not-suc-le-zero l)
-count-one p (suc q) n l e f =
-    by-cases (ℕ-discrete n q)
-    (λ (x : n ≡ q). let a = sum-zero q (λ i. bit (p i)) (λ i h. ap bit (f i (omega arith) (λ y. absurd (omega arith)))) in
-    let b = ap bit (rw x at e) in omega arith)
-    (λ (x : n ≢ q). let a = count-one p q n (omega arith) e (λ m h d. f m (omega arith) d) in
-    let b = ap bit (f q (omega arith) (λ y. x (sym y))) in omega arith)
-
 pub distinct-all : (s : Store) (t : Framed s) (parents head next : List ℕ) → NamesPass s (names s) parents head next → every (names s) (isDistinct s) ≡ true
 unfolding isDistinct
 distinct-all s t parents head next a =

@@ -44,18 +44,18 @@ Plain n = (0 < n) × (n < 4294967296) × (n ≢ NOSPC)
 
 -- ---- checks in order
 module _ (P : ℕ → Type 0) where
-  tells-passed : {A : Type 0} (a : A) → Tells P (passed a)
+  pub tells-passed : {A : Type 0} (a : A) → Tells P (passed a)
   tells-passed a status e = let z : _≡_ {A = ℕ} 0 1 = cc in absurd (omega arith)
 
-  tells-refused : {A : Type 0} (n : ℕ) → P n → Tells {A = A} P (refused n)
+  pub tells-refused : {A : Type 0} (n : ℕ) → P n → Tells {A = A} P (refused n)
   tells-refused n h status e = let z : n ≡ status = cc in subst P z h
 
-  tells-bind : {A B : Type 0} (c : Checked A) (k : A → Checked B) → Tells P c → ((a : A) → c ≡ passed a → Tells P (k a)) → Tells P (bind c k)
+  pub tells-bind : {A B : Type 0} (c : Checked A) (k : A → Checked B) → Tells P c → ((a : A) → c ≡ passed a → Tells P (k a)) → Tells P (bind c k)
   tells-bind (refused n) k h f = tells-refused n (h n refl)
   tells-bind (passed a) k h f = f a refl
 
   -- a test with its status, and the rest
-  tells-if : {B : Type 0} (t : Bool) (n : ℕ) (k : Checked B) → (t ≡ true → P n) → (t ≡ false → Tells P k) → Tells P (bind (refuseIf t n) (λ _. k))
+  pub tells-if : {B : Type 0} (t : Bool) (n : ℕ) (k : Checked B) → (t ≡ true → P n) → (t ≡ false → Tells P k) → Tells P (bind (refuseIf t n) (λ _. k))
   tells-if true n k h f = tells-refused n (h refl)
   tells-if false n k h f = f refl
 
@@ -308,6 +308,9 @@ plainly n x = (x .0, x .1)
 
 full : Failing NOSPC
 full = (lit< tt, lit< tt)
+
+pub sure-in : (s : Store) (d : ℕ) (text : List ℕ) → Sure (checkIn s d text)
+sure-in = in-tells Failing plainly
 
 module _ (s : Store) (h text : List ℕ) where
   pub sure-lookup : Sure (checkLookup s h text)

@@ -90,6 +90,17 @@ count-bound (suc n) p = let r = count-bound n p in let b = bit-bound (p n) in om
     bit-bound true = omega arith
     bit-bound false = omega arith
 
+-- one number passes, and no other
+pub count-one : (p : ℕ → Bool) (q n : ℕ) → n < q → p n ≡ true → ((m : ℕ) → m < q → m ≢ n → p m ≡ false) → count q p ≡ 1
+unfolding sum
+count-one p zero n l e f = absurd (not-suc-le-zero l)
+count-one p (suc q) n l e f =
+    by-cases (ℕ-discrete n q)
+    (λ (x : n ≡ q). let a = sum-zero q (λ i. bit (p i)) (λ i h. ap bit (f i (omega arith) (λ y. absurd (omega arith)))) in
+    let b = ap bit (rw x at e) in omega arith)
+    (λ (x : n ≢ q). let a = count-one p q n (omega arith) e (λ m h d. f m (omega arith) d) in
+    let b = ap bit (f q (omega arith) (λ y. x (sym y))) in omega arith)
+
 -- ---- every number passes
 module _ (p : ℕ → Bool) where
   pub every-more : (i : ℕ) → every i p ≡ true → p i ≡ true → every (i + 1) p ≡ true

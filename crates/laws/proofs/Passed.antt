@@ -37,7 +37,7 @@ use Rattle.laws.proofs.Valid.{Live, Used, GoodName, GoodNames, live-tru
 use Rattle.laws.proofs.Valid.{true-directory, regular-true, true-regular, bytes-good, dots-no}
 
 -- ---- checks in order
-refused-passed : {A : Type 0} (status : ℕ) (a : A) → refused status ≡ passed a → ⊥
+pub refused-passed : {A : Type 0} (status : ℕ) (a : A) → refused status ≡ passed a → ⊥
 refused-passed status a e = let z : _≡_ {A = ℕ} 0 1 = cc in omega arith
 
 -- the first passed, and the rest
@@ -68,7 +68,8 @@ some-present : (status : ℕ) (x : Option ℕ) (n : ℕ) → present status x �
 some-present status none n e = absurd (refused-passed status n e)
 some-present status (some m) n e = cc
 
-same-passed : {A : Type 0} (a b : A) → passed a ≡ passed b → a ≡ b
+-- what passed is one value
+pub same-passed : {A : Type 0} (a b : A) → passed a ≡ passed b → a ≡ b
 same-passed a b e = cc
 
 -- ---- handles

@@ -1,45 +1,26 @@
 -- A table that passes its check fits a reply, and what a procedure answers can be written. Assumes nothing.
 use mathlib.Core.Path.{_≡_, refl, _∙_}
-use mathlib.Core.Bool.{true, _&&_}
+use mathlib.Core.Bool.{true}
 use mathlib.Core.List.{List}
-use Prim.Native.Nat.{ℕ, _≤_, _<_}
+use Prim.Native.Nat.{ℕ}
 use native.Mathlib.Omega.{arith}
-use lib.Dec.{eqb}
-use lib.ListN.{length}
-use borrow.Author.Tests.{eqb-true}
-use Rattle.kinds.specs.Mount.{rows, mostPathBytes, tableLength}
 use Rattle.kinds.specs.declared.mount.MountArguments.{MountArguments}
 use Rattle.kinds.specs.declared.mount.MountArguments.the-variants as Mount
 use Rattle.spec.specs.Checked.{Checked, refused, passed}
-use Rattle.spec.specs.Count.{every}
 use Rattle.spec.specs.Image.{Store}
 use Rattle.spec.specs.Procedures.{cut}
-use Rattle.laws.proofs.Count.{by-bool, and-both, every-at}
-use Rattle.laws.proofs.Tests.{nonzero-false}
 use Rattle.mount_spec.specs.Procedures.{nothing, mounted, mounts, checkMount, settleMount, mount, actMount}
-use Rattle.mount_spec.specs.Table.{Table, pathLength, isUsedRow, goodRow, isOnlyPair, passesTable}
-use Rattle.mount_check.proofs.Same.{used-row}
+use Rattle.mount_spec.specs.Table.{Table, passesTable}
+use Rattle.mount_laws.proofs.Checked.{table-passes}
+use Rattle.mount_laws.proofs.Good.{row-short}
 use Rattle.mount_results.specs.declared.MountReply.{MountReply}
 use Rattle.mount_results.specs.declared.MountReply.the-variants as MountReply
 use Rattle.mount_act.specs.Acts.{Acts, Mountable}
 use Rattle.mount_reply.specs.Fits.{Fits, WritableMount}
 
 -- ---- a table that passes
--- the path of a good row is at most 1,024 bytes long
-row-short : (t : Table) (r : ℕ) → length t ≡ tableLength → r < rows → goodRow t r ≡ true → pathLength t r ≤ mostPathBytes
-unfolding isUsedRow
-row-short t r long l e =
-    by-bool (isUsedRow t r) (λ u. used-row t r long l u e .short) (λ u. omega (arith, nonzero-false (pathLength t r) u))
-
 pub table-fits : (t : Table) → passesTable t ≡ true → Fits t
-unfolding passesTable
-table-fits t e =
-    let a = eqb (length t) tableLength in
-    let b = every rows (goodRow t) in
-    let (x, _) = and-both (a && b) (every rows (isOnlyPair t)) e in
-    let (y, good) = and-both a b x in
-    let long = eqb-true (length t) tableLength y in
-    record { long = long; short = λ r l. row-short t r long l (every-at (goodRow t) rows r good l) }
+table-fits t e = let w = table-passes t e in record { long = w .long; short = λ r l. row-short t r (w .good r l) }
 
 -- ---- a procedure that ran
 -- the list of mounts is not the empty result, and no mounted directory

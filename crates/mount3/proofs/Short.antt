@@ -2,17 +2,17 @@
 use Prim.Native.Nat.{ℕ, zero, suc, _+_, _*_, _/_, _%_, _≤_}
 use mathlib.Core.Bool.{Bool, true, false, cond}
 use mathlib.Core.List.{List, []}
-use mathlib.Core.Path.{_≡_}
 use native.Mathlib.Omega.{arith}
-use lib.Dec.{eqb, ltb, lit≤}
+use lib.Dec.{ltb, lit≤}
 use lib.ListN.{length, length-append, length-take}
 use Rattle.kinds.specs.Mount.{rows, mostPathBytes, leastMountReplyBytes}
 use Rattle.spec.specs.Bytes.{part, bytesOf, words, opaqueBytes}
 use Rattle.spec.specs.Handles.{handleOf}
 use Rattle.spec.specs.Image.{Store}
-use Rattle.spec.specs.Rpc.{Program, SUCCESS, PROG-MISMATCH, accepted, mismatch}
+use Rattle.spec.specs.Rpc.{SUCCESS, accepted}
 use Rattle.laws.proofs.Count.{by-bool}
 use Rattle.laws.proofs.Words.{words-length, opaque-length}
+use Rattle.rpc.proofs.Stopped.{accepted-length}
 use Rattle.mount_spec.specs.Replies.{decimal, dotted, mountBytes, mountsBytes, mountResultBytes}
 use Rattle.mount_spec.specs.Table.{Table, pathLength, rowAt, isUsedRow}
 use Rattle.mount_results.specs.Meaning.{resultOf}
@@ -20,18 +20,6 @@ use Rattle.mount_results.specs.declared.MountReply.{MountReply}
 use Rattle.mount_results.specs.declared.MountReply.the-variants as MountReply
 use Rattle.mount_reply.specs.Fits.{Fits, WritableMount, mostMountBytes}
 use Rattle.mount_reply.proofs.Decimals.{dotted-length}
-
--- the head of an accepted reply is 24 bytes
-accepted-length : (xid stat : ℕ) (body : List ℕ) → length (accepted xid stat body) ≡ 24 + length body
-unfolding accepted
-accepted-length xid stat body = simp (length-append, words-length)
-
--- the reply to a call that does not run: at most the head and two words
-pub stopped-short : (p : Program) (xid stat : ℕ) → length (accepted xid stat (mismatch p stat)) ≤ 32
-unfolding mismatch
-stopped-short p xid stat =
-    rw (accepted-length xid stat (mismatch p stat))
-    (by-bool (eqb stat PROG-MISMATCH) (λ t. rw (t, words-length) (lit≤ tt)) (λ t. rw t (lit≤ tt)))
 
 -- ---- the list of mounts
 -- a number in decimal has at most three digits, and a host as dotted decimal at most fifteen bytes

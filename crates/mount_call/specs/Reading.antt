@@ -3,24 +3,15 @@ use Prim.Native.Nat.{ℕ}
 use mathlib.Core.List.{List}
 use Rattle.kinds.specs.Reading.{Read, got, bad, placeOf}
 use Rattle.kinds.specs.declared.call.Header.{Header}
-use Rattle.kinds.specs.declared.call.Part.{Part}
 use Rattle.kinds.specs.declared.mount.MountArguments.{MountArguments}
-use Rattle.spec.specs.Xdr.{Reader, _>>=_, _>>_, done, end}
 use Rattle.rpc.specs.Meaning.{procedureOf}
-use Rattle.mount_spec.specs.Arguments.{dirpath, mountArguments}
+use Rattle.mount_spec.specs.Arguments.{mountArguments}
 use Rattle.mount_call.specs.declared.MountRead.{MountRead}
 use Rattle.mount_call.specs.declared.MountRead.the-variants as MountRead
 
 abbrev pub mountReadOf : MountRead → Read MountArguments
 mountReadOf (MountRead.Got x c) = got x (c .at)
 mountReadOf (MountRead.Bad p) = bad p
-
--- a path, and then the end of the call
-abbrev pub pathAlone : Reader Part
-pathAlone = do
-  path ← dirpath
-  end
-  done path
 
 -- the arguments of the procedure that the header names, read where the header ends
 abbrev pub mountArgumentsAfter : List ℕ → Read Header → Read MountArguments

@@ -1,7 +1,6 @@
 -- A row as the code finds it: whether it is used, its digest, and whether it passes by itself, test by test. Assumes nothing.
-use mathlib.Core.Path.{_≡_, sym, _∙_}
-use mathlib.Core.Logic.{⊎-elim}
-use mathlib.Core.Bool.{true, false, and-false}
+use mathlib.Core.Path.{_≡_}
+use mathlib.Core.Bool.{true, false, _&&_, and-false}
 use mathlib.Core.List.{List}
 use Prim.Native.Nat.{ℕ, zero, suc, _+_, _-_, _≤_, _<_}
 use native.Mathlib.Omega.{arith}
@@ -11,11 +10,12 @@ use borrow.Author.Tests.{eq-eqb, ne-eqb, le-leb, lt-leb}
 use Rattle.kinds.specs.Mount.{mostPathBytes, pathOffset}
 use Rattle.spec.specs.Bytes.{part}
 use Rattle.spec.specs.Check.{isZero}
-use Rattle.laws.proofs.Bytes.{lt-or-le, part-cons}
-use Rattle.laws.proofs.Count.{true-false}
+use Rattle.laws.proofs.Bytes.{part-cons}
+use Rattle.laws.proofs.Zeros.{zero-add}
 use Rattle.mount_spec.specs.Path.{slash, startsWithSlash}
 use Rattle.mount_spec.specs.Table.{Table, rowStart, pathLength, rowAt, isUsedRow, goodRow, goodUsedRow}
-use Rattle.mount_check.specs.Digest.{joinedWords, wordsOf, digest}
+use Rattle.mount_laws.proofs.Good.{row-short}
+use Rattle.mount_check.specs.Digest.{summed, groupsOf, digest}
 
 -- the first byte of a part
 starts : (b : List ℕ) (at n : ℕ) → 1 ≤ n → at < length b → startsWithSlash (part b at n) ≡ eqb (getD b at 0) slash
@@ -32,19 +32,23 @@ module _ (t : Table) (r n : ℕ) (m : n ≡ pathLength t r) where
   unfolding isUsedRow
   used-by d = rw (← m, ne-eqb n 0 d)
 
-  pub digest-by : (place own : ℕ) → place ≡ rowStart r → own ≡ joinedWords t (place + pathOffset) (wordsOf n) → own ≡ digest t r
+  pub digest-by : (place own : ℕ) → place ≡ rowStart r → own ≡ summed t (place + pathOffset) (groupsOf n) → own ≡ digest t r
   unfolding digest
   digest-by place own p e = rw (← m, ← p) e
+
+  -- a row that passes has a short path
+  pub short-by : goodRow t r ≡ true → n ≤ mostPathBytes
+  short-by g = rw m (row-short t r g)
+
+  -- a free row is zero up to its path, and from there
+  pub free-zero : (place : ℕ) → place ≡ rowStart r → isUsedRow t r ≡ false
+      → goodRow t r ≡ isZero (part t place pathOffset) && isZero (part t (place + pathOffset) mostPathBytes)
+  unfolding goodRow
+  free-zero place p u = rw (u, ← p) (zero-add t place pathOffset mostPathBytes)
 
   pub long-path : mostPathBytes < n → goodUsedRow t r ≡ false
   unfolding goodUsedRow
   long-path h = rw (← m, lt-leb n mostPathBytes h)
-
-  -- a used row that passes has a short path
-  pub short-by : (n ≡ 0 → ⊥) → goodRow t r ≡ true → n ≤ mostPathBytes
-  unfolding goodRow
-  short-by d g =
-      ⊎-elim (λ (h : mostPathBytes < n). true-false (sym g ∙ rw (used-by d) (long-path h))) (λ (h : n ≤ mostPathBytes). h) (lt-or-le mostPathBytes n)
 
   module _ (place : ℕ) (p : place ≡ rowStart r) (l : place + pathOffset < length t) (some : 1 ≤ n) where
     pub no-slash : (getD t (place + pathOffset) 0 ≡ slash → ⊥) → goodUsedRow t r ≡ false

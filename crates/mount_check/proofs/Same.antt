@@ -1,53 +1,22 @@
 -- Rows with one host and one path: how they are found, and that they have one digest. Assumes nothing.
 use mathlib.Core.Path.{_≡_, refl, sym, ap, ap₂, _∙_}
-use mathlib.Core.Bool.{Bool, true, false, _&&_, and-false}
+use mathlib.Core.Bool.{Bool, true, false, and-false}
 use mathlib.Core.List.{List, _++_}
-use Prim.Native.Nat.{ℕ, zero, suc, _+_, _*_, _-_, _≤_, _<_}
+use Prim.Native.Nat.{ℕ, zero, suc, _+_, _*_, _-_, _%_, _^_, _≤_, _<_}
 use native.Mathlib.Omega.{arith}
-use lib.Dec.{eqb, leb}
 use lib.ListN.{length}
-use borrow.Author.Tests.{eqb-true, eq-eqb, ne-eqb, leb-true}
+use borrow.Author.Tests.{eq-eqb, ne-eqb}
 use Rattle.kinds.specs.Mount.{rows, mostPathBytes, pathOffset, tableLength}
 use Rattle.spec.specs.Bytes.{part, zeros, sameBytes}
-use Rattle.spec.specs.Check.{isZero}
-use Rattle.laws.proofs.Bytes.{part-add, part-part, part-length, same-eq, same-yes}
-use Rattle.laws.proofs.Count.{and-both}
-use Rattle.laws.proofs.Zeros.{zeros-isZero}
+use Rattle.laws.proofs.Bytes.{part-part}
 use Rattle.wire.specs.LowFirst.{lowFirst}
-use Rattle.wire.specs.Hash.{joined}
-use Rattle.mount_spec.specs.Path.{startsWithSlash}
-use Rattle.mount_spec.specs.Table.{Table, rowStart, pathLength, rowAt, isUsedRow, isOfHost, hasPair, goodRow, goodUsedRow}
+use Rattle.wire.specs.Hash.{wordAt, joined}
+use Rattle.mount_spec.specs.Table.{Table, rowStart, pathLength, rowAt, isUsedRow, isOfHost, goodRow}
+use Rattle.mount_laws.proofs.Good.{row-short, row-exact, row-padded}
+use Rattle.mount_laws.proofs.Pairs.{pair-has, has-pair}
 use Rattle.mount_rows.proofs.Pairs.{other-host, other-length, by-bytes}
-use Rattle.mount_check.specs.Digest.{joinedWords, wordsOf, digest}
+use Rattle.mount_check.specs.Digest.{lane, summed, groupsOf, digest}
 use Rattle.mount_check.specs.Rows.{isSamePair}
-
--- ---- what it is for row q to have the pair of row r
-pub record Alike (t : Table) (r q : ℕ) : Type 0 where
-  pub used : isUsedRow t q ≡ true
-  pub host : rowAt t q .host ≡ rowAt t r .host
-  pub long : pathLength t q ≡ length (rowAt t r .path)
-  pub path : rowAt t q .path ≡ rowAt t r .path
-
-module _ (t : Table) (r q : ℕ) where
-  pub alike : isSamePair t r q ≡ true → Alike t r q
-  unfolding hasPair isOfHost
-  alike e =
-      let p = rowAt t r .path in
-      let a = and-both (isUsedRow t q && eqb (rowAt t q .host) (rowAt t r .host)) (eqb (pathLength t q) (length p) && sameBytes (rowAt t q .path) p) e in
-      let b = and-both (isUsedRow t q) (eqb (rowAt t q .host) (rowAt t r .host)) (a .0) in
-      let d = and-both (eqb (pathLength t q) (length p)) (sameBytes (rowAt t q .path) p) (a .1) in
-      record {
-        used = b .0;
-        host = eqb-true (rowAt t q .host) (rowAt t r .host) (b .1);
-        long = eqb-true (pathLength t q) (length p) (d .0);
-        path = same-eq (rowAt t q .path) p (d .1);
-      }
-
-  pub same-by : Alike t r q → isSamePair t r q ≡ true
-  unfolding hasPair isOfHost
-  same-by a =
-      rw (a .used, eq-eqb (rowAt t q .host) (rowAt t r .host) (a .host), eq-eqb (pathLength t q) (length (rowAt t r .path)) (a .long))
-      (same-yes (rowAt t q .path) (rowAt t r .path) (a .path))
 
 -- ---- a used row that passes: its path, and its path bytes, which are the path and zeros
 pub record UsedRow (t : Table) (r : ℕ) : Type 0 where
@@ -57,31 +26,18 @@ pub record UsedRow (t : Table) (r : ℕ) : Type 0 where
   pub whole : part t (rowStart r + pathOffset) mostPathBytes ≡ rowAt t r .path ++ zeros (mostPathBytes - pathLength t r)
 
 pub used-row : (t : Table) (r : ℕ) → length t ≡ tableLength → r < rows → isUsedRow t r ≡ true → goodRow t r ≡ true → UsedRow t r
-unfolding goodRow goodUsedRow rowAt
 used-row t r long below u g =
-    let n = pathLength t r in
-    let at = rowStart r + pathOffset in
-    let h : goodUsedRow t r ≡ true = rw u at g in
-    let a = and-both (leb n mostPathBytes && startsWithSlash (part t at n)) (isZero (part t (at + n) (mostPathBytes - n))) h in
-    let short : n ≤ mostPathBytes = leb-true n mostPathBytes (and-both (leb n mostPathBytes) (startsWithSlash (part t at n)) (a .0) .0) in
-    let q : mostPathBytes ≡ n + (mostPathBytes - n) = omega arith in
-    let padded = zeros-isZero _ (mostPathBytes - n) (part-length t (at + n) (mostPathBytes - n) (omega arith)) (a .1) in
-    record {
-      used = u;
-      short = short;
-      exact = part-length t at n (omega arith);
-      whole = ap (part t at) q ∙ part-add t at n (mostPathBytes - n) ∙ ap (λ (l : List ℕ). part t at n ++ l) padded;
-    }
+    record { used = u; short = row-short t r g; exact = row-exact t r long below g; whole = row-padded t r long below g u }
 
 module _ (t : Table) where
   -- a row has its own pair, and two used rows that have one have it both ways
   pub same-self : (r : ℕ) → UsedRow t r → isSamePair t r r ≡ true
-  same-self r w = same-by t r r (record { used = w .used; host = refl; long = sym (w .exact); path = refl })
+  same-self r w = has-pair t _ _ r (record { used = w .used; host = refl; long = sym (w .exact); path = refl })
 
   pub same-back : (r q : ℕ) → UsedRow t r → isSamePair t r q ≡ true → isSamePair t q r ≡ true
   same-back r q w e =
-      let a = alike t r q e in
-      same-by t q r (record { used = w .used; host = sym (a .host); long = sym (ap length (a .path) ∙ w .exact); path = sym (a .path) })
+      let a = pair-has t _ _ q e in
+      has-pair t _ _ r (record { used = w .used; host = sym (a .host); long = sym (ap length (a .path) ∙ w .exact); path = sym (a .path) })
 
 -- ---- whether row q has the pair of row r, test by test
 module _ (t : Table) (r q : ℕ) where
@@ -101,18 +57,31 @@ module _ (t : Table) (r q : ℕ) where
       ∙ by-bytes t (rowAt t r .host) (rowAt t r .path) q (pathLength t r)
       (rw (k ∙ m, w .used) (eq-eqb (rowAt t q .host) (rowAt t r .host) h)) (k ∙ m) (w .exact)
 
--- ---- equal bytes are equal words
-words-same : (b : List ℕ) (at from n k : ℕ) → part b at n ≡ part b from n → 8 * k ≤ n → joinedWords b at k ≡ joinedWords b from k
-unfolding joinedWords
-words-same b at from n zero e h = refl
-words-same b at from n (suc k) e h =
-    ap₂ joined (words-same b at from n k e (omega arith))
-    (ap lowFirst (sym (part-part b at n (8 * k) 8 (omega arith)) ∙ ap (λ (l : List ℕ). part l (8 * k) 8) e ∙ part-part b from n (8 * k) 8 (omega arith)))
+-- ---- equal bytes have equal sums of words
+module _ (b : List ℕ) (at from n : ℕ) (e : part b at n ≡ part b from n) where
+  word-same : (p q i : ℕ) → p ≡ at + i → q ≡ from + i → i + 8 ≤ n → wordAt b p ≡ wordAt b q
+  word-same p q i f g h = ap lowFirst (rw (f, g) (sym (part-part b at n i 8 h) ∙ ap (λ (l : List ℕ). part l i 8) e ∙ part-part b from n i 8 h))
+
+  lane-same : (p q i k : ℕ) → p ≡ at + i → q ≡ from + i → i ≤ 24 → 32 * k ≤ n → lane b p k ≡ lane b q k
+  unfolding lane
+  lane-same p q i zero f g l h = refl
+  lane-same p q i (suc k) f g l h =
+      ap₂ (λ (x y : ℕ). (x + y) % 2 ^ 64) (lane-same p q i k f g l (omega arith))
+      (word-same (p + 32 * k) (q + 32 * k) (i + 32 * k) (omega arith) (omega arith) (omega arith))
+
+  sums-same : (k : ℕ) → 32 * k ≤ n → summed b at k ≡ summed b from k
+  unfolding summed
+  sums-same k h =
+      ap₂ joined
+      (ap₂ joined
+      (ap₂ joined (lane-same at from 0 k (omega arith) (omega arith) (omega arith) h) (lane-same (at + 8) (from + 8) 8 k refl refl (omega arith) h))
+      (lane-same (at + 16) (from + 16) 16 k refl refl (omega arith) h))
+      (lane-same (at + 24) (from + 24) 24 k refl refl (omega arith) h)
 
 pub same-digest : (t : Table) (r q : ℕ) → UsedRow t r → UsedRow t q → isSamePair t r q ≡ true → digest t q ≡ digest t r
 unfolding digest
 same-digest t r q w v e =
-    let a = alike t r q e in
+    let a = pair-has t _ _ q e in
     let n : pathLength t q ≡ pathLength t r = a .long ∙ w .exact in
     let bytes = v .whole ∙ ap₂ (λ (l : List ℕ) (k : ℕ). l ++ zeros (mostPathBytes - k)) (a .path) n ∙ sym (w .whole) in
-    rw n (words-same t (rowStart q + pathOffset) (rowStart r + pathOffset) mostPathBytes (wordsOf (pathLength t r)) bytes (omega (arith, w .short)))
+    rw n (sums-same t (rowStart q + pathOffset) (rowStart r + pathOffset) mostPathBytes bytes (groupsOf (pathLength t r)) (omega (arith, w .short)))

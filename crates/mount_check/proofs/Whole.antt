@@ -1,9 +1,9 @@
 -- The pass over the rows: what ends it, one row further, and what it shows at the end. Assumes nothing.
-use mathlib.Core.Path.{_≡_, refl, sym, ap, _∙_}
+use mathlib.Core.Path.{_≡_, refl, sym, _∙_}
 use mathlib.Core.Logic.{_≢_, by-cases, ⊎-elim}
-use mathlib.Core.Bool.{Bool, true, false, _&&_, and-false}
+use mathlib.Core.Bool.{true, false, _&&_, and-false}
 use mathlib.Core.List.{List}
-use Prim.Native.Nat.{ℕ, zero, suc, _+_, _≤_, _<_}
+use Prim.Native.Nat.{ℕ, _+_, _≤_, _<_}
 use native.Mathlib.Nat.{not-suc-le-zero}
 use native.Mathlib.Decide.{ℕ-discrete}
 use native.Mathlib.Omega.{arith}
@@ -12,14 +12,17 @@ use lib.ListN.{length, getD, set, length-set}
 use lib.Seq.{getD-set-same, getD-set-other}
 use borrow.Author.Tests.{eq-eqb, ne-eqb}
 use Rattle.kinds.specs.Mount.{rows, tableLength}
-use Rattle.spec.specs.Count.{bit, sum, count, every}
+use Rattle.spec.specs.Count.{count, every}
 use Rattle.laws.proofs.Bytes.{lt-or-le}
-use Rattle.laws.proofs.Count.{by-bool, true-false, every-at, every-all, every-more, every-fails, sum-zero}
+use Rattle.laws.proofs.Count.{by-bool, true-false, count-one, every-at, every-more, every-fails}
+use Rattle.laws.proofs.Tests.{implies}
 use Rattle.laws.proofs.Unique.{one-passes}
 use Rattle.mount_spec.specs.Table.{Table, rowAt, isUsedRow, hasPair, goodRow, isOnlyPair, passesTable}
+use Rattle.mount_laws.proofs.Checked.{passes-table}
+use Rattle.mount_laws.proofs.Pairs.{pair-has}
 use Rattle.mount_check.specs.Digest.{digest}
 use Rattle.mount_check.specs.Rows.{isSamePair, IsNew, RowsPass, Tells}
-use Rattle.mount_check.proofs.Same.{UsedRow, alike, used-row, same-self, same-back, same-digest}
+use Rattle.mount_check.proofs.Same.{UsedRow, used-row, same-self, same-back, same-digest}
 
 -- ---- what a part of the check tells
 pub tells-true : {t : Table} {facts : Type 0} → facts → Tells true t facts
@@ -88,25 +91,18 @@ module _ (t : Table) where
     pub other-digest : n < rows → UsedRow t n → (own q : ℕ) → own ≡ digest t n → q < n → (getD digests q 0 ≡ own → ⊥) → isSamePair t n q ≡ false
     other-digest l w own q o h d =
         by-bool (isSamePair t n q)
-        (λ e. let u = alike t n q e .used in absurd (d (a .digested q h u ∙ same-digest t n q w (used-before (omega arith) q h u) e ∙ sym o)))
+        (λ e. let u = pair-has t _ _ q e .used in absurd (d (a .digested q h u ∙ same-digest t n q w (used-before (omega arith) q h u) e ∙ sym o)))
         (λ e. e)
 
 -- ---- every pair stands once
-count-one : (p : ℕ → Bool) (n r : ℕ) → r < n → p r ≡ true → ((q : ℕ) → q < n → q ≢ r → p q ≡ false) → count n p ≡ 1
-unfolding sum
-count-one p zero r l e f = absurd (not-suc-le-zero l)
-count-one p (suc n) r l e f =
-    by-cases (ℕ-discrete r n)
-    (λ (x : r ≡ n). let a = sum-zero n (λ i. bit (p i)) (λ i h. ap bit (f i (omega arith) (λ y. absurd (omega arith)))) in
-    let b = ap bit (rw x at e) in omega arith)
-    (λ (x : r ≢ n). let a = count-one p n r (omega arith) e (λ q h d. f q (omega arith) d) in
-    let b = ap bit (f n (omega arith) (λ y. x (sym y))) in omega arith)
-
 pub rows-pass : (t : Table) (digests : List ℕ) → RowsPass t rows digests → length t ≡ tableLength → passesTable t ≡ true
-unfolding passesTable isOnlyPair
+unfolding isOnlyPair
 rows-pass t digests a long =
-    rw (eq-eqb (length t) tableLength long, a .good)
-    (every-all (isOnlyPair t) rows (λ r l. by-bool (isUsedRow t r) (λ u. rw (u, one r l u)) (λ u. rw u)))
+    passes-table t (record {
+      long = long;
+      good = λ r l. every-at (goodRow t) rows r (a .good) l;
+      only = λ r l. implies (isUsedRow t r) _ (one r l);
+    })
   where
     well : (r : ℕ) → r < rows → isUsedRow t r ≡ true → UsedRow t r
     well = used-before t rows digests a long (omega arith)
@@ -115,7 +111,7 @@ rows-pass t digests a long =
     no-other r q l h u d =
         ⊎-elim (λ (k : q < r). a .new r l u q k)
         (λ (k : r ≤ q). by-bool (isSamePair t r q)
-        (λ e. true-false (sym (same-back t r q (well r l u) e) ∙ a .new q h (alike t r q e .used) r (omega arith)))
+        (λ e. true-false (sym (same-back t r q (well r l u) e) ∙ a .new q h (pair-has t _ _ q e .used) r (omega arith)))
         (λ e. e))
         (lt-or-le q r)
 

@@ -5,7 +5,7 @@ ghost use Prim.Native.Nat.{_+_, _*_, _≤_, _<_};
 ghost use lib.ListN.{length};
 ghost use Rattle.kinds.specs.Mount.{rows, tableLength};
 ghost use Rattle.mount_spec.specs.Table.{pathLength, isUsedRow, goodRow, goodUsedRow, passesTable};
-ghost use Rattle.mount_check.specs.Digest.{joinedWords, digest};
+ghost use Rattle.mount_check.specs.Digest.{summed, digest};
 ghost use Rattle.mount_check.specs.Rows.{isSamePair, IsNew, RowsPass, Tells};
 use kinds::mount::Row;
 use kinds::mount::RowNumber;
@@ -41,23 +41,35 @@ fn good_row(table: &[u8], r: RowNumber, n: usize) -> bool
     ensures { λ t. ⌜ t ≡ goodRow (now (table .entry)) (r .0) ⌝ }
 {
     if n == 0 {
-        return wire::is_zero(table, row_place(r), Row::BYTES);
+        let at = row_place(r);
+        if !wire::is_zero(table, at, Row::PATH) {
+            return false;
+        }
+        return wire::is_zero(table, at + Row::PATH, Row::MOST_PATH_BYTES);
     }
     good_used_row(table, r, n)
 }
 
-// The k words of eight bytes from `at`, joined one after the other.
-fn join_words(table: &[u8], at: usize, k: usize) -> usize
-    requires { ⌜ at + 8 * k ≤ length (now table) ⌝ }
-    ensures { λ d. ⌜ d ≡ joinedWords (now (table .entry)) at k ⌝ }
+// k groups of 32 bytes from `at`: the words of eight bytes at each of the four places of a group added up, wrapping, and the four sums joined. The
+// compiler makes vector instructions of the loop.
+fn sum_words(table: &[u8], at: usize, k: usize) -> usize
+    requires { ⌜ at + 32 * k ≤ length (now table) ⌝ }
+    ensures { λ d. ⌜ d ≡ summed (now (table .entry)) at k ⌝ }
 {
-    let mut sum = 0;
+    let mut a = 0;
+    let mut b = 0;
+    let mut c = 0;
+    let mut d = 0;
     let mut i = 0;
     while i < k {
-        sum = join(sum, word_at(table, at + 8 * i));
+        let from = at + 32 * i;
+        a = std::num::wrapping_add_usize(a, word_at(table, from));
+        b = std::num::wrapping_add_usize(b, word_at(table, from + 8));
+        c = std::num::wrapping_add_usize(c, word_at(table, from + 16));
+        d = std::num::wrapping_add_usize(d, word_at(table, from + 24));
         i += 1;
     }
-    sum
+    join(join(join(a, b), c), d)
 }
 
 // Whether row q has the host and the path of row r, which is used and passes by itself.
@@ -122,7 +134,7 @@ fn row_passes(table: &[u8], r: RowNumber, digests: &mut [usize; Row::COUNT]) -> 
     if n == 0 {
         return true;
     }
-    let own = join_words(table, row_place(r) + Row::PATH, (n + 7) / 8);
+    let own = sum_words(table, row_place(r) + Row::PATH, (n + 31) / 32);
     if !is_new_pair(table, r, own, digests) {
         return false;
     }

@@ -12,23 +12,19 @@ use lib.ListN.{length}
 use borrow.Author.Tests.{eqb-true, eq-eqb, not-true}
 use Rattle.kinds.specs.Mount.{rows, mostPathBytes}
 use Rattle.kinds.specs.Numbers.{SERVERFAULT}
-use Rattle.spec.specs.Checked.{refused, passed}
+use Rattle.spec.specs.Checked.{passed}
 use Rattle.mount_spec.specs.Path.{startsWithSlash}
 use Rattle.mount_spec.specs.Table.{Table, Row, pathLength, rowAt, putRow, freeRow, isUsedRow, isOfHost, hasPair, findPair, availableRow, taking, adding}
 use Rattle.mount_spec.specs.Table.{addPair, striking, removePair, strikeRow, strikeRows, removeHost}
 use Rattle.laws.proofs.Count.{true-false, by-bool, and-both, lowest-passes, lowest-none}
+use Rattle.laws.proofs.Passed.{refused-passed, same-passed}
 use Rattle.laws.proofs.Tests.{and-true, true-nonzero}
+use Rattle.mount_laws.proofs.Good.{row-short}
+use Rattle.mount_laws.proofs.Puts.{SameRow, put-length, put-here, put-other}
+use Rattle.mount_laws.proofs.Rows.{FitsRow, slash-long, has-length, has-row, has-good, free-good}
 use Rattle.mount_history.specs.Told.{pairOf}
 use Rattle.mount_history.specs.Statement.{HoldsPair}
-use Rattle.mount_history.proofs.Rows.{FitsRow, SameRow, slash-long, has-length, has-row, has-good, free-good, put-length, put-here, put-other}
-use Rattle.mount_history.proofs.Tables.{GoodTable, row-short, pair-held, held-pair}
-
--- what passes is one value, and is not refused
-refused-passed : {A : Type 0} (status : ℕ) (a : A) → refused status ≡ passed a → ⊥
-refused-passed status a e = let z : _≡_ {A = ℕ} 0 1 = cc in omega arith
-
-pub same-passed : {A : Type 0} (a b : A) → passed a ≡ passed b → a ≡ b
-same-passed a b e = cc
+use Rattle.mount_history.proofs.Tables.{GoodTable, pair-held, held-pair}
 
 -- a row of the table has the pair
 abbrev pub Stored : Table → Row → Type 0

@@ -1,5 +1,4 @@
 -- The proofs of the statements on the mount table and on mounted handles.
-pub mod Rows
 pub mod Tables
 pub mod Edits
 pub mod Lists

@@ -28,7 +28,7 @@ use Rattle.mount_spec.specs.Table.{Table}
 use Rattle.mount_history.specs.Run.{mountReplyTo}
 use Rattle.mount_history.specs.Statement.{MountsDirectory, MountsLine}
 use Rattle.mount_history.proofs.Outcomes.{outcomes}
-use Rattle.mount_history.proofs.Points.{mount-fails, mount-passed, point-directory}
+use Rattle.mount_history.proofs.Points.{mount-sure, mount-passed, point-directory}
 use Rattle.mount_history.proofs.Replies.{reply-is, none-ok, failed-silent, mounted-handle}
 
 -- the handle of a reply is that of a directory of the store
@@ -48,7 +48,7 @@ module _ (s : Store) (good : Valid s) (t : Table) (host : ℕ) (call : List ℕ)
       → OfDirectory s (replied (settleMount t c))
   unfolding replied
   mount-leads path (refused status) e ok =
-      let (l, h) = mount-fails s t host path status e in true-false (sym ok ∙ failed-silent s t xid status l h)
+      let (l, h) = mount-sure s t host path status e in true-false (sym ok ∙ failed-silent s t xid status l h)
   mount-leads path (passed p) e ok =
       let (l, d) = point-directory s good path (p .0) (mount-passed s t host path p e .0) in (p .0, l, d, mounted-handle s (p .1) xid (p .0))
 

@@ -24,7 +24,7 @@ use Rattle.mount_history.proofs.Edits.{Stored, Added, Thinned, added-pa
 use Rattle.mount_history.proofs.Lists.{add-back, add-on, add-new, strike-back, strike-on, host-back, host-on}
 use Rattle.mount_history.proofs.Outcomes.{outcomes}
 use Rattle.mount_history.proofs.Paths.{ShortPath, cut-short}
-use Rattle.mount_history.proofs.Points.{mount-fails, mount-passed, point-slash}
+use Rattle.mount_history.proofs.Points.{mount-sure, mount-passed, point-slash}
 use Rattle.mount_history.proofs.Replies.{reply-is, none-ok, none-answered, answered, failed-silent, mounted-ok}
 use Rattle.mount_history.proofs.Tables.{GoodTable}
 
@@ -72,7 +72,7 @@ module _ (s : Store) (t : Table) (g : GoodTable t) (host : ℕ) (small : host < 
       → After (settleMount t c) (Mount.Mnt path)
   unfolding After tellAsked
   mounts path short (refused status) e =
-      let (l, h) = mount-fails s t host (cut call path) status e in
+      let (l, h) = mount-sure s t host (cut call path) status e in
       record {
         good = g;
         told = λ m k. subst (λ (b : Bool). Agrees t (cond b (addTold host (cut call path) m) m)) (sym (failed-silent s t xid status l h)) k;

@@ -1,7 +1,7 @@
 -- Examples of the entry of MOUNT: its answers in order, the outcomes of RPC and each procedure's whole outcome, by computation.
-use Prim.Native.Nat.{ℕ, _+_}
+use Prim.Native.Nat.{ℕ}
 use lib.ListN.{replicate}
-use mathlib.Core.List.{List, [], _∷_, _++_}
+use mathlib.Core.List.{List, [], _∷_}
 use mathlib.Core.Path.{_≡_, refl}
 use Rattle.spec.specs.Bytes.{zeros, words}
 use Rattle.spec.specs.Image.{Store}
@@ -83,6 +83,8 @@ pub record Lists : Type 0 where
       ≡ answeredBy (mountAnswered (words (1 ∷ 9 ∷ 0x3139322E ∷ 0x302E322E ∷ 0x31000000 ∷ 1 ∷ 0x2F000000 ∷ 1 ∷ 9 ∷ 0x31302E30 ∷ 0x2E302E31 ∷ 0x30000000
       ∷ 2 ∷ 0x2F610000 ∷ 0 ∷ []))) (table3 (row desk top) (zeros 1032) (row gate pathA))
   pub dumps-none : heard (mountCall 2 []) empty ≡ answeredBy (mountAnswered (words (0 ∷ []))) empty
+  -- "EXPORT: words 1, 1, 2F000000, 0, 0."
+  pub lists-exports : heard (mountCall 5 []) empty ≡ answeredBy (mountAnswered (words (1 ∷ 1 ∷ 0x2F000000 ∷ 0 ∷ 0 ∷ []))) empty
 
 pub lists : Lists
 unfolding mounting
@@ -90,6 +92,7 @@ lists =
     record {
       dumps = refl;
       dumps-none = refl;
+      lists-exports = refl;
     }
 
 pub record Unmounts : Type 0 where
@@ -98,8 +101,6 @@ pub record Unmounts : Type 0 where
   pub unmounts-a : sent (umntCall pathA) (table2 (row desk pathA) (row gate pathA)) ≡ mountReplied (mountAnswered []) (table2 (zeros 1032) (row gate pathA))
   pub unmounts-all : heard (mountCall 4 []) (table3 (row desk top) (row gate top) (row desk pathA))
       ≡ answeredBy (mountAnswered []) (table3 (zeros 1032) (row gate top) (zeros 1032))
-  -- "EXPORT: words 1, 1, 2F000000, 0, 0."
-  pub lists-exports : heard (mountCall 5 []) empty ≡ answeredBy (mountAnswered (words (1 ∷ 1 ∷ 0x2F000000 ∷ 0 ∷ 0 ∷ []))) empty
 
 pub unmounting : Unmounts
 unfolding mounting
@@ -108,5 +109,4 @@ unmounting =
       unmounts = refl;
       unmounts-a = refl;
       unmounts-all = refl;
-      lists-exports = refl;
     }

@@ -13,10 +13,16 @@ unfoldable pub dirpath : Reader Part
 dirpath = opaque mostPathBytes
 
 -- a path, and then the end of the call
-abbrev pub ofPath : (Part → MountArguments) → Reader MountArguments
-ofPath f = do
+abbrev pub pathAlone : Reader Part
+pathAlone = do
   path ← dirpath
   end
+  done path
+
+-- the arguments that are a path
+abbrev pub ofPath : (Part → MountArguments) → Reader MountArguments
+ofPath f = do
+  path ← pathAlone
   done (f path)
 
 -- "The void procedures with bytes left over: GARBAGE_ARGS."

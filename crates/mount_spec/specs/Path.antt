@@ -30,11 +30,11 @@ split first (x ∷ xs) = cond (eqb x slash) (before first (split [] xs)) (split 
 unfoldable pub components : List ℕ → List (List ℕ)
 components path = split [] path
 
--- a component in object o: "NOTDIR of the object so far, then LOOKUP's name checks, "." and "..", NOENT"
+-- a component in object d: "NOTDIR of the object so far, then LOOKUP's name checks, "." and "..", NOENT"
 unfoldable pub enter : Store → ℕ → List ℕ → Checked ℕ
-enter s o text = do
-  refuseIf (not (isDirectory s o)) NOTDIR
-  checkIn s o text
+enter s d text = do
+  refuseIf (not (isDirectory s d)) NOTDIR
+  checkIn s d text
 
 -- "resolved component by component with LOOKUP's rules ..; the first failing component decides the status"
 unfoldable pub walk : Store → ℕ → List (List ℕ) → Checked ℕ

@@ -50,6 +50,10 @@ inWords xs w = let e = sym (words-length xs) ∙ w .size in rw e w
 pub sized : {n : ℕ} {r r₁ : List ℕ} {at q : ℕ} (x : List ℕ) → Wrote n r r₁ at q x → Wrote (length x) r r₁ at q x
 sized x w = rw (w .size) w
 
+-- a write at the start is as long as the place after it
+pub wrote-exact : {n m : ℕ} {r r₁ b : List ℕ} → Wrote m r r₁ 0 n b → Wrote n r r₁ 0 n b
+wrote-exact {n} {m} w = let e : m ≡ n = omega arith in record { size = w .size ∙ e; fits = omega arith; place = omega arith; bytes = w .bytes }
+
 -- one word more of a list of words
 pub wrote-word : (ws : List ℕ) (i : ℕ) {r r₁ r₂ : List ℕ} {at p q : ℕ} → i < length ws
     → Wrote (4 * i) r r₁ at p (words (take i ws)) → Wrote 4 r₁ r₂ p q (words (getD ws i 0 ∷ []))

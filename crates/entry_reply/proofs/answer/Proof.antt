@@ -1,4 +1,6 @@
-use Rattle.entry_reply.proofs.Sent.{sends-kept, judged-runs, judged-stops, runs-few}
+use Rattle.spec.specs.Rpc.{nfs}
+use Rattle.rpc.proofs.Stopped.{judged-runs, judged-stops}
+use Rattle.entry_reply.proofs.Sent.{sends-kept, runs-few}
 use borrow.Author.Needs.{needs}
 use Rattle.entry_reply.proofs.answer.Statement.{statement}
 use Rattle.entry_reply.proofs.answer.Tie as tie
@@ -20,7 +22,7 @@ perform-requires c κs =
         st .pre .1 .0,
         (
           runs-few (st .args .h)
-              (judged-runs _ (st .args .h) _ (c .before .before .before .before .judge .ensures) (c .before .before .before .before .before .nfs .ensures)
+              (judged-runs _ nfs (st .args .h) _ (c .before .before .before .before .judge .ensures) (c .before .before .before .before .before .nfs .ensures)
               (c .before .before .enum-told .given .1)),
           st .pre .1 .1,
         ),
@@ -42,7 +44,7 @@ same-length-2 c = search needs
 returns : tie.Need-returns
 returns c =
     let h = c .before .before .before .before .before .before .before .before .before .before .before .before .before .before .args .h in
-    rw (judged-runs _ h _ (c .before .before .before .before .before .before .before .before .before .judge .ensures)
+    rw (judged-runs _ nfs h _ (c .before .before .before .before .before .before .before .before .before .judge .ensures)
     (c .before .before .before .before .before .before .before .before .before .before .nfs .ensures)
     (c .before .before .before .before .before .before .before .enum-told .given .1)) (c .before .before .before .before .perform .ensures)
 
@@ -52,7 +54,7 @@ same-length-3 c = search needs
 returns-2 : tie.Need-returns-2
 returns-2 c =
     let h = c .before .before .before .before .before .before .before .before .before .before .before .before .args .h in
-    rw (judged-stops _ h _ _ (c .before .before .before .before .before .before .before .judge .ensures)
+    rw (judged-stops _ nfs h _ _ (c .before .before .before .before .before .before .before .judge .ensures)
     (c .before .before .before .before .before .before .before .before .nfs .ensures)
     (c .before .before .before .before .before .judged .given .1)) (sends-kept _ _ (c .before .before .stop .ensures))
 

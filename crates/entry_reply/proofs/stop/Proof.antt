@@ -1,7 +1,7 @@
 use native.Mathlib.Omega.{arith}
+use Rattle.xdr.proofs.Wrote.{wrote-exact}
 use Rattle.rpc.specs.Meaning.{programOf}
-use Rattle.entry_reply.proofs.Sent.{wrote-exact}
-use Rattle.entry_reply.proofs.Short.{stopped-short}
+use Rattle.rpc.proofs.Stopped.{stopped-short}
 use borrow.Author.Needs.{needs}
 use Rattle.entry_reply.proofs.stop.Statement.{statement}
 use Rattle.entry_reply.proofs.stop.Tie as tie

@@ -28,18 +28,18 @@ returns-2 c =
 row-place-requires : tie.Need-row-place-requires
 row-place-requires c κs = search needs
 
-add-join-words : tie.Need-add-join-words
-add-join-words c = search needs
+add-sum-words : tie.Need-add-sum-words
+add-sum-words c = search needs
 
-add-join-words-2 : tie.Need-add-join-words-2
-add-join-words-2 c =
-    let short = short-by _ _ _ (c .before .before .before .before .path-length .ensures) (c .before .if2 .left)
+add-sum-words-2 : tie.Need-add-sum-words-2
+add-sum-words-2 c =
+    let short = short-by _ _ _ (c .before .before .before .before .path-length .ensures)
     (sym (c .before .before .before .good-row .ensures) ∙ not-false _ (c .before .before .if1 .left)) in
     search (needs, short)
 
-join-words-requires : tie.Need-join-words-requires
-join-words-requires c κs =
-    let short = short-by _ _ _ (c .before .before .before .before .path-length .ensures) (c .before .if2 .left)
+sum-words-requires : tie.Need-sum-words-requires
+sum-words-requires c κs =
+    let short = short-by _ _ _ (c .before .before .before .before .path-length .ensures)
     (sym (c .before .before .before .good-row .ensures) ∙ not-false _ (c .before .before .if1 .left)) in
     omega (arith, short, c .before .before .before .before .before .before .pre .0, c .row-place .ensures .1)
 
@@ -49,7 +49,7 @@ is-new-pair-requires c κs =
     let e = c .before .before .before .before .before .before .path-length .ensures in
     let used = used-by _ _ _ e (c .before .before .before .if2 .left) in
     let good = sym (c .before .before .before .before .before .good-row .ensures) ∙ not-false _ (c .before .before .before .before .if1 .left) in
-    let own = digest-by _ _ _ e _ _ (c .before .before .row-place .ensures .0) (c .before .join-words .ensures) in
+    let own = digest-by _ _ _ e _ _ (c .before .before .row-place .ensures .0) (c .before .sum-words .ensures) in
     (st .pre .0, (st .pre .1 .0, (used, (good, (own, st .pre .1 .1)))))
 
 returns-3 : tie.Need-returns-3
@@ -66,10 +66,10 @@ returns-4 c =
     let after-join = c .before .before .before in
     let after-good = after-join .before .before .before .before in
     let st = after-good .before .before .before in
-    tells-true (rows-used (st .args .table .now) (st .args .r .0) (after-join .join-words .result) (st .args .digests .now) (st .pre .1 .0) (st .pre .1 .1)
+    tells-true (rows-used (st .args .table .now) (st .args .r .0) (after-join .sum-words .result) (st .args .digests .now) (st .pre .1 .0) (st .pre .1 .1)
     (sym (after-good .good-row .ensures) ∙ not-false _ (after-join .before .before .before .if1 .left))
     (c .before .is-new-pair .ensures .holds (not-false _ (c .if3 .left)))
-    (digest-by _ _ _ (after-good .before .path-length .ensures) _ _ (after-join .before .row-place .ensures .0) (after-join .join-words .ensures)))
+    (digest-by _ _ _ (after-good .before .path-length .ensures) _ _ (after-join .before .row-place .ensures .0) (after-join .sum-words .ensures)))
 
 pub row-passes-spec : {M : Type 1} → statement M
 row-passes-spec =
@@ -80,9 +80,9 @@ row-passes-spec =
     returns
     returns-2
     row-place-requires
-    add-join-words
-    add-join-words-2
-    join-words-requires
+    add-sum-words
+    add-sum-words-2
+    sum-words-requires
     is-new-pair-requires
     returns-3
     mul-digests

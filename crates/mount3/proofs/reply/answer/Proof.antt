@@ -1,5 +1,7 @@
 use borrow.Author.Needs.{needs}
-use Rattle.mount3.proofs.Sent.{sends-kept, judged-runs, judged-stops}
+use Rattle.rpc.proofs.Stopped.{judged-runs, judged-stops}
+use Rattle.mount_spec.specs.Serve.{mount3}
+use Rattle.mount3.proofs.Sent.{sends-kept}
 use Rattle.mount3.proofs.reply.answer.Statement.{statement}
 use Rattle.mount3.proofs.reply.answer.Tie as tie
 
@@ -32,7 +34,7 @@ returns c =
     let told = c .before .before .before .before .before .before .before in
     let judging = told .before .before in
     let h = judging .before .before .before .before .before .before .args .h in
-    rw (judged-runs _ h _ (judging .judge .ensures) (judging .before .program .ensures) (told .enum-told .given .1))
+    rw (judged-runs _ mount3 h _ (judging .judge .ensures) (judging .before .program .ensures) (told .enum-told .given .1))
     (c .before .before .before .before .perform .ensures)
 
 same-length-3 : tie.Need-same-length-3
@@ -43,7 +45,7 @@ returns-2 c =
     let met = c .before .before .before .before .before in
     let judging = met .before .before in
     let h = judging .before .before .before .before .before .before .args .h in
-    rw (judged-stops _ h _ _ (judging .judge .ensures) (judging .before .program .ensures) (met .judged .given .1))
+    rw (judged-stops _ mount3 h _ _ (judging .judge .ensures) (judging .before .program .ensures) (met .judged .given .1))
     (sends-kept _ _ (c .before .before .stop .ensures))
 
 pub answer-spec : {M : Type 1} → statement M

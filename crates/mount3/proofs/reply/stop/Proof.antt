@@ -1,8 +1,8 @@
 use native.Mathlib.Omega.{arith}
 use borrow.Author.Needs.{needs}
+use Rattle.xdr.proofs.Wrote.{wrote-exact}
 use Rattle.rpc.specs.Meaning.{programOf}
-use Rattle.mount3.proofs.Sent.{wrote-exact}
-use Rattle.mount3.proofs.Short.{stopped-short}
+use Rattle.rpc.proofs.Stopped.{stopped-short}
 use Rattle.mount3.proofs.reply.stop.Statement.{statement}
 use Rattle.mount3.proofs.reply.stop.Tie as tie
 

@@ -1,0 +1,1 @@
+// The laws of the specification of MOUNT, in proofs/. There is no code here.
