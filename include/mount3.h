@@ -59,8 +59,9 @@
  *
  * NOTES
  *
- * Memory, time, threads, pointers and platform: as nfs3.h says of its functions. A call checks the whole store and the whole table first: some 10
- * microseconds for the largest. One table is used by one call at a time; the store may be read by others meanwhile, but not changed.
+ * Memory, time, threads, pointers and platform: as nfs3.h says of its functions. A call checks the whole store and the whole table first: a few
+ * microseconds for the largest, and a tenth of a millisecond for a table whose paths were chosen to make its check slow. One table is used by one call
+ * at a time; the store may be read by others meanwhile, but not changed.
  *
  * Clients. Linux: mount -t nfs -o vers=3,proto=tcp,mountproto=tcp,port=P,mountport=P,nolock HOST:/path; there is no lock manager, so nolock is needed.
  * demo/kernel_client does so with Debian's kernel. libnfs (version 4) does not work with this server: it refuses any server that reads fewer than
