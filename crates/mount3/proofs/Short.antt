@@ -4,9 +4,9 @@ use mathlib.Core.Bool.{Bool, true, false, cond}
 use mathlib.Core.List.{List, []}
 use native.Mathlib.Omega.{arith}
 use lib.Dec.{ltb, lit≤}
-use lib.ListN.{length, length-append, length-take}
-use Rattle.kinds.specs.Mount.{rows, mostPathBytes, leastMountReplyBytes}
-use Rattle.spec.specs.Bytes.{part, bytesOf, words, opaqueBytes}
+use lib.ListN.{length, length-append}
+use Rattle.kinds.specs.Mount.{rows, mostPathBytes, pathOffset, leastMountReplyBytes}
+use Rattle.spec.specs.Bytes.{bytesOf, words, opaqueBytes}
 use Rattle.spec.specs.Handles.{handleOf}
 use Rattle.spec.specs.Image.{Store}
 use Rattle.spec.specs.Rpc.{SUCCESS, accepted}
@@ -14,7 +14,8 @@ use Rattle.laws.proofs.Count.{by-bool}
 use Rattle.laws.proofs.Words.{words-length, opaque-length}
 use Rattle.rpc.proofs.Stopped.{accepted-length}
 use Rattle.mount_spec.specs.Replies.{decimal, dotted, mountBytes, mountsBytes, mountResultBytes}
-use Rattle.mount_spec.specs.Table.{Table, pathLength, rowAt, isUsedRow}
+use Rattle.mount_spec.specs.Table.{Table, rowStart, pathLength, rowAt, isUsedRow}
+use Rattle.mount_laws.proofs.Paths.{part-most}
 use Rattle.mount_results.specs.Meaning.{resultOf}
 use Rattle.mount_results.specs.declared.MountReply.{MountReply}
 use Rattle.mount_results.specs.declared.MountReply.the-variants as MountReply
@@ -44,8 +45,8 @@ opaque-short xs k h = rw (opaque-length xs) (omega arith)
 
 -- the path of a row, and the row in the list
 path-short : (t : Table) (r : ℕ) → pathLength t r ≤ mostPathBytes → length (rowAt t r .path) ≤ mostPathBytes
-unfolding rowAt part
-path-short t r h = simp length-take (omega arith)
+unfolding rowAt
+path-short t r h = omega (arith, part-most t (rowStart r + pathOffset) (pathLength t r))
 
 mount-short : (t : Table) (r : ℕ) → pathLength t r ≤ mostPathBytes → length (mountBytes t r) ≤ mostMountBytes
 unfolding mountBytes

@@ -1,10 +1,5 @@
--- What a procedure of MOUNT asks of its arguments, and what it leaves.
-use Prim.Native.Nat.{ℕ, _+_, _≤_}
+-- What a procedure of MOUNT leaves.
 use mathlib.Core.Path.{_≡_}
-use Rattle.kinds.specs.Mount.{mostPathBytes}
-use Rattle.kinds.specs.declared.call.Part.{Part}
-use Rattle.kinds.specs.declared.mount.MountArguments.{MountArguments}
-use Rattle.kinds.specs.declared.mount.MountArguments.the-variants as Mount
 use Rattle.spec.specs.Image.{Store}
 use Rattle.results.specs.Writable.{Showable}
 use Rattle.mount_spec.specs.Procedures.{MountDone}
@@ -17,19 +12,6 @@ use Rattle.mount_results.specs.declared.MountReply.the-variants as MountReply
 pub record Acts (d : MountDone) (r : MountReply) (t : Table) : Type 0 where
   pub answers : resultOf r ≡ d .result
   pub leaves : t ≡ d .table
-
--- a path lies within a call of n bytes, and is short
-pub record ShortPath (n : ℕ) (path : Part) : Type 0 where
-  pub inside : path .start + path .length ≤ n
-  pub short : path .length ≤ mostPathBytes
-
-abbrev pub PathWithin : ℕ → MountArguments → Type 0
-PathWithin n Mount.Null = Unit {0}
-PathWithin n (Mount.Mnt path) = ShortPath n path
-PathWithin n Mount.Dump = Unit {0}
-PathWithin n (Mount.Umnt path) = ShortPath n path
-PathWithin n Mount.Umntall = Unit {0}
-PathWithin n Mount.Export = Unit {0}
 
 -- a directory that was mounted can be shown
 abbrev pub Mountable : Store → MountReply → Type 0

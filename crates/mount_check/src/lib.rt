@@ -50,8 +50,8 @@ fn good_row(table: &[u8], r: RowNumber, n: usize) -> bool
     good_used_row(table, r, n)
 }
 
-// k groups of 32 bytes from `at`: the words of eight bytes at each of the four places of a group added up, wrapping, and the four sums joined. The
-// compiler makes vector instructions of the loop.
+// k groups of 32 bytes from `at`: the words of eight bytes at each of the four places of a group added up, wrapping, and the four sums joined. No
+// sum needs another one before the end, and the compiler makes one addition of each word.
 fn sum_words(table: &[u8], at: usize, k: usize) -> usize
     requires { ⌜ at + 32 * k ≤ length (now table) ⌝ }
     ensures { λ d. ⌜ d ≡ summed (now (table .entry)) at k ⌝ }

@@ -4,7 +4,6 @@ pub mod Edits
 pub mod Lists
 pub mod Replies
 pub mod Points
-pub mod Paths
 pub mod Outcomes
 pub mod Steps
 pub mod Kept

@@ -24,7 +24,7 @@ use Rattle.mount_spec.specs.Procedures.{actMount}
 use Rattle.mount_spec.specs.Serve.{mount3, MountOutcome, MountSent, finishMount, performMount, answerMount, completeMount, mountOutcome, serveMount}
 use Rattle.mount_spec.specs.Table.{Table, passesTable}
 use Rattle.mount_history.specs.Told.{mountGot, mountJudged, mountHeaded, askedMount}
-use Rattle.mount_history.proofs.Paths.{ShortPath, short-path}
+use Rattle.mount_laws.proofs.Paths.{PathWithin, arguments-within}
 
 -- a test with its refusal, and the rest
 test-cases : {B : Type 0} (Q : Checked B → Type 0) (t : Bool) (n : ℕ) (k : Checked B) → Q (refused n) → (t ≡ false → Q k) → Q (bind (refuseIf t n) (λ _. k))
@@ -37,9 +37,9 @@ module _ (P : MountOutcome → Option MountArguments → Type 0) (call : List �
     (rpc : (reply : List ℕ) → P (mountOutcome space t (passed (record { reply = reply; table = t }))) none) where
   -- of a procedure's
   Ran : Type 0
-  Ran = (h : CallHeader) (a : MountArguments) → ShortPath a → P (mountOutcome space t (passed (finishMount s h (actMount s t host call a)))) (some a)
+  Ran = (h : CallHeader) (a : MountArguments) → PathWithin (length call) a → P (mountOutcome space t (passed (finishMount s h (actMount s t host call a)))) (some a)
 
-  performed : Ran → (h : CallHeader) (r : Read MountArguments) → ((a : MountArguments) (next : ℕ) → r ≡ got a next → ShortPath a)
+  performed : Ran → (h : CallHeader) (r : Read MountArguments) → ((a : MountArguments) (next : ℕ) → r ≡ got a next → PathWithin (length call) a)
       → P (mountOutcome space t (passed (performMount s t host call h r))) (mountGot r)
   unfolding Ran
   performed ran h (bad p) f = rpc _
@@ -48,14 +48,14 @@ module _ (P : MountOutcome → Option MountArguments → Type 0) (call : List �
   judged : Ran → (h : CallHeader) (at : ℕ) (c : Checked (Unit {0}))
       → P (mountOutcome space t (passed (answerMount s t host call h at c))) (mountJudged call h at c)
   judged ran h at (refused stat) = rpc _
-  judged ran h at (passed _) = performed ran h (mountArguments (h .procedure) call at) (short-path (h .procedure) call at)
+  judged ran h at (passed _) = performed ran h (mountArguments (h .procedure) call at) (arguments-within call (h .procedure) at)
 
   headed : Ran → (r : Read Header) → P (mountOutcome space t (completeMount s t host call r)) (mountHeaded call r)
   headed ran (bad p) = refusal 5 _
   headed ran (got (Header.OtherVersion xid) at) = rpc _
   headed ran (got (Header.Call h) at) = judged ran h at (judge mount3 h)
 
-  pub outcomes : (passes s ≡ true → passesTable t ≡ true → (h : CallHeader) (a : MountArguments) → ShortPath a
+  pub outcomes : (passes s ≡ true → passesTable t ≡ true → (h : CallHeader) (a : MountArguments) → PathWithin (length call) a
       → P (mountOutcome space t (passed (finishMount s h (actMount s t host call a)))) (some a))
       → P (serveMount call s t space host) (askedMount call)
   unfolding serveMount askedMount Ran

@@ -5,7 +5,8 @@ use mathlib.Core.Bool.{Bool, cond}
 use mathlib.Core.Option.{Option, some, none}
 use mathlib.Core.List.{List, []}
 use Prim.Native.Nat.{ℕ, _<_}
-use lib.ListN.{take}
+use native.Mathlib.Omega.{arith}
+use lib.ListN.{length, take}
 use Rattle.kinds.specs.declared.call.Part.{Part}
 use Rattle.kinds.specs.declared.mount.MountArguments.{MountArguments}
 use Rattle.kinds.specs.declared.mount.MountArguments.the-variants as Mount
@@ -23,7 +24,7 @@ use Rattle.mount_history.specs.Run.{MountRequest, mountOutcomeOf}
 use Rattle.mount_history.proofs.Edits.{Stored, Added, Thinned, added-pair, removed-pair, removed-host}
 use Rattle.mount_history.proofs.Lists.{add-back, add-on, add-new, strike-back, strike-on, host-back, host-on}
 use Rattle.mount_history.proofs.Outcomes.{outcomes}
-use Rattle.mount_history.proofs.Paths.{ShortPath, cut-short}
+use Rattle.mount_laws.proofs.Paths.{ShortPath, PathWithin, part-most}
 use Rattle.mount_history.proofs.Points.{mount-sure, mount-passed, point-slash}
 use Rattle.mount_history.proofs.Replies.{reply-is, none-ok, none-answered, answered, failed-silent, mounted-ok}
 use Rattle.mount_history.proofs.Tables.{GoodTable}
@@ -68,7 +69,7 @@ module _ (s : Store) (t : Table) (g : GoodTable t) (host : ℕ) (small : host < 
   After : MountDone → MountArguments → Type 0
   After d a = Steps t (d .table) host call (accepted xid SUCCESS (mountResultBytes s (d .table) (d .result))) (some a)
 
-  mounts : (path : Part) → ShortPath (Mount.Mnt path) → (c : Checked (ℕ × Table)) → checkMount s t host (cut call path) ≡ c
+  mounts : (path : Part) → ShortPath (length call) path → (c : Checked (ℕ × Table)) → checkMount s t host (cut call path) ≡ c
       → After (settleMount t c) (Mount.Mnt path)
   unfolding After tellAsked
   mounts path short (refused status) e =
@@ -79,14 +80,15 @@ module _ (s : Store) (t : Table) (g : GoodTable t) (host : ℕ) (small : host < 
       }
   mounts path short (passed p) e =
       let (a, b) = mount-passed s t host (cut call path) p e in
-      let d = added-pair t g host (cut call path) small (cut-short call path short) (point-slash s (cut call path) (p .0) a) (p .1) b in
+      let d = added-pair t g host (cut call path) small (omega (arith, part-most call (path .start) (path .length), short .short))
+      (point-slash s (cut call path) (p .0) a) (p .1) b in
       record {
         good = d .good;
         told = λ m k. subst (λ (x : Bool). Agrees (p .1) (cond x (addTold host (cut call path) m) m)) (sym (mounted-ok s (p .1) xid (p .0)))
             (added-agrees t (p .1) host (cut call path) m d k);
       }
 
-  acts : (a : MountArguments) → ShortPath a → After (actMount s t host call a) a
+  acts : (a : MountArguments) → PathWithin (length call) a → After (actMount s t host call a) a
   unfolding After tellAsked actMount mount
   acts Mount.Null short = record { good = g; told = λ m k. k }
   acts (Mount.Mnt path) short = mounts path short (checkMount s t host (cut call path)) refl

@@ -18,7 +18,7 @@ use Rattle.history.specs.Book.{isOk, foundHandle}
 use Rattle.history.specs.Run.{Request, AllLent, run}
 use Rattle.history.specs.Statement.{In, HasLine, formattedState}
 use Rattle.mount_spec.specs.Table.{Table, Row, rowAt, isUsedRow, passesTable}
-use Rattle.mount_history.specs.Told.{Pairs, pairOf, askedMount}
+use Rattle.mount_history.specs.Told.{pairOf, askedMount}
 use Rattle.mount_history.specs.Run.{MountRequest, AllHosts, mountOutcomeOf, mountReplyTo, MountState, mountRun, emptyState}
 
 -- row r is used, and has this pair

@@ -5,7 +5,7 @@ use mathlib.Core.List.{List, [], _∷_}
 use native.Mathlib.Omega.{arith}
 use lib.ListN.{length}
 use Rattle.spec.specs.Bytes.{part}
-use Rattle.spec.specs.Checked.{Checked, refused, passed, _>>=_}
+use Rattle.spec.specs.Checked.{Checked, passed, _>>=_}
 use Rattle.spec.specs.Image.{Store, objects}
 use Rattle.spec.specs.Handles.{checkName}
 use Rattle.spec.specs.Procedures.Names.{lookIn, checkIn}

@@ -1,7 +1,5 @@
-use mathlib.Core.Path.{_≡_, refl, sym, ap, _∙_}
-use Rattle.spec.specs.Procedures.{cut}
+use mathlib.Core.Path.{refl, sym}
 use Rattle.mount_spec.specs.Procedures.{checkMount, mount}
-use Rattle.mount_spec.specs.Table.{addPair}
 use borrow.Author.Needs.{needs}
 use Rattle.mount_act.proofs.mount.Statement.{statement}
 use Rattle.mount_act.proofs.mount.Tie as tie

@@ -1,7 +1,7 @@
-use mathlib.Core.Path.{_≡_, refl, sym, subst}
+use mathlib.Core.Path.{refl, subst}
 use lib.ListN.{length}
 use Rattle.mount_spec.specs.Procedures.{actMount}
-use Rattle.mount_act.specs.Acts.{PathWithin}
+use Rattle.mount_laws.proofs.Paths.{PathWithin}
 use borrow.Author.Needs.{needs}
 use Rattle.mount_act.proofs.run_mount.Statement.{statement}
 use Rattle.mount_act.proofs.run_mount.Tie as tie

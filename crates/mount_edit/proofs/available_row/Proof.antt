@@ -1,9 +1,8 @@
 use mathlib.Core.Option.{none}
-use mathlib.Core.Path.{_≡_, refl, sym, _∙_}
+use mathlib.Core.Path.{_≡_, refl, sym}
 use Prim.Native.Nat.{_-_, _≤_, zero-le}
 use native.Mathlib.Omega.{arith}
 use mathlib.Core.Bool.{not}
-use borrow.Author.Tests.{not-false}
 use Rattle.kinds.specs.Mount.{rows}
 use Rattle.spec.specs.Count.{lowest, passing}
 use Rattle.laws.proofs.Count.{lowest-more, lowest-hit}

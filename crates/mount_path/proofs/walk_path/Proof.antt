@@ -3,12 +3,8 @@ use Prim.Native.Nat.{ℕ, _+_, _-_, _≤_, _<_}
 use mathlib.Core.List.{List}
 use native.Mathlib.Omega.{arith}
 use Rattle.spec.specs.Bytes.{part}
-use Rattle.spec.specs.Checked.{Checked, _>>=_}
 use Rattle.spec.specs.Image.{objects}
-use Rattle.check_handles.specs.Meaning.{reachedOf}
-use Rattle.check_handles.specs.declared.handle.Reached.{Reached}
 use Rattle.mount_spec.specs.Path.{root, components, walk}
-use Rattle.mount_path.specs.Steps.{InStore}
 use Rattle.mount_path.proofs.Walks.{walk-step, walk-ended}
 use borrow.Author.Needs.{needs}
 use Rattle.mount_path.proofs.walk_path.Statement.{statement}

@@ -1,5 +1,4 @@
 use mathlib.Core.Path.{_≡_, refl}
-use mathlib.Core.List.{[]}
 use Rattle.spec.specs.Bytes.{bytesOf, zeros}
 use Rattle.mount_spec.specs.Table.{rowBytes, putRow, freeRow}
 use borrow.Author.Needs.{needs}
