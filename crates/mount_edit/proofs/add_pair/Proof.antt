@@ -30,7 +30,6 @@ available-row-requires c κs = search needs
 enum-known-free : tie.Need-enum-known-free
 enum-known-free c = search needs
 
--- /work/main/target/rlib/kinds.rlib/interface/lang/src/numbers.rt:22:34
 enum-told-3 : tie.Need-enum-told-3
 enum-told-3 c = search needs
 
