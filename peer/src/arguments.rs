@@ -45,7 +45,7 @@ impl SetTime {
         match reader.choice(2)? {
             0 => Some(SetTime::Keep),
             1 => Some(SetTime::ToClock),
-            _ => reader.fixed::<8>().map(|time| SetTime::To(*time)),
+            _ => reader.time().map(SetTime::To),
         }
     }
 

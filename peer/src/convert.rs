@@ -43,5 +43,5 @@ pub fn convert(old: &[u8], store: &mut [u8]) -> Answer {
         kept.copy_from_slice(old_record);
         new.fill(0);
     }
-    Answer::done(0)
+    Answer::DONE
 }

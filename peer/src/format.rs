@@ -41,5 +41,5 @@ pub fn format(
         put_word(store, root + time + 4, nanoseconds);
     }
     store[root + object_field::BLOCKS..root + object_field::VERIFIER].fill(0xFF);
-    Answer::done(0)
+    Answer::DONE
 }

@@ -2,8 +2,8 @@
 //!
 //! The caller owns the socket, the store and the mount table. It hands in the
 //! bytes of one RPC call, the store image, for MOUNT the table too, and a space
-//! for the reply, and gets back a number and the reply's length. A call
-//! allocates nothing and keeps nothing.
+//! for the reply, and gets back a number, the reply's length and the place at
+//! which the call is broken. A call allocates nothing and keeps nothing.
 
 #![forbid(unsafe_code)]
 
@@ -53,29 +53,42 @@ const MOUNT: Program = Program {
 /// Number 0 means done, with the reply's length. The others are refusals with
 /// length 0 that leave every lent buffer as it was: 1 the store, or the old
 /// image, fails its check, 2 too little reply space, 3 clock nanoseconds out of
-/// range, 4 call too long, 5 no complete call header, 6 a count out of range or
-/// a buffer of another length, 12 the mount table fails its check.
+/// range, 4 call too long, 5 call under 8 bytes, 6 a count out of range or a
+/// buffer of another length, 7 a message type other than 0, 8 a call header cut
+/// short, 9 an overlong credential or verifier, 12 the mount table fails its
+/// check.
+///
+/// The offset is that of the call's byte where the faulty item starts, for 8, 9
+/// and GARBAGE_ARGS, or of the first byte left over; otherwise it is 0.
 #[derive(Clone, Copy, PartialEq, Eq, Debug)]
 pub struct Answer {
     pub number: u32,
     pub length: u32,
+    pub offset: u32,
 }
 
 impl Answer {
     fn refused(number: u32) -> Answer {
-        Answer { number, length: 0 }
+        Answer {
+            number,
+            length: 0,
+            offset: 0,
+        }
     }
 
-    fn done(length: u32) -> Answer {
-        Answer { number: 0, length }
-    }
+    /// Done, without a reply.
+    const DONE: Answer = Answer {
+        number: 0,
+        length: 0,
+        offset: 0,
+    };
 }
 
 /// Checks a store: number 0 if it is valid, otherwise 1.
 pub fn check(store: &[u8]) -> Answer {
     let mut survey = check::Survey::new();
     if survey.fill(store) {
-        Answer::done(0)
+        Answer::DONE
     } else {
         Answer::refused(1)
     }
@@ -105,14 +118,19 @@ pub fn call(
         return Answer::refused(1);
     }
     let Some(header) = rpc::read_header(call) else {
-        return Answer::refused(5);
+        return rpc::refusal(call);
     };
     let mut reply = Reply::new(space);
-    rpc::answer(header, &NFS, &mut reply, |procedure, arguments, reply| {
-        let mut volume = volume::Volume::new(store, &mut survey, seconds, nanoseconds);
-        procedures::run(procedure, arguments, &mut volume, verifier, reply)
-    });
-    Answer::done(reply.length())
+    rpc::answer(
+        call,
+        header,
+        &NFS,
+        &mut reply,
+        |procedure, arguments, reply| {
+            let mut volume = volume::Volume::new(store, &mut survey, seconds, nanoseconds);
+            procedures::run(procedure, arguments, &mut volume, verifier, reply)
+        },
+    )
 }
 
 /// Answers one RPC call of the MOUNT program from the store, which stays as it
@@ -133,13 +151,18 @@ pub fn mount(call: &[u8], store: &[u8], table: &mut [u8], reply: &mut [u8], host
         return Answer::refused(12);
     };
     let Some(header) = rpc::read_header(call) else {
-        return Answer::refused(5);
+        return rpc::refusal(call);
     };
     let mut reply = Reply::new(space);
-    rpc::answer(header, &MOUNT, &mut reply, |procedure, arguments, reply| {
-        mount::run(
-            procedure, arguments, store, &survey, &mut table, host, reply,
-        )
-    });
-    Answer::done(reply.length())
+    rpc::answer(
+        call,
+        header,
+        &MOUNT,
+        &mut reply,
+        |procedure, arguments, reply| {
+            mount::run(
+                procedure, arguments, store, &survey, &mut table, host, reply,
+            )
+        },
+    )
 }

@@ -1,7 +1,8 @@
 //! The procedures of MOUNT version 3 (RFC 1813, appendix I).
 //!
 //! As in `procedures`, all arguments are read first, and `None` means that
-//! they are not exactly of their type. The store is only read.
+//! they are not exactly of their type, at the reader's place. The store is only
+//! read.
 
 use crate::check::Survey;
 use crate::component::{step, want_directory};
@@ -9,6 +10,7 @@ use crate::layout::{object_field, word, Object, ROOT, STAMP_AT};
 use crate::mount_table::{Mounted, Table, MAX_PATH};
 use crate::numbers::{mount_procedure, Status};
 use crate::reply::{Reply, MOUNT_REPLY_SPACE};
+use crate::rpc::Garbage;
 use crate::xdr::Reader;
 
 /// The authentication flavors that MNT lists: AUTH_NONE and AUTH_SYS.
@@ -18,26 +20,40 @@ type MountReply<'a> = Reply<'a, MOUNT_REPLY_SPACE>;
 
 /// Runs one procedure; `number` is at most 5. Writes the result after the head
 /// of an accepted reply.
-pub fn run(
+pub fn run<'a>(
     number: u32,
-    arguments: &[u8],
+    arguments: &'a [u8],
+    store: &[u8],
+    survey: &Survey,
+    table: &mut Table<'_>,
+    host: u32,
+    reply: &mut MountReply<'_>,
+) -> Result<(), Garbage<'a>> {
+    let mut reader = Reader::new(arguments);
+    let done = run_with(number, &mut reader, store, survey, table, host, reply);
+    done.ok_or(Garbage(reader.rest()))
+}
+
+#[inline]
+fn run_with(
+    number: u32,
+    reader: &mut Reader<'_>,
     store: &[u8],
     survey: &Survey,
     table: &mut Table<'_>,
     host: u32,
     reply: &mut MountReply<'_>,
 ) -> Option<()> {
-    let mut reader = Reader::new(arguments);
     match number {
         mount_procedure::MNT => {
-            let path = read_path(&mut reader)?;
+            let path = read_path(reader)?;
             match mnt(store, survey, table, host, path) {
                 Ok(directory) => write_mounted(store, survey, directory, reply),
                 Err(status) => reply.word(status.0),
             }
         }
         mount_procedure::UMNT => {
-            let path = read_path(&mut reader)?;
+            let path = read_path(reader)?;
             table.remove(host, path);
         }
         _ => {

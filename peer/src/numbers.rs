@@ -72,6 +72,18 @@ pub const ZERO_WORDS: [usize; 22] = [
     0, 0, 2, 1, 1, 1, 1, 2, 2, 2, 2, 2, 2, 2, 4, 3, 1, 1, 1, 1, 1, 2,
 ];
 
+/// How an entry answers a call without a complete header.
+pub mod refusal {
+    /// Under 8 bytes.
+    pub const NO_MESSAGE: u32 = 5;
+    /// A message type other than 0.
+    pub const NO_CALL: u32 = 7;
+    /// A header cut short.
+    pub const CUT_HEADER: u32 = 8;
+    /// An overlong credential or verifier.
+    pub const OVERLONG: u32 = 9;
+}
+
 /// Numbers of RPC messages (RFC 5531).
 pub mod message {
     pub const CALL: u32 = 0;

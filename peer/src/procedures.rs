@@ -3,7 +3,8 @@
 //! Each procedure reads all its arguments before it looks at the store, makes
 //! its tests in the order of the papers, changes the store only when every
 //! test has passed, and writes its result. `None` means that the arguments
-//! are not exactly of their type; then nothing has been written.
+//! are not exactly of their type; then nothing has been written, and the
+//! reader stands at the fault.
 
 use crate::arguments::{handle, How, Place, RawHandle, Wanted};
 use crate::component::{step, want_directory, want_name};
@@ -11,6 +12,7 @@ use crate::layout::*;
 use crate::name::Text;
 use crate::numbers::{procedure, Status, ZERO_WORDS};
 use crate::reply::Reply;
+use crate::rpc::Garbage;
 use crate::volume::{Before, NoSpace, Volume};
 use crate::xdr::Reader;
 
@@ -31,32 +33,44 @@ impl From<NoSpace> for Status {
 
 /// Runs one procedure; `number` is at most 21. Writes the result after the
 /// head of an accepted reply.
-pub fn run(
+pub fn run<'a>(
     number: u32,
-    arguments: &[u8],
+    arguments: &'a [u8],
+    volume: &mut Volume<'_>,
+    verifier: u64,
+    reply: &mut Reply<'_>,
+) -> Result<(), Garbage<'a>> {
+    let mut reader = Reader::new(arguments);
+    let done = run_with(number, &mut reader, volume, verifier, reply);
+    done.ok_or(Garbage(reader.rest()))
+}
+
+#[inline]
+fn run_with(
+    number: u32,
+    reader: &mut Reader<'_>,
     volume: &mut Volume<'_>,
     verifier: u64,
     reply: &mut Reply<'_>,
 ) -> Option<()> {
-    let mut reader = Reader::new(arguments);
     match number {
         procedure::NULL => reader.ended(()),
-        procedure::GETATTR => getattr(&mut reader, volume, reply),
-        procedure::SETATTR => setattr(&mut reader, volume, reply),
-        procedure::LOOKUP => lookup(&mut reader, volume, reply),
-        procedure::ACCESS => access(&mut reader, volume, reply),
-        procedure::READ => read(&mut reader, volume, reply),
-        procedure::WRITE => write(&mut reader, volume, verifier, reply),
-        procedure::CREATE => create(&mut reader, volume, reply),
-        procedure::MKDIR => mkdir(&mut reader, volume, reply),
-        procedure::REMOVE => remove(&mut reader, volume, reply),
-        procedure::RMDIR => rmdir(&mut reader, volume, reply),
-        procedure::RENAME => rename(&mut reader, volume, reply),
-        procedure::READDIR => readdir(&mut reader, volume, reply),
-        procedure::FSSTAT => fsstat(&mut reader, volume, reply),
-        procedure::FSINFO => fsinfo(&mut reader, volume, reply),
-        procedure::PATHCONF => pathconf(&mut reader, volume, reply),
-        procedure::COMMIT => commit(&mut reader, volume, verifier, reply),
+        procedure::GETATTR => getattr(reader, volume, reply),
+        procedure::SETATTR => setattr(reader, volume, reply),
+        procedure::LOOKUP => lookup(reader, volume, reply),
+        procedure::ACCESS => access(reader, volume, reply),
+        procedure::READ => read(reader, volume, reply),
+        procedure::WRITE => write(reader, volume, verifier, reply),
+        procedure::CREATE => create(reader, volume, reply),
+        procedure::MKDIR => mkdir(reader, volume, reply),
+        procedure::REMOVE => remove(reader, volume, reply),
+        procedure::RMDIR => rmdir(reader, volume, reply),
+        procedure::RENAME => rename(reader, volume, reply),
+        procedure::READDIR => readdir(reader, volume, reply),
+        procedure::FSSTAT => fsstat(reader, volume, reply),
+        procedure::FSINFO => fsinfo(reader, volume, reply),
+        procedure::PATHCONF => pathconf(reader, volume, reply),
+        procedure::COMMIT => commit(reader, volume, verifier, reply),
         _ => {
             write_status(reply, Status::NOTSUPP);
             reply.zero_words(ZERO_WORDS[number as usize % ZERO_WORDS.len()]);
@@ -123,12 +137,12 @@ fn getattr(reader: &mut Reader<'_>, volume: &Volume<'_>, reply: &mut Reply<'_>) 
 fn setattr(reader: &mut Reader<'_>, volume: &mut Volume<'_>, reply: &mut Reply<'_>) -> Option<()> {
     let raw = handle(reader)?;
     let wanted = Wanted::read(reader)?;
-    let guard = reader.optional(|reader| reader.fixed::<8>())?;
+    let guard = reader.optional(Reader::time)?;
     reader.ended(())?;
     let resolved = resolve(volume, raw);
     let before = resolved.ok().map(|object| volume.before(object));
     let outcome = resolved.and_then(|object| {
-        if guard.is_some_and(|time| !volume.changed_at(object, time)) {
+        if guard.is_some_and(|time| !volume.changed_at(object, &time)) {
             return Err(Status::NOT_SYNC);
         }
         if !wanted.valid() || wanted.size.is_some() && volume.survey.is_directory(object) {

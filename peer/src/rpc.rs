@@ -1,8 +1,9 @@
 //! RPC messages (RFC 5531): the header of a call and the head of a reply.
 
-use crate::numbers::message;
+use crate::numbers::{message, refusal};
 use crate::reply::Reply;
 use crate::xdr::Reader;
+use crate::Answer;
 
 /// The header of a call.
 pub enum Header<'a> {
@@ -18,13 +19,12 @@ pub enum Header<'a> {
     },
 }
 
-/// Reads the header of a call. `None` means that there is no complete one.
-pub fn read_header(call: &[u8]) -> Option<Header<'_>> {
-    let mut reader = Reader::new(call);
+/// Reads the header of a call. `None` means that there is no complete one; the
+/// reader then stands at the fault.
+#[inline]
+fn read<'a>(reader: &mut Reader<'a>) -> Option<Header<'a>> {
     let xid = reader.word()?;
-    if reader.word()? != message::CALL {
-        return None;
-    }
+    reader.exactly(message::CALL)?;
     if reader.word()? != message::RPC_VERSION {
         return Some(Header::OtherVersion { xid });
     }
@@ -44,6 +44,44 @@ pub fn read_header(call: &[u8]) -> Option<Header<'_>> {
     })
 }
 
+/// Reads the header of a call. `None` means that there is no complete one.
+pub fn read_header(call: &[u8]) -> Option<Header<'_>> {
+    read(&mut Reader::new(call))
+}
+
+/// How an entry refuses a call that has no complete header. It is read once
+/// more for its place, which nobody keeps otherwise.
+#[cold]
+pub fn refusal(call: &[u8]) -> Answer {
+    let mut reader = Reader::new(call);
+    let _none = read(&mut reader);
+    let offset = place(call, reader.rest());
+    if call.len() < KIND_END {
+        Answer::refused(refusal::NO_MESSAGE)
+    } else if (offset as usize) < KIND_END {
+        Answer::refused(refusal::NO_CALL)
+    } else {
+        // Of all that a header holds only a body has a length.
+        let number = match reader.word() {
+            Some(length) if length as usize > message::MAX_AUTH => refusal::OVERLONG,
+            _ => refusal::CUT_HEADER,
+        };
+        Answer {
+            number,
+            length: 0,
+            offset,
+        }
+    }
+}
+
+/// Where the message type ends.
+const KIND_END: usize = 8;
+
+/// The offset of what is left of a call.
+fn place(call: &[u8], rest: &[u8]) -> u32 {
+    (call.len() - rest.len()) as u32
+}
+
 /// A program that an entry serves.
 pub struct Program {
     pub number: u32,
@@ -51,16 +89,21 @@ pub struct Program {
     pub last_procedure: u32,
 }
 
-/// Writes the reply to a call with this header. `run` runs a procedure of the
-/// program and writes its result; `None` means that the arguments are not
-/// exactly of their type, and that nothing has been written.
+/// Arguments that are not exactly of their type: what is left of them from the
+/// faulty item on.
+pub struct Garbage<'a>(pub &'a [u8]);
+
+/// Answers a call with this header. `run` runs a procedure of the program and
+/// writes its result; where the arguments are garbage it has written nothing.
 #[inline]
-pub fn answer<const SPACE: usize>(
-    header: Header<'_>,
+pub fn answer<'a, const SPACE: usize>(
+    call: &'a [u8],
+    header: Header<'a>,
     served: &Program,
     reply: &mut Reply<'_, SPACE>,
-    run: impl FnOnce(u32, &[u8], &mut Reply<'_, SPACE>) -> Option<()>,
-) {
+    run: impl FnOnce(u32, &'a [u8], &mut Reply<'_, SPACE>) -> Result<(), Garbage<'a>>,
+) -> Answer {
+    let mut offset = 0;
     match header {
         Header::OtherVersion { xid } => write_denied(reply, xid),
         Header::Complete {
@@ -80,12 +123,18 @@ pub fn answer<const SPACE: usize>(
                 write_accepted(reply, xid, message::PROC_UNAVAIL);
             } else {
                 write_accepted(reply, xid, message::SUCCESS);
-                if run(procedure, arguments, reply).is_none() {
+                if let Err(Garbage(rest)) = run(procedure, arguments, reply) {
                     // Nothing follows the head; only the outcome changes.
                     reply.set_word(20, message::GARBAGE_ARGS);
+                    offset = place(call, rest);
                 }
             }
         }
+    }
+    Answer {
+        number: 0,
+        length: reply.length(),
+        offset,
     }
 }
 

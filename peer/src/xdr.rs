@@ -1,7 +1,8 @@
 //! Reading XDR (RFC 4506) from the bytes of a call.
 
-/// Reads fields from the front of a slice. Each read answers `None` if the
-/// field is cut short or is not of its type.
+/// Reads items from the front of a slice. Each read answers `None` if the item
+/// is cut short or is not of its type; the reader then stands where that item
+/// starts, so that what is left begins with the fault.
 pub struct Reader<'a> {
     rest: &'a [u8],
 }
@@ -10,6 +11,19 @@ impl<'a> Reader<'a> {
     #[inline]
     pub fn new(bytes: &'a [u8]) -> Reader<'a> {
         Reader { rest: bytes }
+    }
+
+    /// What has not been read.
+    #[inline]
+    pub fn rest(&self) -> &'a [u8] {
+        self.rest
+    }
+
+    /// The word that comes next, if it is there.
+    #[inline]
+    fn next_word(&self) -> Option<(u32, &'a [u8])> {
+        let (word, after) = self.rest.split_first_chunk::<4>()?;
+        Some((u32::from_be_bytes(*word), after))
     }
 
     /// An opaque field of fixed length, a multiple of 4.
@@ -35,13 +49,37 @@ impl<'a> Reader<'a> {
     /// An enum with the values 0 to `last`.
     #[inline]
     pub fn choice(&mut self, last: u32) -> Option<u32> {
-        self.word().filter(|&value| value <= last)
+        let (value, after) = self.next_word()?;
+        if value > last {
+            return None;
+        }
+        self.rest = after;
+        Some(value)
+    }
+
+    /// A number that can only be this one.
+    #[inline]
+    pub fn exactly(&mut self, only: u32) -> Option<()> {
+        let (value, after) = self.next_word()?;
+        if value != only {
+            return None;
+        }
+        self.rest = after;
+        Some(())
     }
 
     /// A boolean.
     #[inline]
     pub fn boolean(&mut self) -> Option<bool> {
         self.choice(1).map(|value| value == 1)
+    }
+
+    /// A time, which is two items: seconds and nanoseconds as sent.
+    #[inline]
+    pub fn time(&mut self) -> Option<[u8; 8]> {
+        let seconds = self.word()?;
+        let nanoseconds = self.word()?;
+        Some(((u64::from(seconds) << 32) | u64::from(nanoseconds)).to_be_bytes())
     }
 
     /// A value that is there when the boolean before it is true.
@@ -58,11 +96,12 @@ impl<'a> Reader<'a> {
     /// with pad bytes of any value up to a multiple of 4.
     #[inline]
     pub fn opaque(&mut self, limit: usize) -> Option<&'a [u8]> {
-        let length = usize::try_from(self.word()?).ok()?;
-        if length > limit || length > self.rest.len() {
+        let (length, after) = self.next_word()?;
+        let length = usize::try_from(length).ok()?;
+        if length > limit {
             return None;
         }
-        let (bytes, after) = self.rest.split_at(length);
+        let (bytes, after) = after.split_at_checked(length)?;
         self.rest = after.get(length.wrapping_neg() % 4..)?;
         Some(bytes)
     }
@@ -73,13 +112,8 @@ impl<'a> Reader<'a> {
         self.opaque(usize::MAX)
     }
 
-    /// What has not been read.
-    #[inline]
-    pub fn rest(&self) -> &'a [u8] {
-        self.rest
-    }
-
-    /// `value` if nothing is left to read.
+    /// `value` if nothing is left to read. Otherwise the reader stands at the
+    /// first byte left over.
     #[inline]
     pub fn ended<T>(&self, value: T) -> Option<T> {
         self.rest.is_empty().then_some(value)

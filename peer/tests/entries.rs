@@ -128,7 +128,8 @@ fn no_complete_header() {
     }
     .encode();
     for length in 0..full.len() {
-        assert_eq!(header_answer(&full[..length]), 5, "length {length}");
+        let wanted = if length < 8 { 5 } else { 8 };
+        assert_eq!(header_answer(&full[..length]), wanted, "length {length}");
     }
     assert_eq!(header_answer(&full), 0);
     // The message type.
@@ -137,8 +138,8 @@ fn no_complete_header() {
             kind,
             ..Header::new(1, 0)
         };
-        assert_eq!(header_answer(&header.encode()), 5);
-        assert_eq!(header_answer(&header.encode()[..8]), 5);
+        assert_eq!(header_answer(&header.encode()), 7);
+        assert_eq!(header_answer(&header.encode()[..8]), 7);
     }
     // Any pad bytes of the credential and of the verifier make a header.
     for at in [28 + 4 + 5, 28 + 4 + 7, full.len() - 1] {
@@ -150,7 +151,7 @@ fn no_complete_header() {
 
 #[test]
 fn long_credentials() {
-    for (length, wanted) in [(0, 0), (399, 0), (400, 0), (401, 5), (404, 5), (2000, 5)] {
+    for (length, wanted) in [(0, 0), (399, 0), (400, 0), (401, 9), (404, 9), (2000, 9)] {
         for flavor in [0, 1, 6, u32::MAX] {
             let credential = Header {
                 credential: (flavor, vec![8; length]),
@@ -166,7 +167,7 @@ fn long_credentials() {
     }
     let mut huge = Header::new(1, 0).encode();
     huge[28..32].fill(0xFF);
-    assert_eq!(header_answer(&huge), 5);
+    assert_eq!(header_answer(&huge), 9);
 }
 
 #[test]

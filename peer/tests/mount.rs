@@ -212,13 +212,22 @@ fn answers_in_their_order() {
             vec![0; TABLE]
         };
         let mut table = start.clone();
-        let number = [(0, 2), (1, 4), (2, 1), (3, 12), (4, 5)]
+        // The header is cut, or the message is a reply.
+        let broken = if has(1) { 7 } else { 8 };
+        let number = [(0, 2), (1, 4), (2, 1), (3, 12), (4, broken)]
             .into_iter()
             .find(|&(at, _)| has(at))
             .map_or(0, |(_, number)| number);
         let answer = peer::mount(&call, store, &mut table, &mut reply, 1);
         let length = if number == 0 { 24 } else { 0 };
-        assert_eq!(answer, Answer { number, length }, "{faults}");
+        // The verifier's length starts at 36.
+        let offset = if number == 8 { 36 } else { 0 };
+        let wanted = Answer {
+            number,
+            length,
+            offset,
+        };
+        assert_eq!(answer, wanted, "{faults}");
         assert!(table == start);
         assert!(reply[length as usize..].iter().all(|&byte| byte == SPARE));
     }
@@ -246,7 +255,8 @@ fn headers() {
     let mut gate = Gate::new();
     let call = with_path(MNT, b"/");
     for length in 0..40 {
-        assert_eq!(gate.raw(&call[..length]).0, 5, "{length} bytes");
+        let wanted = if length < 8 { 5 } else { 8 };
+        assert_eq!(gate.raw(&call[..length]).0, wanted, "{length} bytes");
     }
     // The header is complete; the path's length is missing or cut.
     for length in 40..48 {
@@ -304,7 +314,7 @@ fn headers() {
         let reply = gate.lane.raw(&other.encode()).bytes;
         assert_eq!(words(&reply), [7, 1, 0, 0, 0, 1]);
     }
-    for (length, number) in [(399, 0), (400, 0), (401, 5)] {
+    for (length, number) in [(399, 0), (400, 0), (401, 9)] {
         for verifier in [false, true] {
             let mut long = sound.clone();
             let field = if verifier {
@@ -351,7 +361,7 @@ fn pad_bytes() {
     let last = call.len() - 1;
     call[last] = 0xFF;
     assert!(gate.result(&call).is_empty());
-    assert_eq!(gate.raw(&call[..last]).0, 5);
+    assert_eq!(gate.raw(&call[..last]).0, 8);
 }
 
 #[test]
@@ -847,6 +857,7 @@ fn any_bytes() {
         let mut reply = vec![SPARE; space];
         let answer = peer::mount(&call, &store, &mut table, &mut reply, host);
         assert_eq!(answer.number, wanted.number);
+        assert_eq!(answer.offset, wanted.offset);
         assert_eq!(reply[..answer.length as usize], wanted.reply);
         assert!(reply[answer.length as usize..]
             .iter()
@@ -856,7 +867,7 @@ fn any_bytes() {
     }
     assert_eq!(
         numbers.keys().copied().collect::<Vec<u32>>(),
-        [0, 1, 2, 5, 12]
+        [0, 1, 2, 5, 7, 8, 9, 12]
     );
     for _ in 0..2000 {
         let length = random.pick(&[0, 1, 112, 400]);

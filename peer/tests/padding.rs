@@ -22,6 +22,7 @@ fn make(store: &[u8], call: &[u8]) -> Left {
         answer: Answer {
             number: 99,
             length: 99,
+            offset: 99,
         },
         reply: vec![SPARE; 4224 + 16],
         store: store.to_vec(),
@@ -48,13 +49,9 @@ impl Left {
         self.words()[1..] == [1, 0, 0, 0, 4]
     }
 
-    /// Answer 5, and every lent byte stays.
-    fn no_header(&self, store: &[u8]) -> bool {
-        let refused = Answer {
-            number: 5,
-            length: 0,
-        };
-        self.answer == refused
+    /// The header is refused with this number, and every lent byte stays.
+    fn no_header(&self, number: u32, store: &[u8]) -> bool {
+        (self.answer.number, self.answer.length) == (number, 0)
             && self.store == store
             && self.reply.iter().all(|&byte| byte == SPARE)
     }
@@ -62,7 +59,7 @@ impl Left {
 
 /// Makes the call with zeros and with every kind of pad bytes at each place,
 /// and at all of them at once: what is left behind is the same. Cut inside a
-/// padding it is refused: in the header with answer 5, in the arguments with
+/// padding it is refused: in the header with answer 8, in the arguments with
 /// `cut`. Returns what zeros leave behind.
 fn alike_or(
     store: &[u8],
@@ -83,7 +80,7 @@ fn alike_or(
             for missing in 1..=count {
                 let left = make(store, dirty.cut(place, missing));
                 let refused = if place < ARGUMENTS {
-                    left.no_header(store)
+                    left.no_header(8, store)
                 } else {
                     cut(&left, &wanted) && left.store == store
                 };
@@ -473,7 +470,7 @@ fn credentials_and_verifiers_over_their_limit() {
             };
             let mut call = Padded::new(&header, &[]);
             call.fill_all(&mut Random::new(6));
-            assert!(make(&store, &call.bytes).no_header(&store));
+            assert!(make(&store, &call.bytes).no_header(9, &store));
         }
     }
 }

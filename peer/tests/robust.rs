@@ -43,7 +43,7 @@ fn changed_calls_and_stores() {
     assert_eq!(lane.write(&file, 0, &[1; 600]), 0);
     let records = lane.block_at(0);
     let start = lane.store.clone();
-    let mut numbers = [0usize; 7];
+    let mut numbers = [0usize; 10];
     for round in 0..60_000 {
         if round % 50 == 0 {
             lane.store = start.clone();
@@ -70,6 +70,8 @@ fn changed_calls_and_stores() {
         numbers[answer.number as usize] += 1;
         let length = answer.length as usize;
         assert!(reply[length..].iter().all(|&byte| byte == SPARE));
+        let broken = valid && length <= 24;
+        assert!(answer.offset == 0 || broken && answer.offset as usize <= call.len());
         if answer.number != 0 {
             assert_eq!(length, 0);
             assert!(before == lane.store);
@@ -81,10 +83,11 @@ fn changed_calls_and_stores() {
             lane.store = kept;
         }
     }
-    assert!(numbers[..6]
+    // No call is too long, and 6 is no answer to a call.
+    assert!(numbers
         .iter()
         .enumerate()
-        .all(|(at, &count)| (at == 4) == (count == 0)));
+        .all(|(at, &count)| [4, 6].contains(&at) == (count == 0)));
 }
 
 #[test]

@@ -6,9 +6,10 @@ mod common;
 use common::plain::{plain_check, plain_old_check};
 use common::plain_rename::plain_rename;
 use common::store_of;
-use peer::generator::driver::{Call, Driver, Format, Mount, Outcome, Peer};
+use peer::generator::driver::{is_garbage, Call, Driver, Format, Mount, Outcome, Peer};
 use peer::generator::lane::status_of;
 use peer::generator::mounts::{self, definition::defined};
+use peer::generator::places;
 use peer::generator::random_runs::{self, Extent, RENAMES};
 use peer::generator::scripts::{self, Runs};
 use peer::Answer;
@@ -18,6 +19,9 @@ use peer::Answer;
 struct Tester {
     peer: Peer,
     calls: usize,
+    /// NFS calls by their answers, and those that are GARBAGE_ARGS.
+    answers: BTreeMap<u32, usize>,
+    garbage: usize,
     /// MOUNT calls by their answers, and those that changed the table.
     mounts: BTreeMap<u32, usize>,
     mounted: usize,
@@ -56,7 +60,12 @@ impl Driver for Tester {
     fn check(&mut self) -> Answer {
         let answer = peer::check(&self.peer.store);
         let number = u32::from(!plain_check(&self.peer.store));
-        assert_eq!(answer, Answer { number, length: 0 });
+        let wanted_answer = Answer {
+            number,
+            length: 0,
+            offset: 0,
+        };
+        assert_eq!(answer, wanted_answer);
         answer
     }
 
@@ -65,6 +74,11 @@ impl Driver for Tester {
         let valid = plain_check(&before);
         let outcome = self.peer.call(call);
         self.calls += 1;
+        *self.answers.entry(outcome.answer.number).or_default() += 1;
+        self.garbage += usize::from(is_garbage(&outcome.reply));
+        let place = places::of_call(&call, &before);
+        let got = (outcome.answer.number, outcome.answer.offset);
+        assert_eq!(got, (place.number, place.offset));
         let wanted = if call.space < 4224 {
             2
         } else if call.nanoseconds >= 1_000_000_000 {
@@ -85,7 +99,7 @@ impl Driver for Tester {
                 assert_eq!(reply[..4], call.bytes[..4]);
                 assert!(plain_check(&self.peer.store));
             }
-            1..=5 => assert!(reply.is_empty()),
+            1..=5 | 7..=9 => assert!(reply.is_empty()),
             other => panic!("answer {other}"),
         }
         if status_of(reply).is_some() {
@@ -117,7 +131,12 @@ impl Driver for Tester {
                 (6, before)
             }
         };
-        assert_eq!(answer, Answer { number, length: 0 });
+        let wanted_answer = Answer {
+            number,
+            length: 0,
+            offset: 0,
+        };
+        assert_eq!(answer, wanted_answer);
         assert!(self.peer.store == wanted);
         self.converted[number.min(2) as usize] += 1;
         answer
@@ -138,6 +157,7 @@ impl Driver for Tester {
         assert!(self.peer.store == store);
         assert!(self.peer.table == wanted.table);
         assert_eq!(outcome.answer.number, wanted.number);
+        assert_eq!(outcome.answer.offset, wanted.offset);
         assert_eq!(outcome.reply, wanted.reply);
         if wanted.number == 0 {
             assert!((24..=33_692).contains(&outcome.reply.len()));
@@ -191,7 +211,12 @@ fn random_runs() {
     random_runs::run(&mut tester, 0, 95, Extent::Largest, 40, 5000);
     assert!(tester.calls > 10_000 && tester.changed > 1500 && tester.damaged > 200);
     assert!(tester.converted[0] > 100 && tester.converted[1] > 50);
-    assert!(tester.renamed > 1000);
+    assert!(tester.renamed > 900);
+    for (answer, least) in [(5, 40), (7, 40), (8, 150), (9, 100)] {
+        let count = tester.answers[&answer];
+        assert!(count >= least, "answer {answer}: {count}");
+    }
+    assert!(tester.garbage > 800, "{}", tester.garbage);
     // Each kind of RENAME onto a name that exists has one status.
     let renames: Vec<(&str, usize)> = tester
         .renames
@@ -231,7 +256,17 @@ fn mount_runs() {
         mounts::run(&mut tester, number, 93, mounts::Extent::Middle, 200);
     }
     mounts::run(&mut tester, 0, 92, mounts::Extent::Full, 40);
-    for (answer, least) in [(0, 6000), (1, 100), (2, 30), (4, 10), (5, 150), (12, 700)] {
+    for (answer, least) in [
+        (0, 6000),
+        (1, 100),
+        (2, 30),
+        (4, 10),
+        (5, 25),
+        (7, 40),
+        (8, 80),
+        (9, 10),
+        (12, 700),
+    ] {
         let count = tester.mounts.remove(&answer).unwrap_or_default();
         assert!(count >= least, "answer {answer}: {count}");
     }

@@ -130,7 +130,7 @@ fn replay_finds_altered_files() {
     let not_converted = row_at(&file, 0, 227, Some(1));
     let old = row_at(&file, 0, 131, None);
     // A byte of a reply, an answer's length and number, a byte of an old image,
-    // and both halves of a digest.
+    // both halves of a digest, and offsets.
     for at in [
         reply + 5 + 24,
         length + 4,
@@ -141,6 +141,9 @@ fn replay_finds_altered_files() {
         old + 5 + 3,
         row_at(&file, middle, 65, None) + 1,
         row_at(&file, middle, 66, None) + 4,
+        row_at(&file, 0, 70, None) + 4,
+        row_at(&file, middle, 70, None) + 1,
+        row_at(&file, middle, 226, Some(8)) + 4,
     ] {
         assert!(altered(at, 1).unwrap() > 0, "row at {at}");
     }
@@ -149,7 +152,7 @@ fn replay_finds_altered_files() {
     let number = row_at(&file, middle, 4, None);
     for (at, with) in [
         (number, 4 ^ 16),
-        (length, 64 ^ 70),
+        (length, 64 ^ 71),
         (reply, 130 ^ 134),
         (number, 4 ^ 196),
         (call, 226 ^ 230),
@@ -221,12 +224,15 @@ fn replay_finds_altered_mounts() {
     };
     let middle = file.len() / 2;
     let row = |tag: u8, word: Option<u32>| row_at(&file, middle, tag, word);
-    // An answer, its length, both halves of the table's digest and of the
-    // store's, a byte of a reply.
+    // An answer, its length and offset, both halves of the table's digest and
+    // of the store's, a byte of a reply.
     for (at, with) in [
         (row(229, Some(0)) + 4, 1),
         (row(229, Some(12)) + 4, 1),
+        (row(229, Some(8)) + 4, 1),
         (row(64, None) + 4, 1),
+        (row(70, None) + 4, 1),
+        (row(70, Some(0)) + 1, 1),
         (row(68, None) + 1, 1),
         (row(69, None) + 4, 1),
         (row(65, None) + 1, 1),
@@ -464,4 +470,115 @@ fn replay_finds_spoiled_calls() {
     let (text, differences) = replay(&record().file, &mut subject).unwrap();
     assert!(differences >= 6);
     assert!(text.ends_with(format!("{differences} differences\n").as_bytes()));
+}
+
+/// Answers as the peer does, but with another offset: of broken calls, of calls
+/// that are not, or of the other entries.
+struct Misplaced {
+    of_broken: bool,
+    of_whole: bool,
+    of_others: bool,
+    changed: u64,
+}
+
+impl Misplaced {
+    fn change(&mut self, mut answer: Answer, wanted: bool) -> Answer {
+        if wanted {
+            answer.offset ^= 4;
+            self.changed += 1;
+        }
+        answer
+    }
+
+    fn call_answer(&mut self, answer: Answer) -> Answer {
+        let wanted = if answer.offset == 0 {
+            self.of_whole
+        } else {
+            self.of_broken
+        };
+        self.change(answer, wanted)
+    }
+}
+
+impl Subject for Misplaced {
+    fn format(&mut self, store: &mut [u8], plan: &Format) -> Answer {
+        let answer = Own.format(store, plan);
+        self.change(answer, self.of_others)
+    }
+
+    fn check(&mut self, store: &[u8]) -> Answer {
+        let answer = Own.check(store);
+        self.change(answer, self.of_others)
+    }
+
+    fn call(&mut self, store: &mut [u8], call: &Call<'_>, reply: &mut [u8]) -> Answer {
+        let answer = Own.call(store, call, reply);
+        self.call_answer(answer)
+    }
+
+    fn convert(&mut self, old: &[u8], store: &mut [u8]) -> Answer {
+        let answer = Own.convert(old, store);
+        self.change(answer, self.of_others)
+    }
+
+    fn mount(
+        &mut self,
+        store: &[u8],
+        table: &mut [u8],
+        mount: &Mount<'_>,
+        reply: &mut [u8],
+    ) -> Answer {
+        let answer = Own.mount(store, table, mount, reply);
+        self.call_answer(answer)
+    }
+}
+
+/// The offset is compared after every entry of every file.
+#[test]
+fn replay_finds_other_offsets() {
+    let files = [record().file, record_searches().file, record_mounts().file];
+    let subject = |of_broken, of_whole, of_others| Misplaced {
+        of_broken,
+        of_whole,
+        of_others,
+        changed: 0,
+    };
+    for (file, broken) in files.iter().zip([7000, 0, 2000]) {
+        for (mut subject, least) in [
+            (subject(true, false, false), broken),
+            (subject(false, true, false), 500),
+            (subject(false, false, true), 100),
+        ] {
+            let (_, differences) = replay(file, &mut subject).unwrap();
+            assert_eq!(differences, subject.changed);
+            assert!(differences >= least, "{differences}");
+        }
+    }
+}
+
+/// Row by row: an offset is written only where it changes, and starts as 0.
+#[test]
+fn rows_of_offsets() {
+    for (file, least) in [
+        (record().file, 2000),
+        (record_searches().file, 0),
+        (record_mounts().file, 500),
+    ] {
+        let (mut at, mut offset, mut rows) = (0, 0, 0);
+        while at < file.len() {
+            let word = u32::from_be_bytes(file[at + 1..at + 5].try_into().unwrap());
+            let tag = file[at];
+            at += 5;
+            if (128..192).contains(&tag) {
+                at += word as usize;
+            }
+            if tag == 70 {
+                assert_ne!(word, offset);
+                assert!(word <= 8192);
+                offset = word;
+                rows += 1;
+            }
+        }
+        assert!(rows >= least, "{rows}");
+    }
 }

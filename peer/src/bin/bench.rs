@@ -83,18 +83,23 @@ mod measuring {
             }
         }
 
+        /// Makes one call.
+        fn make(&mut self, bytes: &[u8]) -> Answer {
+            self.seconds = self.seconds.wrapping_add(1);
+            let call = Call {
+                bytes: black_box(bytes),
+                seconds: self.seconds,
+                nanoseconds: 5,
+                verifier: 9,
+                space: self.reply.len(),
+            };
+            black_box((self.call)(&call, &mut self.store, &mut self.reply))
+        }
+
         /// Makes the calls one after the other.
         fn round(&mut self, calls: &[Vec<u8>]) {
             for bytes in calls {
-                self.seconds = self.seconds.wrapping_add(1);
-                let call = Call {
-                    bytes: black_box(bytes),
-                    seconds: self.seconds,
-                    nanoseconds: 5,
-                    verifier: 9,
-                    space: self.reply.len(),
-                };
-                black_box((self.call)(&call, &mut self.store, &mut self.reply));
+                self.make(bytes);
             }
         }
 
@@ -169,6 +174,51 @@ mod measuring {
         own.try_round(calls, wanted);
         other.try_round(calls, wanted);
         best_of_both(|| own.round(calls), || other.round(calls))
+    }
+
+    /// The times of both for a call that is broken, with this answer.
+    fn broken_times(store: &[u8], call: &[u8], wanted: Answer) -> (f64, f64) {
+        let mut own = Side::new("peer", peer_call, store);
+        let mut other = Side::new("library", library::call, store);
+        for side in [&mut own, &mut other] {
+            assert_eq!(side.make(call), wanted, "{}: another answer", side.name);
+        }
+        best_of_both(
+            || {
+                own.make(call);
+            },
+            || {
+                other.make(call);
+            },
+        )
+    }
+
+    /// The rows for calls that are broken.
+    fn broken_rows(store: &[u8]) -> Vec<(&'static str, f64, f64)> {
+        let file = handle(STAMP, 1, 0);
+        // The verifier's length starts at 36 and is cut.
+        let cut = &getattr(&file).call(77)[..38];
+        let refused = Answer {
+            number: 8,
+            length: 0,
+            offset: 36,
+        };
+        let mut left_over = write(&file, 0, &[1; 512]).call(77);
+        let garbage = Answer {
+            number: 0,
+            length: 24,
+            offset: left_over.len() as u32,
+        };
+        left_over.push(0);
+        [
+            ("header cut", cut, refused),
+            ("GARBAGE_ARGS", &left_over, garbage),
+        ]
+        .map(|(name, call, wanted)| {
+            let (peer, other) = broken_times(store, call, wanted);
+            (name, peer, other)
+        })
+        .to_vec()
     }
 
     /// The times of both to convert the old image of a store.
@@ -549,11 +599,12 @@ mod measuring {
             }
         }
 
-        /// Makes the calls one after the other; answers the last length.
+        /// Makes the calls one after the other; gives back the last answer.
         fn round(&mut self, calls: &[Vec<u8>]) -> Answer {
             let mut last = Answer {
                 number: 0,
                 length: 0,
+                offset: 0,
             };
             for bytes in calls {
                 let mount = Mount {
@@ -569,11 +620,10 @@ mod measuring {
     }
 
     /// The times of both for the MOUNT calls, made again and again. The last
-    /// reply has this length and, of one MNT, the status OK.
-    fn mount_times(store: &[u8], table: &[u8], calls: &[Vec<u8>], length: u32) -> (f64, f64) {
+    /// has this answer.
+    fn mount_times(store: &[u8], table: &[u8], calls: &[Vec<u8>], wanted: Answer) -> (f64, f64) {
         let mut own = MountSide::new(peer_mount, store, table);
         let mut other = MountSide::new(library::mount, store, table);
-        let wanted = Answer { number: 0, length };
         assert_eq!(own.round(calls), wanted, "peer: another answer");
         assert_eq!(other.round(calls), wanted, "library: another answer");
         assert!(own.reply == other.reply && own.table == other.table);
@@ -619,9 +669,29 @@ mod measuring {
         let rows = alike_rows(HOST, 1023).into_iter().map(Some);
         let paths = tables::write(&rows.collect::<Vec<_>>());
         let mut times = Vec::new();
+        let mut broken_row =
+            |name, store: &[u8], table: &[u8], calls: &[Vec<u8>], length, offset| {
+                let wanted = Answer {
+                    number: 0,
+                    length,
+                    offset,
+                };
+                let (peer, other) = mount_times(store, table, calls, wanted);
+                times.push((name, peer, other));
+            };
+        let mut left_over = call(mount_procedure::MNT, Some(b"/"));
+        let end = left_over.len();
+        left_over.resize(end + 4, 0);
+        broken_row(
+            "MNT, left over",
+            store,
+            &empty,
+            &[left_over],
+            24,
+            end as u32,
+        );
         let mut row = |name, store: &[u8], table: &[u8], calls: &[Vec<u8>], length| {
-            let (peer, other) = mount_times(store, table, calls, length);
-            times.push((name, peer, other));
+            broken_row(name, store, table, calls, length, 0);
         };
         row("MOUNT NULL, empty table", store, &empty, &null, 24);
         row("MOUNT NULL, 32 paths", store, &paths, &null, 24);
@@ -686,6 +756,9 @@ mod measuring {
             for operation in operations(*shape == full) {
                 let (peer, other) = operation.times(store);
                 largest = largest.max(line(label, operation.name, peer, other));
+            }
+            for (name, peer, other) in broken_rows(store) {
+                largest = largest.max(line(label, name, peer, other));
             }
             if *shape == full {
                 for (name, peer, other) in lookups(full) {

@@ -492,7 +492,13 @@ mod comparison {
 
         /// Of the labels only the rules and the random RENAMEs are counted.
         fn note(&mut self, group: &'static str, label: &str) {
-            if [rules::GROUP, rules::MOUNT_GROUP, random_runs::RENAMES].contains(&group) {
+            let counted = [
+                rules::GROUP,
+                rules::MOUNT_GROUP,
+                rules::PLACE_GROUP,
+                random_runs::RENAMES,
+            ];
+            if counted.contains(&group) {
                 self.coverage.note(group, label);
             }
         }

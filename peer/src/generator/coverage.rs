@@ -6,6 +6,7 @@ use std::fmt::Write;
 use super::driver::Outcome;
 use super::lane::status_of;
 use super::mounts::counts::Mounts;
+use super::places;
 use super::random_runs::{meetings, RENAMES};
 use super::rules;
 use super::searches;
@@ -66,6 +67,9 @@ pub fn status_name(status: u32) -> &'static str {
         .find(|(known, _)| known.0 == status)
         .map_or("unknown", |(_, name)| name)
 }
+
+/// The procedures whose arguments stay unread.
+const UNREAD: [usize; 5] = [5, 10, 11, 15, 17];
 
 const HANDLE: [Status; 3] = [Status::OK, Status::BADHANDLE, Status::STALE];
 const NAME: [Status; 3] = [Status::NOTDIR, Status::ACCES, Status::NAMETOOLONG];
@@ -185,10 +189,12 @@ pub struct Coverage {
     pub null: u64,
     pub garbage: BTreeMap<u32, u64>,
     outcomes: BTreeMap<usize, u64>,
-    calls: [u64; 7],
-    formats: [u64; 7],
-    checks: [u64; 7],
-    conversions: [u64; 7],
+    calls: [u64; 10],
+    formats: [u64; 10],
+    checks: [u64; 10],
+    conversions: [u64; 10],
+    /// Where calls are broken.
+    places: places::Counts,
     /// Those of MOUNT calls.
     pub mounts: Mounts,
     notes: BTreeMap<&'static str, BTreeMap<String, u64>>,
@@ -232,6 +238,9 @@ impl Coverage {
 
     pub fn call(&mut self, call: &[u8], outcome: &Outcome) {
         self.calls[outcome.answer.number as usize] += 1;
+        if [0, 5, 7, 8, 9].contains(&outcome.answer.number) {
+            self.places.add(places::nfs(call), call);
+        }
         if outcome.answer.number != 0 {
             return;
         }
@@ -280,13 +289,19 @@ impl Coverage {
                 missing.push(format!("rule: {rule}"));
             }
         }
+        for rule in rules::place::nfs() {
+            if !self.noted(rules::PLACE_GROUP, &rule) {
+                missing.push(format!("rule of E6: {rule}"));
+            }
+        }
         for meeting in meetings() {
             if !self.noted(RENAMES, &meeting) {
                 missing.push(format!("random RENAME: {meeting}"));
             }
         }
+        missing.extend(self.places.missing(&PROCEDURE_NAMES, &UNREAD));
         for (number, name) in PROCEDURE_NAMES.iter().enumerate() {
-            let unread = [5, 10, 11, 15, 17].contains(&number);
+            let unread = UNREAD.contains(&number);
             if !unread && !self.garbage.contains_key(&(number as u32)) {
                 missing.push(format!("{name} GARBAGE_ARGS"));
             }
@@ -299,7 +314,7 @@ impl Coverage {
         if self.null == 0 {
             missing.push("NULL".to_owned());
         }
-        for number in 0..=5 {
+        for number in [0, 1, 2, 3, 4, 5, 7, 8, 9] {
             if self.calls[number] == 0 {
                 missing.push(format!("call answer {number}"));
             }
@@ -359,6 +374,11 @@ impl Coverage {
         for rule in rules::mount::all() {
             if !self.noted(rules::MOUNT_GROUP, &rule) {
                 missing.push(format!("rule of E5: {rule}"));
+            }
+        }
+        for rule in rules::place::mount() {
+            if !self.noted(rules::PLACE_GROUP, &rule) {
+                missing.push(format!("rule of E6: {rule}"));
             }
         }
         missing
@@ -431,7 +451,7 @@ impl Coverage {
         line("\n## By answer number of each entry\n".to_owned());
         line("| answer | calls | formats | checks | conversions |".to_owned());
         line("|---:|---:|---:|---:|---:|".to_owned());
-        for number in 0..7 {
+        for number in 0..10 {
             line(format!(
                 "| {number} | {} | {} | {} | {} |",
                 self.calls[number],
@@ -440,6 +460,11 @@ impl Coverage {
                 self.conversions[number]
             ));
         }
+        text.push_str(
+            &self
+                .places
+                .table("Where calls are broken", &PROCEDURE_NAMES),
+        );
         text.push_str(&self.notes());
         text
     }

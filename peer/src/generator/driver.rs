@@ -1,5 +1,7 @@
 //! What a run does, and who carries it out.
 
+use super::places::{self, Place};
+use crate::numbers::message;
 use crate::{Answer, Search};
 
 /// The arguments of a format besides the store.
@@ -91,6 +93,26 @@ fn all_spare(bytes: &[u8]) -> bool {
     groups.iter().all(|group| *group == [SPARE; 64]) && rest.iter().all(|&byte| byte == SPARE)
 }
 
+/// Whether a reply says GARBAGE_ARGS.
+pub fn is_garbage(reply: &[u8]) -> bool {
+    reply.len() == 24
+        && reply[8..12] == message::ACCEPTED.to_be_bytes()
+        && reply[20..] == message::GARBAGE_ARGS.to_be_bytes()
+}
+
+/// Fails unless number and offset are those of the place, and the reply says
+/// GARBAGE_ARGS exactly where it is one of the arguments.
+fn hold(outcome: &Outcome, wanted: Place, call: &[u8]) {
+    let answer = outcome.answer;
+    assert_eq!(
+        (answer.number, answer.offset),
+        (wanted.number, wanted.offset),
+        "{call:02x?}"
+    );
+    let garbage = wanted.number == 0 && wanted.offset != 0;
+    assert_eq!(is_garbage(&outcome.reply), garbage, "{call:02x?}");
+}
+
 impl Peer {
     pub fn start(&mut self, length: usize) {
         self.store.clear();
@@ -118,7 +140,9 @@ impl Peer {
         crate::convert(old, &mut self.store)
     }
 
+    /// The answer is held against the second definition of the place.
     pub fn call(&mut self, call: Call<'_>) -> Outcome {
+        let wanted = places::of_call(&call, &self.store);
         self.space.clear();
         self.space.resize(call.space, SPARE);
         let answer = crate::call(
@@ -129,7 +153,9 @@ impl Peer {
             call.nanoseconds,
             call.verifier,
         );
-        self.outcome(answer)
+        let outcome = self.outcome(answer);
+        hold(&outcome, wanted, call.bytes);
+        outcome
     }
 
     pub fn set_table(&mut self, table: &[u8]) {
@@ -137,7 +163,9 @@ impl Peer {
         self.table.extend_from_slice(table);
     }
 
+    /// The answer is held against the second definition of the place.
     pub fn mount(&mut self, mount: Mount<'_>) -> Outcome {
+        let wanted = places::of_mount(&mount, &self.store, &self.table);
         self.space.clear();
         self.space.resize(mount.space, SPARE);
         let answer = crate::mount(
@@ -147,7 +175,9 @@ impl Peer {
             &mut self.space,
             mount.host,
         );
-        self.outcome(answer)
+        let outcome = self.outcome(answer);
+        hold(&outcome, wanted, mount.bytes);
+        outcome
     }
 
     /// The answer with the reply that stands in the space.

@@ -1,6 +1,7 @@
 //! Seeded runs of calls for the vector files and for comparing two
 //! implementations. Nothing here is used by the entry points.
 
+pub mod broken_calls;
 pub mod coverage;
 pub mod driver;
 pub mod encode;
@@ -8,6 +9,7 @@ pub mod lane;
 pub mod mounts;
 pub mod old_images;
 pub mod padding;
+pub mod places;
 pub mod random;
 pub mod random_runs;
 pub mod recorder;

@@ -1,6 +1,7 @@
 //! Random runs that know the state of the store, so that calls go deep:
 //! most handles are live, most names exist, some handles are stale.
 
+use super::broken_calls::{any_authenticators, break_by_chance, Itemized};
 use super::coverage::status_name;
 use super::driver::{Call, Driver, Format};
 use super::encode::{handle, malformed, Attributes, Header, How, Request, Time};
@@ -214,10 +215,11 @@ pub fn run(
 impl RandomRun<'_> {
     fn step(&mut self) {
         match self.random.below(100) {
-            0..=75 => {
+            0..=67 => {
                 let request = self.request();
                 self.send(&request);
             }
+            68..=75 => self.broken_call(),
             76..=77 => {
                 let request = self.request();
                 let call = self.call(&request);
@@ -888,6 +890,20 @@ impl RandomRun<'_> {
             1 => bytes.resize(bytes.len() + self.random.between(1, 5), 0),
             _ => {}
         }
+        self.lane.raw(&bytes);
+    }
+
+    /// A call that is cut, lengthened or has fields damaged, behind a header
+    /// of any length.
+    fn broken_call(&mut self) {
+        let request = self.request();
+        let mut header = Header::new(self.lane.next_xid(), request.procedure());
+        any_authenticators(&mut header, &mut self.random);
+        let mut call = Itemized::new(&header, &request.fields());
+        if self.random.once_in(3) {
+            call.fill_pads(self.random.pick(&[1, b'/', 0xFF]));
+        }
+        let bytes = break_by_chance(&call, &mut self.random);
         self.lane.raw(&bytes);
     }
 

@@ -15,7 +15,7 @@ const SEED: u64 = 1813;
 /// Random runs after the scripted ones: extent, how many, steps in each, the
 /// largest transfer.
 const RANDOM_RUNS: [(Extent, usize, usize, usize); 5] = [
-    (Extent::Small, 36, 60, 250),
+    (Extent::Small, 50, 60, 250),
     (Extent::Middle, 17, 110, 250),
     (Extent::Middle, 3, 50, 5000),
     (Extent::Wide, 4, 120, 200),
@@ -107,6 +107,7 @@ impl Driver for Recorder {
         self.coverage.mounts.before(&self.peer.table);
         let outcome = self.peer.mount(mount);
         assert_eq!(outcome.answer.number, wanted.number, "{mount:?}");
+        assert_eq!(outcome.answer.offset, wanted.offset, "{mount:?}");
         assert_eq!(outcome.reply, wanted.reply, "{mount:?}");
         assert!(self.peer.table == wanted.table, "{mount:?}");
         let digest = self.digest();

@@ -13,6 +13,9 @@ pub const SEARCH_GROUP: &str = "Rules of request E4";
 /// The group of labels for the rules of request E5.
 pub const MOUNT_GROUP: &str = "Rules of request E5";
 
+/// The group of labels for the rules of request E6.
+pub const PLACE_GROUP: &str = "Rules of request E6";
+
 /// Gives each label its name, and lists them all.
 macro_rules! labels {
     ($list:ident: $($name:ident = $label:literal;)*) => {
@@ -319,8 +322,8 @@ pub mod mount {
         REFUSED = "entry: a refusal has length 0 and changes no byte";
         SPARE = "entry: bytes of the reply space past the reply stay";
         STORE_STAYS = "entry: no MOUNT call changes the store";
-        CUT_HEADER = "entry: answer 5 for a header cut at any byte";
-        NO_CALL = "entry: answer 5 for a message type other than 0";
+        CUT_HEADER = "entry: answers 5 and 8 for a header cut at any byte";
+        NO_CALL = "entry: answer 7 for a message type other than 0";
         DAMAGED_STORE = "entry: answer 1 for damaged stores";
         // RPC outcomes, in their order.
         DENIED = "rpc: another RPC version is denied";
@@ -333,7 +336,7 @@ pub mod mount {
         PROCEDURE_FIRST = "rpc: a procedure over 5 before its arguments";
         ARGUMENTS_FIRST = "rpc: GARBAGE_ARGS before any status";
         ANY_FLAVOR = "rpc: credential and verifier of any flavor";
-        LONGEST_AUTH = "rpc: a credential or verifier of 400 bytes is read, 401 are answer 5";
+        LONGEST_AUTH = "rpc: a credential or verifier of 400 bytes is read, 401 are answer 9";
         // Reading a path.
         LENGTH_CUT = "path: longer than the call, GARBAGE_ARGS";
         LENGTH_MISSING = "path: no length, or a length cut short, GARBAGE_ARGS";
@@ -444,6 +447,15 @@ pub mod mount {
         BAD_FOR_ALL = "table: answer 12 for every procedure";
     }
 
+    /// Whether these refusals can be due at once. A call has one fault of the
+    /// header; one that is too long is not under 8 bytes, and its header, which
+    /// has at most 840 bytes, is not cut.
+    pub fn possible(refusals: &[u32]) -> bool {
+        let has = |number: &u32| refusals.contains(number);
+        [5, 7, 8, 9].iter().filter(|&number| has(number)).count() <= 1
+            && !(has(&4) && (has(&5) || has(&8)))
+    }
+
     /// The label for two refusals that are due at once.
     pub fn refusal(first: u32, second: u32) -> String {
         format!("entry: answer {first} before {second}")
@@ -512,6 +524,7 @@ pub mod mount {
         let refusals = &ANSWERS[..ANSWERS.len() - 1];
         for (at, &first) in refusals.iter().enumerate() {
             let later = refusals[at + 1..].iter();
+            let later = later.filter(|&&second| possible(&[first, second]));
             labels.extend(later.map(|&second| refusal(first, second)));
         }
         labels.extend(VERSIONS.map(version));
@@ -529,6 +542,438 @@ pub mod mount {
         }
         labels.extend(HOSTS.map(host));
         labels.extend([0, 1, 2, 3].map(remainder));
+        labels
+    }
+}
+
+/// The rules of request E6, which the vector file and the file of mounts must
+/// show, each for its entry.
+pub mod place {
+    use super::mount::possible;
+    use crate::generator::coverage::PROCEDURE_NAMES;
+    use crate::numbers::{mount_procedure, procedure};
+
+    /// What an item is.
+    #[derive(Clone, Copy, PartialEq, Eq, Debug)]
+    pub enum Sort {
+        /// A number, or an opaque item of fixed length: any value is good.
+        Plain,
+        Boolean,
+        /// An enum or discriminant with the values 0, 1 and 2.
+        Enum,
+        /// A credential or a verifier.
+        Auth,
+        Handle,
+        /// A name or data.
+        Text,
+        Path,
+    }
+
+    /// Arguments of a procedure with all optional parts: the items in their
+    /// order.
+    #[derive(Clone, Copy, Debug)]
+    pub struct Form {
+        pub name: &'static str,
+        pub procedure: u32,
+        pub items: &'static [(&'static str, Sort)],
+    }
+
+    const fn form(
+        name: &'static str,
+        procedure: u32,
+        items: &'static [(&'static str, Sort)],
+    ) -> Form {
+        Form {
+            name,
+            procedure,
+            items,
+        }
+    }
+
+    const OBJECT: &[(&str, Sort)] = &[("handle", Sort::Handle)];
+    const NAMED: &[(&str, Sort)] = &[("handle", Sort::Handle), ("name", Sort::Text)];
+    const RANGE: &[(&str, Sort)] = &[
+        ("handle", Sort::Handle),
+        ("offset", Sort::Plain),
+        ("count", Sort::Plain),
+    ];
+
+    /// A list of items with those of all attributes in the middle.
+    macro_rules! with_attributes {
+        ([$($before:expr),*], [$($after:expr),*]) => {
+            &[
+                $($before,)*
+                ("set mode", Sort::Boolean),
+                ("mode", Sort::Plain),
+                ("set uid", Sort::Boolean),
+                ("uid", Sort::Plain),
+                ("set gid", Sort::Boolean),
+                ("gid", Sort::Plain),
+                ("set size", Sort::Boolean),
+                ("size", Sort::Plain),
+                ("set atime", Sort::Enum),
+                ("atime's seconds", Sort::Plain),
+                ("atime's nanoseconds", Sort::Plain),
+                ("set mtime", Sort::Enum),
+                ("mtime's seconds", Sort::Plain),
+                ("mtime's nanoseconds", Sort::Plain),
+                $($after,)*
+            ]
+        };
+    }
+
+    const MADE: &[(&str, Sort)] = with_attributes!(
+        [
+            ("handle", Sort::Handle),
+            ("name", Sort::Text),
+            ("manner", Sort::Enum)
+        ],
+        []
+    );
+
+    /// The forms of the served NFS procedures.
+    pub const NFS_FORMS: [Form; 19] = [
+        form("NULL", procedure::NULL, &[]),
+        form("GETATTR", procedure::GETATTR, OBJECT),
+        form(
+            "SETATTR",
+            procedure::SETATTR,
+            with_attributes!(
+                [("handle", Sort::Handle)],
+                [
+                    ("check", Sort::Boolean),
+                    ("guard's seconds", Sort::Plain),
+                    ("guard's nanoseconds", Sort::Plain)
+                ]
+            ),
+        ),
+        form("LOOKUP", procedure::LOOKUP, NAMED),
+        form(
+            "ACCESS",
+            procedure::ACCESS,
+            &[("handle", Sort::Handle), ("access", Sort::Plain)],
+        ),
+        form("READ", procedure::READ, RANGE),
+        form(
+            "WRITE",
+            procedure::WRITE,
+            &[
+                ("handle", Sort::Handle),
+                ("offset", Sort::Plain),
+                ("count", Sort::Plain),
+                ("stable", Sort::Enum),
+                ("data", Sort::Text),
+            ],
+        ),
+        form("CREATE UNCHECKED", procedure::CREATE, MADE),
+        form("CREATE GUARDED", procedure::CREATE, MADE),
+        form(
+            "CREATE EXCLUSIVE",
+            procedure::CREATE,
+            &[
+                ("handle", Sort::Handle),
+                ("name", Sort::Text),
+                ("manner", Sort::Enum),
+                ("verifier", Sort::Plain),
+            ],
+        ),
+        form(
+            "MKDIR",
+            procedure::MKDIR,
+            with_attributes!([("handle", Sort::Handle), ("name", Sort::Text)], []),
+        ),
+        form("REMOVE", procedure::REMOVE, NAMED),
+        form("RMDIR", procedure::RMDIR, NAMED),
+        form(
+            "RENAME",
+            procedure::RENAME,
+            &[
+                ("first handle", Sort::Handle),
+                ("first name", Sort::Text),
+                ("second handle", Sort::Handle),
+                ("second name", Sort::Text),
+            ],
+        ),
+        form(
+            "READDIR",
+            procedure::READDIR,
+            &[
+                ("handle", Sort::Handle),
+                ("cookie", Sort::Plain),
+                ("verifier", Sort::Plain),
+                ("count", Sort::Plain),
+            ],
+        ),
+        form("FSSTAT", procedure::FSSTAT, OBJECT),
+        form("FSINFO", procedure::FSINFO, OBJECT),
+        form("PATHCONF", procedure::PATHCONF, OBJECT),
+        form("COMMIT", procedure::COMMIT, RANGE),
+    ];
+
+    const PATH: &[(&str, Sort)] = &[("path", Sort::Path)];
+
+    /// The forms of the MOUNT procedures.
+    pub const MOUNT_FORMS: [Form; 6] = [
+        form("NULL", mount_procedure::NULL, &[]),
+        form("MNT", mount_procedure::MNT, PATH),
+        form("DUMP", mount_procedure::DUMP, &[]),
+        form("UMNT", mount_procedure::UMNT, PATH),
+        form("UMNTALL", mount_procedure::UMNTALL, &[]),
+        form("EXPORT", mount_procedure::EXPORT, &[]),
+    ];
+
+    labels! { LABELS:
+        CUT_BEHIND = "8: verifiers cut behind credentials of several lengths";
+        VERIFIER_CUT = "9 at 28: overlong credential, verifier cut";
+        VERIFIER_MISSING = "9 at 28: overlong credential, no verifier";
+        BOTH_OVERLONG = "9 at 28: credential and verifier overlong";
+        CREDENTIAL_PAST_END = "8 at 28: credential past the end, over an overlong verifier";
+        GOOD_CREDENTIAL = "9 at the verifier: good credential, overlong verifier";
+        PADS_OF_HEADER = "padding of credential and verifier changes no offset";
+    }
+
+    // Rules of the NFS entry alone.
+    labels! { NFS_LABELS:
+        STATUSES = "0: every status but OK";
+        OTHER_ENTRIES = "0: check, format and convert, done and refused";
+        OMITTED = "optional parts left out: cut at each byte";
+        TIMES = "a time is two items, in both attributes and in the guard";
+        FIXED = "eight opaque bytes are one item";
+    }
+
+    // Rules of the MOUNT entry alone.
+    labels! { MOUNT_LABELS:
+        MNT_STATUSES = "0: every status of MNT but OK";
+        NFS_CALLS = "calls of the NFS program at this entry, and of MOUNT at the other: 0";
+    }
+
+    pub fn short(length: usize) -> String {
+        format!("5: a call of {length} bytes")
+    }
+
+    pub fn first_item(length: usize) -> String {
+        format!("8 at 8: a call of {length} bytes")
+    }
+
+    /// Message types that are no call's.
+    pub const KINDS: [u32; 4] = [1, 2, 0x8000_0000, u32::MAX];
+    /// What stands behind them.
+    pub const NOTHING: &str = "nothing behind it";
+    pub const UNDER_12: &str = "1 to 3 bytes behind it";
+    pub const WHOLE: &str = "a whole call";
+    pub const BROKEN: &str = "a broken header behind it";
+    pub const OTHER_RPC: &str = "another RPC version behind it";
+
+    pub fn kind(kind: u32, behind: &str) -> String {
+        format!("7: message type {kind}, {behind}")
+    }
+
+    pub const RPC_VERSIONS: [u32; 5] = [0, 1, 3, 0x0200_0000, u32::MAX];
+
+    pub fn denied(version: u32) -> String {
+        format!("0: RPC version {version} denied, with 12 bytes and more")
+    }
+
+    pub fn denied_broken(version: u32) -> String {
+        format!("0: RPC version {version} denied, with a broken header behind")
+    }
+
+    const CUT_ITEMS: [&str; 6] = [
+        "RPC version",
+        "program",
+        "version",
+        "procedure",
+        "credential's flavor",
+        "verifier's flavor",
+    ];
+
+    pub fn cut_item(name: &str) -> String {
+        format!("8: {name} cut at each byte")
+    }
+
+    pub const CREDENTIAL: &str = "credential";
+    pub const VERIFIER: &str = "verifier";
+    const AUTHENTICATORS: [&str; 2] = [CREDENTIAL, VERIFIER];
+    /// Lengths of credentials and verifiers that are cut.
+    pub const BODIES: [usize; 7] = [0, 1, 2, 3, 4, 5, 400];
+
+    pub fn cut_auth(name: &str, body: usize) -> String {
+        format!("8: {name} of {body} bytes cut at each byte")
+    }
+
+    /// Lengths over 400.
+    pub const OVERLONG: [u32; 13] = [
+        401,
+        402,
+        403,
+        404,
+        405,
+        1000,
+        2001,
+        0x0001_0000,
+        0x7FFF_FFFF,
+        0x8000_0000,
+        u32::MAX - 3,
+        u32::MAX - 2,
+        u32::MAX,
+    ];
+    /// The largest of them that is sent with its bytes.
+    pub const LARGEST_WITH_BYTES: u32 = 2001;
+    /// How many of the bytes are there.
+    pub const NONE: &str = "none of its bytes";
+    pub const SOME: &str = "some of its bytes";
+    pub const NO_PADDING: &str = "all of its bytes without the padding";
+    pub const ALL: &str = "all of its bytes";
+
+    pub fn overlong(name: &str, length: u32, there: &str) -> String {
+        format!("9: {name} of {length} bytes, {there}")
+    }
+
+    pub fn word_cut(name: &str) -> String {
+        format!("8: the length of an overlong {name} is itself cut")
+    }
+
+    const NOT_SERVED: [&str; 3] = ["program", "version", "procedure"];
+
+    pub fn header_first(what: &str, number: u32) -> String {
+        format!("{number}: another {what} with a broken header")
+    }
+
+    pub fn no_arguments(what: &str) -> String {
+        format!("0: another {what} with broken arguments")
+    }
+
+    /// What is the matter with a call beside an earlier refusal.
+    pub const FAULTS: [u32; 5] = [5, 7, 8, 9, 0];
+
+    pub fn earlier(number: u32, fault: u32) -> String {
+        if fault == 0 {
+            format!("{number} at 0: with broken arguments")
+        } else {
+            format!("{number} at 0: with a call that would be {fault}")
+        }
+    }
+
+    pub fn unserved(number: u32) -> String {
+        let name = PROCEDURE_NAMES[number as usize];
+        format!("0: {name} NOTSUPP, whatever follows")
+    }
+
+    /// The five procedures that are not served.
+    pub const UNSERVED: [u32; 5] = [
+        procedure::READLINK,
+        procedure::SYMLINK,
+        procedure::MKNOD,
+        procedure::LINK,
+        procedure::READDIRPLUS,
+    ];
+
+    pub fn cut(form: &str, item: &str) -> String {
+        format!("{form}: {item} cut at each byte")
+    }
+
+    /// Values of an item that are refused, if it has any.
+    pub fn bad(form: &str, item: &str, sort: Sort) -> Option<String> {
+        let fault = match sort {
+            Sort::Plain | Sort::Auth => return None,
+            Sort::Boolean => "over 1",
+            Sort::Enum => "unknown",
+            Sort::Handle => "length over 64",
+            Sort::Path => "length over 1,024",
+            Sort::Text => "length past the call",
+        };
+        Some(format!("{form}: {item}, {fault}"))
+    }
+
+    pub fn whole_but_long(form: &str, item: &str) -> String {
+        format!("{form}: {item} too long, with all its bytes")
+    }
+
+    pub fn left_over(form: &str, count: usize) -> String {
+        format!("{form}: {count} bytes left over")
+    }
+
+    pub fn two_faults(form: &str) -> String {
+        format!("{form}: two faults, the first decides")
+    }
+
+    pub fn heads(form: &str) -> String {
+        format!("{form}: behind credentials and verifiers of several lengths")
+    }
+
+    pub fn pads(form: &str) -> String {
+        format!("{form}: padding of any bytes changes no offset")
+    }
+
+    pub fn bad_handle(form: &str) -> String {
+        format!("{form}: broken arguments before a bad or stale handle")
+    }
+
+    /// The labels that both entries have.
+    fn shared(forms: &[Form], refusals: [u32; 4]) -> Vec<String> {
+        let mut labels: Vec<String> = LABELS.iter().map(|&label| label.to_owned()).collect();
+        labels.extend((0..=7).map(short));
+        labels.extend((8..=11).map(first_item));
+        for number in KINDS {
+            let behind = [NOTHING, UNDER_12, WHOLE, BROKEN, OTHER_RPC];
+            labels.extend(behind.map(|behind| kind(number, behind)));
+        }
+        labels.extend(RPC_VERSIONS.map(denied));
+        labels.extend(RPC_VERSIONS.map(denied_broken));
+        labels.extend(CUT_ITEMS.map(cut_item));
+        for name in AUTHENTICATORS {
+            labels.extend(BODIES.map(|body| cut_auth(name, body)));
+            labels.push(word_cut(name));
+            for length in OVERLONG {
+                labels.extend([NONE, SOME].map(|there| overlong(name, length, there)));
+                if length <= LARGEST_WITH_BYTES {
+                    labels.push(overlong(name, length, ALL));
+                    if !length.is_multiple_of(4) {
+                        labels.push(overlong(name, length, NO_PADDING));
+                    }
+                }
+            }
+        }
+        for what in NOT_SERVED {
+            labels.extend([8, 9].map(|number| header_first(what, number)));
+            labels.push(no_arguments(what));
+        }
+        for number in refusals {
+            let faults = FAULTS.iter().filter(|&&fault| possible(&[number, fault]));
+            labels.extend(faults.map(|&fault| earlier(number, fault)));
+        }
+        for form in forms {
+            for (item, sort) in form.items {
+                labels.push(cut(form.name, item));
+                labels.extend(bad(form.name, item, *sort));
+                if [Sort::Handle, Sort::Path].contains(sort) {
+                    labels.push(whole_but_long(form.name, item));
+                }
+            }
+            labels.extend((1..=5).map(|count| left_over(form.name, count)));
+            labels.push(heads(form.name));
+            if !form.items.is_empty() {
+                labels.push(two_faults(form.name));
+                labels.push(pads(form.name));
+            }
+        }
+        labels
+    }
+
+    /// Every label of the vector file.
+    pub fn nfs() -> Vec<String> {
+        let mut labels = shared(&NFS_FORMS, [2, 3, 4, 1]);
+        labels.extend(NFS_LABELS.iter().map(|&label| label.to_owned()));
+        labels.extend(UNSERVED.map(unserved));
+        let handled = NFS_FORMS.iter().filter(|form| !form.items.is_empty());
+        labels.extend(handled.map(|form| bad_handle(form.name)));
+        labels
+    }
+
+    /// Every label of the file of mounts.
+    pub fn mount() -> Vec<String> {
+        let mut labels = shared(&MOUNT_FORMS, [2, 4, 1, 12]);
+        labels.extend(MOUNT_LABELS.iter().map(|&label| label.to_owned()));
         labels
     }
 }

@@ -29,7 +29,8 @@ mod tag {
     pub const STORE_DIGEST: u8 = 65;
     pub const COMPARED: u8 = 67;
     pub const TABLE_DIGEST: u8 = 68;
-    pub const LAST_WANTED: u8 = 69;
+    pub const OFFSET: u8 = 70;
+    pub const LAST_WANTED: u8 = 70;
     // Bytes of buffers.
     pub const STORE: u8 = 128;
     pub const CALL: u8 = 129;
@@ -147,6 +148,7 @@ fn answer_of(search: &Search) -> Answer {
     Answer {
         number: search.found.map_or(0, |record| record as u32 + 1),
         length: 0,
+        offset: 0,
     }
 }
 
@@ -169,6 +171,8 @@ pub struct Writer {
     search: Search,
     numbers: Numbers,
     counts: Counts,
+    /// The bytes of the call that are written so far.
+    call: Vec<u8>,
     /// The bytes of the old image that are written so far.
     old: Vec<u8>,
     /// The bytes of the mount table as they stand, as far as they were lent.
@@ -237,6 +241,7 @@ impl Writer {
     /// Calls an entry, of which this must come back.
     fn step(&mut self, entry: u8, answer: Answer, digest: u64) {
         self.number(tag::LENGTH, answer.length);
+        self.number(tag::OFFSET, answer.offset);
         self.hyper(tag::STORE_DIGEST, digest);
         self.row(entry, answer.number);
         self.counts.step(entry);
@@ -279,23 +284,30 @@ impl Writer {
         self.step(tag::CONVERT_ENTRY, answer, digest);
     }
 
+    /// Lends these bytes as the call.
+    fn lend_call(&mut self, call: &[u8]) {
+        assert!(call.len() <= LARGEST_CALL);
+        self.number(tag::CALL_LENGTH, call.len() as u32);
+        for piece in unlike(&self.call, call) {
+            self.buffer(tag::CALL, piece.start, &call[piece]);
+        }
+        learn(&mut self.call, call);
+    }
+
     pub fn call(&mut self, call: &Call<'_>, outcome: &Outcome, digest: u64) {
-        assert!(call.space <= LARGEST_REPLY && call.bytes.len() <= LARGEST_CALL);
+        assert!(call.space <= LARGEST_REPLY);
         self.number(tag::SECONDS, call.seconds);
         self.number(tag::NANOSECONDS, call.nanoseconds);
         self.hyper(tag::VERIFIER, call.verifier);
-        self.number(tag::CALL_LENGTH, call.bytes.len() as u32);
-        self.buffer(tag::CALL, 0, call.bytes);
+        self.lend_call(call.bytes);
         self.number(tag::REPLY_LENGTH, call.space as u32);
         self.buffer(tag::REPLY, 0, &outcome.reply);
         self.step(tag::CALL_ENTRY, outcome.answer, digest);
     }
 
     pub fn search(&mut self, directory: u32, name: &[u8], search: Search, digest: u64) {
-        assert!(name.len() <= LARGEST_CALL);
         self.number(tag::DIRECTORY, directory);
-        self.number(tag::CALL_LENGTH, name.len() as u32);
-        self.buffer(tag::CALL, 0, name);
+        self.lend_call(name);
         self.number(tag::COMPARED, search.compared);
         self.step(tag::SEARCH_ENTRY, answer_of(&search), digest);
         self.search = search;
@@ -320,10 +332,9 @@ impl Writer {
 
     /// A MOUNT call, after which the table is this one.
     pub fn mount(&mut self, mount: &Mount<'_>, outcome: &Outcome, table: &[u8], store: u64) {
-        assert!(mount.space <= LARGEST_REPLY && mount.bytes.len() <= LARGEST_CALL);
+        assert!(mount.space <= LARGEST_REPLY);
         self.number(tag::HOST, mount.host);
-        self.number(tag::CALL_LENGTH, mount.bytes.len() as u32);
-        self.buffer(tag::CALL, 0, mount.bytes);
+        self.lend_call(mount.bytes);
         self.number(tag::REPLY_LENGTH, mount.space as u32);
         self.buffer(tag::REPLY, 0, &outcome.reply);
         self.hyper(tag::TABLE_DIGEST, digest(table));
@@ -538,8 +549,12 @@ impl Buffers {
             }
             _ => return None,
         };
-        let length = numbers.get(tag::LENGTH);
-        let agrees = answer == Answer { number, length }
+        let wanted = Answer {
+            number,
+            length: numbers.get(tag::LENGTH),
+            offset: numbers.get(tag::OFFSET),
+        };
+        let agrees = answer == wanted
             && self.search.compared == numbers.get(tag::COMPARED)
             && self.table_digest == numbers.hyper(tag::TABLE_DIGEST)
             && self.reply == self.wanted

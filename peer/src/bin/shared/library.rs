@@ -3,10 +3,13 @@
 use peer::generator::driver::{Call, Format, Mount};
 use peer::Answer;
 
+/// What every entry returns by value: `struct nfs3_answer` of three 32-bit
+/// numbers.
 #[repr(C)]
 struct RawAnswer {
     number: u32,
     length: u32,
+    offset: u32,
 }
 
 impl From<RawAnswer> for Answer {
@@ -14,6 +17,7 @@ impl From<RawAnswer> for Answer {
         Answer {
             number: raw.number,
             length: raw.length,
+            offset: raw.offset,
         }
     }
 }

@@ -6,6 +6,7 @@ use std::fmt::Write;
 use super::super::coverage::{outcome_of, status_name, OUTCOMES};
 use super::super::driver::{Mount, Outcome};
 use super::super::lane::status_of;
+use super::super::places;
 use super::tables::{self, DAMAGES};
 use crate::layout::word;
 use crate::numbers::{mount_procedure, Status};
@@ -23,8 +24,9 @@ pub const STATUSES: [Status; 7] = [
     Status::SERVERFAULT,
 ];
 
-/// The answers of the entry, in the order of their tests.
-pub const ANSWERS: [u32; 6] = [2, 4, 1, 12, 5, 0];
+/// The answers of the entry: those that the call does not decide, in the order
+/// of their tests, then the header's, of which a call has at most one, then 0.
+pub const ANSWERS: [u32; 9] = [2, 4, 1, 12, 5, 7, 8, 9, 0];
 
 /// Counters of what has been reached.
 #[derive(Default)]
@@ -34,6 +36,8 @@ pub struct Mounts {
     /// Calls that succeed, by procedure; MNT by its status.
     done: BTreeMap<(u32, Option<u32>), u64>,
     garbage: BTreeMap<u32, u64>,
+    /// Where calls are broken.
+    places: places::Counts,
     /// Tables before the calls.
     states: BTreeMap<&'static str, u64>,
 }
@@ -52,6 +56,9 @@ impl Mounts {
     /// Counts what a call came to.
     pub fn after(&mut self, mount: &Mount<'_>, outcome: &Outcome) {
         *self.answers.entry(outcome.answer.number).or_default() += 1;
+        if [0, 5, 7, 8, 9].contains(&outcome.answer.number) {
+            self.places.add(places::mount(mount.bytes), mount.bytes);
+        }
         if outcome.answer.number != 0 {
             return;
         }
@@ -72,7 +79,7 @@ impl Mounts {
 
     /// What should have been reached and was not.
     pub fn missing(&self) -> Vec<String> {
-        let mut missing = Vec::new();
+        let mut missing = self.places.missing(&PROCEDURE_NAMES, &[]);
         for number in ANSWERS {
             if !self.answers.contains_key(&number) {
                 missing.push(format!("mount answer {number}"));
@@ -163,6 +170,8 @@ impl Mounts {
                 .map(|(state, &count)| ((*state).to_owned(), count))
                 .collect(),
         );
+        let title = "Where MOUNT calls are broken";
+        text.push_str(&self.places.table(title, &PROCEDURE_NAMES));
         text
     }
 }

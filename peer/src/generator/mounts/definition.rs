@@ -3,12 +3,14 @@
 //! the peer's.
 
 use super::super::driver::Mount;
+use super::super::places;
 use super::super::view::View;
 use super::tables::{self, Row, Rows};
 
 /// The outcome of a MOUNT call.
 pub struct Defined {
     pub number: u32,
+    pub offset: u32,
     pub reply: Vec<u8>,
     pub table: Vec<u8>,
 }
@@ -43,8 +45,10 @@ impl<'a> Fields<'a> {
 
 /// The outcome that the papers ask for.
 pub fn defined(mount: &Mount<'_>, store: &[u8], table: &[u8]) -> Defined {
+    let place = places::of_mount(mount, store, table);
     let refused = |number| Defined {
         number,
+        offset: place.offset,
         reply: Vec::new(),
         table: table.to_vec(),
     };
@@ -63,10 +67,11 @@ pub fn defined(mount: &Mount<'_>, store: &[u8], table: &[u8]) -> Defined {
     match accepted(mount, &view, rows) {
         Some((reply, rows)) => Defined {
             number: 0,
+            offset: place.offset,
             reply,
             table: rows.map_or(table.to_vec(), |rows| tables::write(&rows)),
         },
-        None => refused(5),
+        None => refused(place.number),
     }
 }
 
@@ -74,7 +79,8 @@ fn words(words: &[u32]) -> Vec<u8> {
     words.iter().flat_map(|word| word.to_be_bytes()).collect()
 }
 
-/// The reply and the rows, if they change; `None` without a complete header.
+/// The reply and the rows, if they change; `None` without a complete header, of
+/// which `places` says what is the matter.
 fn accepted(mount: &Mount<'_>, view: &View, rows: Rows) -> Option<(Vec<u8>, Option<Rows>)> {
     let mut call = Fields(mount.bytes);
     let xid = call.word()?;

@@ -3,6 +3,7 @@
 
 pub mod counts;
 pub mod definition;
+mod place_scripts;
 mod scripts;
 mod seeded;
 mod table_scripts;
@@ -21,7 +22,7 @@ pub use seeded::{run, Extent};
 
 /// Seeded runs of the file: extent, how many, steps in each.
 const SEEDED_RUNS: [(Extent, usize, usize); 3] = [
-    (Extent::Small, 76, 45),
+    (Extent::Small, 60, 45),
     (Extent::Middle, 18, 60),
     (Extent::Full, 2, 30),
 ];

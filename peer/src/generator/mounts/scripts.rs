@@ -31,6 +31,7 @@ pub fn all(runs: &mut Runs<'_>) {
     unmounting(runs);
     lists(runs);
     super::table_scripts::all(runs);
+    super::place_scripts::all(runs);
 }
 
 /// Every set of refusals answers the one tested first.
@@ -41,32 +42,42 @@ fn answers(runs: &mut Runs<'_>) {
     let sound = gate.lane.driver.table().to_vec();
     let mut damaged = sound.clone();
     damaged[TABLE_BYTES - 1] = 1;
-    for faults in 0..32u32 {
-        let due: Vec<u32> = (0..5)
-            .filter(|at| faults >> at & 1 != 0)
-            .map(|at| counts::ANSWERS[at])
-            .collect();
-        let has = |number: u32| due.contains(&number);
-        let mut bytes = call(faults, mount_procedure::NULL, None);
-        if has(5) {
-            bytes[7] = 1;
-        }
-        if has(4) {
-            bytes.resize(8193, 0);
-        }
-        gate.space = if has(2) { 33_691 } else { 33_692 };
-        gate.lane.patch_word(root, if has(1) { 1 } else { 2 });
-        gate.lane
-            .driver
-            .set_table(if has(12) { &damaged } else { &sound });
-        match due.split_first() {
-            Some((&first, later)) => {
-                gate.refused(&bytes, first);
-                for &second in later {
-                    gate.rule(&rule::refusal(first, second));
-                }
+    for faults in 0..16u32 {
+        for broken in [0, 5, 7, 8, 9] {
+            let due: Vec<u32> = (0..4)
+                .filter(|at| faults >> at & 1 != 0)
+                .map(|at| counts::ANSWERS[at])
+                .chain([broken].into_iter().filter(|&number| number != 0))
+                .collect();
+            if !rule::possible(&due) {
+                continue;
             }
-            None => assert_eq!(gate.raw(&bytes).answer.length, 24),
+            let has = |number: u32| due.contains(&number);
+            let mut bytes = call(faults, mount_procedure::NULL, None);
+            match broken {
+                5 => bytes.truncate(7),
+                7 => bytes[7] = 1,
+                8 => bytes.truncate(39),
+                9 => bytes[30] = 2,
+                _ => {}
+            }
+            if has(4) {
+                bytes.resize(8193, 0);
+            }
+            gate.space = if has(2) { 33_691 } else { 33_692 };
+            gate.lane.patch_word(root, if has(1) { 1 } else { 2 });
+            gate.lane
+                .driver
+                .set_table(if has(12) { &damaged } else { &sound });
+            match due.split_first() {
+                Some((&first, later)) => {
+                    gate.refused(&bytes, first);
+                    for &second in later {
+                        gate.rule(&rule::refusal(first, second));
+                    }
+                }
+                None => assert_eq!(gate.raw(&bytes).answer.length, 24),
+            }
         }
     }
     gate.rule(rule::REFUSED);
@@ -103,13 +114,13 @@ fn edges(runs: &mut Runs<'_>) {
     gate.rule(rule::LONGEST_CALL);
     let mount = call(4, mount_procedure::MNT, Some(b"/"));
     for length in 0..40 {
-        gate.refused(&mount[..length], 5);
+        gate.refused(&mount[..length], if length < 8 { 5 } else { 8 });
     }
     gate.rule(rule::CUT_HEADER);
     for kind in [1u32, 2, 0x0100_0000, u32::MAX] {
         let mut other = mount.clone();
         other[4..8].copy_from_slice(&kind.to_be_bytes());
-        gate.refused(&other, 5);
+        gate.refused(&other, 7);
     }
     gate.rule(rule::NO_CALL);
     assert_eq!(gate.used(), 0);
@@ -218,9 +229,9 @@ fn headers(runs: &mut Runs<'_>) {
         (400, 0, 0),
         (0, 400, 0),
         (400, 400, 0),
-        (401, 0, 5),
-        (0, 401, 5),
-        (404, 404, 5),
+        (401, 0, 9),
+        (0, 401, 9),
+        (404, 404, 9),
     ] {
         let long = Header {
             credential: (1, vec![1; credential]),
@@ -351,7 +362,7 @@ fn paddings(runs: &mut Runs<'_>) {
                     let used = gate.used();
                     for missing in 1..=count {
                         let number = gate.raw(padded.cut(place, missing)).answer.number;
-                        assert_eq!(number, if place == 2 { 0 } else { 5 });
+                        assert_eq!(number, if place == 2 { 0 } else { 8 });
                         assert_eq!(gate.used(), used);
                     }
                     gate.rule(&rule::padding(procedure, field, count, true));

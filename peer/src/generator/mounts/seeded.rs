@@ -3,6 +3,7 @@
 //! the middle and are taken again; some tables and stores are damaged for one
 //! call.
 
+use super::super::broken_calls::{any_authenticators, break_by_chance, Itemized};
 use super::super::driver::Driver;
 use super::super::encode::{Attributes, Header, Request};
 use super::super::lane::*;
@@ -132,7 +133,8 @@ pub fn run(driver: &mut dyn Driver, number: u32, seed: u64, extent: Extent, step
 impl MountRun<'_> {
     fn step(&mut self) {
         match self.random.below(100) {
-            0..=61 => self.call(),
+            0..=55 => self.call(),
+            56..=61 => self.broken_call(),
             62..=77 => {
                 let request = self.request();
                 self.change(&request);
@@ -412,6 +414,20 @@ impl MountRun<'_> {
             _ => bytes.len() + self.random.between(1, 8),
         };
         bytes.resize(length, self.random.pick(&[0, 0xFF]));
+        self.send(&bytes);
+    }
+
+    /// A call that is cut, lengthened or has fields damaged, behind a header
+    /// of any length.
+    fn broken_call(&mut self) {
+        let (procedure, path) = self.asked();
+        let mut header = header(self.gate.lane.next_xid(), procedure);
+        any_authenticators(&mut header, &mut self.random);
+        let mut call = Itemized::new(&header, &fields(path.as_deref()));
+        if self.random.once_in(3) {
+            call.fill_pads(self.random.pick(&[1, b'/', 0xFF]));
+        }
+        let bytes = break_by_chance(&call, &mut self.random);
         self.send(&bytes);
     }
 

@@ -80,9 +80,9 @@ pub(super) fn examples(runs: &mut Runs<'_>) {
 pub(super) fn entry_answers(runs: &mut Runs<'_>) {
     for damaged in [false, true] {
         let title = if damaged {
-            "answers 2 to 5 on a damaged store"
+            "refusals on a damaged store"
         } else {
-            "answers 2 to 5"
+            "refusals"
         };
         let mut lane = runs.open(title, (2, 2, 2));
         if damaged {
@@ -90,14 +90,14 @@ pub(super) fn entry_answers(runs: &mut Runs<'_>) {
             lane.patch_word(at, 1);
         }
         for faults in 0..16 {
-            let (small, clock, long, cut) = (
+            let (small, clock, long, reply) = (
                 faults & 1 != 0,
                 faults & 2 != 0,
                 faults & 4 != 0,
                 faults & 8 != 0,
             );
             let mut bytes = Request::Null.call(faults);
-            if cut {
+            if reply {
                 bytes[4] = 1;
             }
             if long {
@@ -111,8 +111,8 @@ pub(super) fn entry_answers(runs: &mut Runs<'_>) {
                 4
             } else if damaged {
                 1
-            } else if cut {
-                5
+            } else if reply {
+                7
             } else {
                 0
             };
@@ -186,19 +186,20 @@ pub(super) fn headers(runs: &mut Runs<'_>) {
         ..Header::new(1, 0)
     };
     let bytes = full.encode();
-    let answer_five = |lane: &mut Lane<'_>, label: &str, bytes: &[u8]| {
-        lane.driver.note(ANSWERS, &format!("call 5: {label}"));
-        assert_eq!(lane.raw(bytes).answer.number, 5, "{label}");
+    let refused = |lane: &mut Lane<'_>, number: u32, label: &str, bytes: &[u8]| {
+        lane.driver
+            .note(ANSWERS, &format!("call {number}: {label}"));
+        assert_eq!(lane.raw(bytes).answer.number, number, "{label}");
     };
     for length in 0..bytes.len() {
-        let label = match length {
-            0..=7 => "under 8 bytes",
-            8..=11 => "too short for the RPC version",
-            12..=23 => "cut before the credential",
-            24..=39 => "cut in the credential",
-            _ => "cut in the verifier",
+        let (number, label) = match length {
+            0..=7 => (5, "under 8 bytes"),
+            8..=11 => (8, "too short for the RPC version"),
+            12..=23 => (8, "cut before the credential"),
+            24..=39 => (8, "cut in the credential"),
+            _ => (8, "cut in the verifier"),
         };
-        answer_five(&mut lane, label, &bytes[..length]);
+        refused(&mut lane, number, label, &bytes[..length]);
     }
     assert_eq!(lane.raw(&bytes).answer.number, 0);
     for kind in [1, 2, 0x0100_0000, 0x8000_0000, u32::MAX] {
@@ -206,12 +207,12 @@ pub(super) fn headers(runs: &mut Runs<'_>) {
             kind,
             ..full.clone()
         };
-        answer_five(&mut lane, "message type not 0", &other.encode());
+        refused(&mut lane, 7, "message type not 0", &other.encode());
         let other = Header {
             rpc_version: 3,
             ..other
         };
-        answer_five(&mut lane, "message type not 0", &other.encode());
+        refused(&mut lane, 7, "message type not 0", &other.encode());
     }
     for length in [0usize, 1, 2, 3, 4, 399, 400, 401, 402, 404, 1000] {
         for (is_verifier, label) in [(false, "credential"), (true, "verifier")] {
@@ -224,7 +225,7 @@ pub(super) fn headers(runs: &mut Runs<'_>) {
             }
             let bytes = header.encode();
             if length > 400 {
-                answer_five(&mut lane, &format!("{label} over 400 bytes"), &bytes);
+                refused(&mut lane, 9, &format!("{label} over 400 bytes"), &bytes);
             } else {
                 assert_eq!(lane.raw(&bytes).answer.number, 0);
             }
@@ -234,17 +235,17 @@ pub(super) fn headers(runs: &mut Runs<'_>) {
         for at in [28, 36] {
             let mut bytes = Header::new(9, 0).encode();
             bytes[at..at + 4].copy_from_slice(&u32::to_be_bytes(length));
-            answer_five(&mut lane, "length over 400 without bytes", &bytes);
+            refused(&mut lane, 9, "length over 400 without bytes", &bytes);
         }
     }
-    // Answer 5 comes before the program is judged.
+    // The header comes before the program is judged.
     let mut other = Header {
         program: 1,
         ..full.clone()
     }
     .encode();
     other.pop();
-    answer_five(&mut lane, "cut header of another program", &other);
+    refused(&mut lane, 8, "cut header of another program", &other);
 
     let outcome = |lane: &mut Lane<'_>, label: &str, bytes: &[u8], length: u32| {
         lane.driver.note(OUTCOMES, label);

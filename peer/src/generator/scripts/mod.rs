@@ -1,7 +1,8 @@
 //! Runs written out by hand: the examples of document 01, every refusal and
 //! RPC outcome, every status of every procedure, full stores, spent
 //! generations, damaged stores, the rules of EXCLUSIVE CREATE, conversions, pad
-//! bytes that are not zero and RENAME over names that exist.
+//! bytes that are not zero, RENAME over names that exist and calls that are
+//! broken at every place.
 
 mod conversions;
 mod damage;
@@ -9,6 +10,7 @@ mod exclusive;
 mod limits;
 mod messages;
 mod padding;
+pub mod places;
 mod rename;
 mod statuses;
 
@@ -18,7 +20,7 @@ use super::lane::*;
 use crate::layout::Shape;
 
 const EXAMPLES: &str = "Examples of document 01";
-const ANSWERS: &str = "Ways to the answers 1 to 6";
+const ANSWERS: &str = "Ways to the answers 1 to 9";
 const OUTCOMES: &str = "RPC outcomes brought about one by one";
 const MALFORMED: &str = "Malformed arguments";
 const BROKEN: &str = "Broken demands of the check";
@@ -108,6 +110,10 @@ pub fn all(runs: &mut Runs<'_>) {
     rename::old_handles(runs);
     rename::spent_generations(runs);
     rename::clocks(runs);
+    places::headers(runs);
+    places::arguments(runs);
+    places::bad_handles(runs);
+    places::nowhere(runs);
     messages::changed_bytes(runs);
     limits::largest_store(runs);
     limits::scattered_blocks(runs);

@@ -119,7 +119,7 @@ fn cut(lane: &mut Lane<'_>, call: &Padded, place: usize) {
         let before = lane.driver.store().to_vec();
         let outcome = lane.raw(call.cut(place, missing));
         if place < ARGUMENTS {
-            assert_eq!(outcome.answer.number, 5);
+            assert_eq!(outcome.answer.number, 8);
         } else {
             assert!(is_garbage(&outcome));
         }
@@ -469,7 +469,7 @@ pub(super) fn headers(runs: &mut Runs<'_>) {
         for (credential, verifier) in [(length, 0), (0, length), (3, length)] {
             let header = header(&mut lane, procedure::NULL, credential, verifier);
             let dirty = pads.everywhere(&Padded::new(&header, &[]));
-            assert_eq!(alike(&mut lane, &dirty).answer.number, 5);
+            assert_eq!(alike(&mut lane, &dirty).answer.number, 9);
             lane.rule(rules::PADS_LONG_HEADER);
         }
     }
@@ -519,7 +519,7 @@ pub(super) fn unread(runs: &mut Runs<'_>) {
         for place in call.padded() {
             let outcome = lane.raw(call.cut(place, 1));
             if place < ARGUMENTS {
-                assert_eq!(outcome.answer.number, 5);
+                assert_eq!(outcome.answer.number, 8);
             } else {
                 assert_eq!(outcome, whole);
             }
