@@ -12,6 +12,7 @@ use lib.Seq.{take-at}
 use borrow.Author.Tests.{le-ltb, lt-ltb, ltb-false, ltb-true}
 use Rattle.kinds.specs.Numbers.{leastReplyBytes, mostCallBytes, nanosecondsEnd}
 use Rattle.kinds.specs.Reading.{Read, got, bad}
+use Rattle.kinds.specs.declared.numbers.Fault.{Fault}
 use Rattle.kinds.specs.declared.object.Context.{Context}
 use Rattle.kinds.specs.declared.call.CallHeader.{CallHeader}
 use Rattle.kinds.specs.declared.call.Header.{Header}
@@ -24,9 +25,9 @@ use Rattle.spec.specs.Image.{Store}
 use Rattle.spec.specs.Procedures.{act}
 use Rattle.spec.specs.Replies.{resultBytes}
 use Rattle.spec.specs.Checked.{Checked, refused, passed}
-use Rattle.spec.specs.Header.{header}
+use Rattle.spec.specs.Header.{header, fault}
 use Rattle.spec.specs.Rpc.{denied, accepted, nfs, judge, mismatch}
-use Rattle.spec.specs.Serve.{Outcome, refuse, Sent, send, perform, answer, complete, outcome as settled, serve}
+use Rattle.spec.specs.Serve.{Outcome, refuse, Sent, send, perform, answer, complete, serve}
 use Rattle.laws.proofs.Count.{by-bool}
 use Rattle.laws.proofs.Words.{words-length}
 use Rattle.history.specs.Book.{Ledger, argumentsGot, judgedArguments, headedArguments, asked, isStatus, isOk, noted, note}
@@ -73,10 +74,10 @@ judge-stat h stat e =
 
 module _ (s : Store) (x : Request) where
   sent : Arguments → ℕ → ℕ → Sent
-  sent a xid p = record { reply = actReply s (x .context) (x .call) a xid p; store = act s (x .context) (x .call) a .store }
+  sent a xid p = record { reply = actReply s (x .context) (x .call) a xid p; offset = 0; store = act s (x .context) (x .call) a .store }
 
   answered : (a : Arguments) (r : Read Header) → headedArguments (x .call) r ≡ some a
-      → (xid : ℕ) × (p : ℕ) × (settled (x .space) s (complete s (x .context) (x .call) r) ≡ send (x .space) (sent a xid p))
+      → (xid : ℕ) × (p : ℕ) × (complete (x .space) s (x .context) (x .call) r ≡ send (x .space) (sent a xid p))
   unfolding sent
   answered a (bad p) e = some-none e
   answered a (got (Header.OtherVersion xid) at) e = some-none e
@@ -92,7 +93,7 @@ module _ (s : Store) (x : Request) where
       judged (refused stat) e = some-none e
       judged (passed _) e = read (arguments (h .procedure) (x .call) at) e
 
-  unanswered : (r : Read Header) → headedArguments (x .call) r ≡ none → settled (x .space) s (complete s (x .context) (x .call) r) .store ≡ s
+  unanswered : (r : Read Header) → headedArguments (x .call) r ≡ none → complete (x .space) s (x .context) (x .call) r .store ≡ s
   unanswered (bad p) e = refl
   unanswered (got (Header.OtherVersion xid) at) e = refl
   unanswered (got (Header.Call h) at) e = judged (judge nfs h) e
@@ -106,19 +107,20 @@ module _ (s : Store) (x : Request) where
       judged (passed _) e = read (arguments (h .procedure) (x .call) at) e
 
   -- whatever is sent where nothing is asked shows no status
-  silent-sent : (k : ℕ) (reply : List ℕ) → isStatus k reply ≡ false → isStatus k (replied (send (x .space) (record { reply = reply; store = s }))) ≡ false
-  silent-sent k reply f = ap (isStatus k) (sent-reply (x .space) (record { reply = reply; store = s })) ∙ f
+  silent-sent : (k offset : ℕ) (reply : List ℕ) → isStatus k reply ≡ false
+      → isStatus k (replied (send (x .space) (record { reply = reply; offset = offset; store = s }))) ≡ false
+  silent-sent k offset reply f = ap (isStatus k) (sent-reply (x .space) (record { reply = reply; offset = offset; store = s })) ∙ f
 
   silence : (k : ℕ) (r : Read Header) → headedArguments (x .call) r ≡ none
-      → isStatus k (replied (settled (x .space) s (complete s (x .context) (x .call) r))) ≡ false
+      → isStatus k (replied (complete (x .space) s (x .context) (x .call) r)) ≡ false
   unfolding denied
   silence k (bad p) e = short-silent [] (omega arith) k
   silence k (got (Header.OtherVersion xid) at) e =
-      silent-sent k (denied xid) (short-silent (denied xid) (omega (arith, words-length (xid ∷ 1 ∷ 1 ∷ 0 ∷ 2 ∷ 2 ∷ []))) k)
+      silent-sent k 0 (denied xid) (short-silent (denied xid) (omega (arith, words-length (xid ∷ 1 ∷ 1 ∷ 0 ∷ 2 ∷ 2 ∷ []))) k)
   silence k (got (Header.Call h) at) e = judged (judge nfs h) refl e
     where
       read : (r : Read Arguments) → argumentsGot r ≡ none → isStatus k (replied (send (x .space) (perform s (x .context) (x .call) h r))) ≡ false
-      read (bad p) e = silent-sent k (accepted (h .xid) 4 []) (other-silent (h .xid) 4 [] (lit< tt) (lit< tt) k)
+      read (bad p) e = silent-sent k p (accepted (h .xid) 4 []) (other-silent (h .xid) 4 [] (lit< tt) (lit< tt) k)
       read (got b next) e = some-none (sym e)
 
       judged : (j : Checked (Unit {0})) → judge nfs h ≡ j → judgedArguments (x .call) h at j ≡ none
@@ -126,12 +128,12 @@ module _ (s : Store) (x : Request) where
       judged (refused stat) w e =
           let z = judge-stat h stat w in
           let body = mismatch nfs stat in
-          silent-sent k (accepted (h .xid) stat body) (other-silent (h .xid) stat body (z .0) (z .1) k)
+          silent-sent k 0 (accepted (h .xid) stat body) (other-silent (h .xid) stat body (z .0) (z .1) k)
       judged (passed _) w e = read (arguments (h .procedure) (x .call) at) e
 
   -- the tests in the table's order
   heard : leastReplyBytes ≤ length (x .space) → x .context .clock .nanoseconds < nanosecondsEnd → length (x .call) ≤ mostCallBytes → passes s ≡ true
-      → outcomeOf s x ≡ settled (x .space) s (complete s (x .context) (x .call) (header (x .call) 0))
+      → outcomeOf s x ≡ complete (x .space) s (x .context) (x .call) (header (x .call) 0)
   unfolding serve goodTime
   heard a b c d =
       rw (le-ltb (length (x .space)) leastReplyBytes a, lt-ltb (x .context .clock .nanoseconds) nanosecondsEnd b, le-ltb mostCallBytes (length (x .call)) c, d)
@@ -154,16 +156,16 @@ module _ (s : Store) (x : Request) where
     pub ledger : (L : Ledger) → note (x .call) (replyTo s x) L ≡ L
     pub silent : (k : ℕ) → isStatus k (replyTo s x) ≡ false
 
-  refused-idle : (n : ℕ) → outcomeOf s x ≡ refuse n (x .space) s → Idle
+  refused-idle : (f : Fault) → outcomeOf s x ≡ refuse f (x .space) s → Idle
   unfolding replyTo note isOk isStatus
-  refused-idle n e =
+  refused-idle f e =
       record {
         store = ap (λ (o : Outcome). o .store) e;
         ledger = λ L. ap (λ (o : Outcome). note (x .call) (replied o) L) e;
         silent = λ k. ap (λ (o : Outcome). isStatus k (replied o)) e;
       }
 
-  unasked-idle : asked (x .call) ≡ none → outcomeOf s x ≡ settled (x .space) s (complete s (x .context) (x .call) (header (x .call) 0)) → Idle
+  unasked-idle : asked (x .call) ≡ none → outcomeOf s x ≡ complete (x .space) s (x .context) (x .call) (header (x .call) 0) → Idle
   unfolding replyTo note asked noted
   unasked-idle n e =
       record {
@@ -177,12 +179,12 @@ module _ (s : Store) (x : Request) where
   unfolding serve goodTime
   served v =
       by-bool (ltb (length (x .space)) leastReplyBytes)
-      (λ a. inl (refused-idle 2 (rw a)))
+      (λ a. inl (refused-idle (fault 2 0) (rw a)))
       (λ a. by-bool (ltb (x .context .clock .nanoseconds) nanosecondsEnd)
       (λ b. by-bool (ltb mostCallBytes (length (x .call)))
-      (λ c. inl (refused-idle 4 (rw (a, b, c))))
+      (λ c. inl (refused-idle (fault 4 0) (rw (a, b, c))))
       (λ c. go (asked (x .call)) refl a b c))
-      (λ b. inl (refused-idle 3 (rw (a, b)))))
+      (λ b. inl (refused-idle (fault 3 0) (rw (a, b)))))
     where
       go : (o : Option Arguments) → asked (x .call) ≡ o → ltb (length (x .space)) leastReplyBytes ≡ false
           → ltb (x .context .clock .nanoseconds) nanosecondsEnd ≡ true

@@ -91,8 +91,8 @@ unfoldable pub liveObjects : Store → ℕ
 liveObjects s = count (objects s) (isLive s)
 
 -- ---- requests and replies
--- the request passes every check before its procedure's (the answers 2, 3 and 4; 1 does not come, and 5, the RPC outcomes and GARBAGE_ARGS
--- are what `asked` rules out), and is read as a call with these arguments
+-- the request passes every check before its procedure's (the answers 2, 3 and 4; 1 does not come, and 5, 7, 8 and 9, the RPC outcomes and
+-- GARBAGE_ARGS are what `asked` rules out), and is read as a call with these arguments
 pub record Asks (x : Request) (a : Arguments) : Type 0 where
   pub space : leastReplyBytes ≤ length (x .space)
   pub clock : x .context .clock .nanoseconds < nanosecondsEnd

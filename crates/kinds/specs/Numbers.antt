@@ -186,7 +186,7 @@ limits =
     ∷ keptFlag ∷ mostFileBytes ∷ spentGeneration ∷ mostMode ∷ mostNameBytes ∷ handleLength ∷ mostHandleBytes ∷ mostCredentialBytes
     ∷ mostTransferBytes ∷ mostLinks ∷ fileSync ∷ fileSystemProperties ∷ listingCost ∷ entryFixedCost ∷ fileRights ∷ directoryRights ∷ []
 
--- the answers: done, store fails its check, reply space, clock, call over 8,192 bytes, no complete call header, format; and "a table that fails
--- its check 12"
+-- the answers: done, store fails its check, reply space, clock, call over 8,192 bytes, "5 for under 8 bytes", format, "7 for a message type other
+-- than 0, 8 for a header cut short, 9 for an overlong credential or verifier"; and "a table that fails its check 12"
 abbrev pub answers : List ℕ
-answers = 0 ∷ 1 ∷ 2 ∷ 3 ∷ 4 ∷ 5 ∷ 6 ∷ 12 ∷ []
+answers = 0 ∷ 1 ∷ 2 ∷ 3 ∷ 4 ∷ 5 ∷ 6 ∷ 7 ∷ 8 ∷ 9 ∷ 12 ∷ []

@@ -351,11 +351,12 @@ impl Limit {
     }
 }
 
-// The answer of an entry: its number, and the length of the reply.
+// The answer of an entry: its number, the length of the reply, and the byte of the call at which a field starts that cannot be read.
 #[repr(C)]
 pub struct Answer {
     pub number: u32,
     pub length: u32,
+    pub offset: u32,
 }
 
 impl Answer {
@@ -369,14 +370,20 @@ impl Answer {
 
     pub const CALL: u32 = 4;
 
-    pub const HEADER: u32 = 5;
+    pub const MESSAGE: u32 = 5;
 
     pub const FORMAT: u32 = 6;
+
+    pub const MESSAGE_TYPE: u32 = 7;
+
+    pub const HEADER: u32 = 8;
+
+    pub const CREDENTIAL: u32 = 9;
 
     pub const TABLE: u32 = 12;
 
     // The numbers of the constants above, in their order.
-    pub fn numbers() -> [u32; 8]
+    pub fn numbers() -> [u32; 11]
         ensures { λ r. ⌜ r ≡ answers ⌝ }
     {
         [
@@ -385,9 +392,18 @@ impl Answer {
             Answer::REPLY_SPACE,
             Answer::CLOCK,
             Answer::CALL,
-            Answer::HEADER,
+            Answer::MESSAGE,
             Answer::FORMAT,
+            Answer::MESSAGE_TYPE,
+            Answer::HEADER,
+            Answer::CREDENTIAL,
             Answer::TABLE,
         ]
     }
+}
+
+// Why the header of a call is refused: the number of the answer, and its offset.
+pub struct Fault {
+    pub number: u32,
+    pub offset: u32,
 }

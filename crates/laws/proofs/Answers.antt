@@ -32,8 +32,8 @@ abbrev pub replyFrom : List ℕ → Store → ℕ → List ℕ
 replyFrom call s at = part (served call s .space) at (served call s .length - at)
 
 pub record Answers : Type 0 where
-  -- "Answers 1 to 6 .. return length 0 and change nothing in any lent buffer."; "call over 8,192 bytes"
-  pub refusal : serve (zeros 8) (7 ∷ []) (9 ∷ []) context ≡ record { number = 2; length = 0; space = 9 ∷ []; store = 7 ∷ [] }
+  -- "Answers 1 to 6, and every number added later, return length 0 and change nothing in any lent buffer."; "call over 8,192 bytes"
+  pub refusal : serve (zeros 8) (7 ∷ []) (9 ∷ []) context ≡ record { number = 2; length = 0; offset = 0; space = 9 ∷ []; store = 7 ∷ [] }
   pub longest-call : answerTo (zeros 8192) rootAlone space 0 ≡ 0
   -- GARBAGE_ARGS: "a boolean over 1, an unknown enum, a handle over 64 bytes"
   pub bool-two : isGarbage (setattrCall 0 (2 ∷ 0 ∷ 0 ∷ 0 ∷ 0 ∷ 0 ∷ 0 ∷ [])) rootAlone ≡ true

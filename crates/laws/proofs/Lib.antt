@@ -5,6 +5,7 @@ pub mod ArgumentRange
 pub mod Arguments
 pub mod BlockLists
 pub mod BlockWrites
+pub mod BrokenHeader
 pub mod Bytes
 pub mod Converted
 pub mod Count
@@ -26,8 +27,10 @@ pub mod MoveName
 pub mod Names
 pub mod NewObject
 pub mod Passed
+pub mod Places
 pub mod PlainObject
 pub mod Range
+pub mod Readers
 pub mod RecordRange
 pub mod Records
 pub mod RecordsOnly

@@ -19,11 +19,11 @@ use Rattle.spec.specs.Arguments.{arguments}
 use Rattle.spec.specs.Bytes.{beAt}
 use Rattle.spec.specs.Check.{goodTime, passes}
 use Rattle.spec.specs.Checked.{Checked, refused, passed}
-use Rattle.spec.specs.Header.{header}
+use Rattle.spec.specs.Header.{header, headerFault}
 use Rattle.spec.specs.Image.{Store}
 use Rattle.spec.specs.Procedures.{act}
 use Rattle.spec.specs.Rpc.{nfs, judge}
-use Rattle.spec.specs.Serve.{Outcome, send, finish, perform, answer, respond, complete, outcome, serve}
+use Rattle.spec.specs.Serve.{Outcome, refuse, send, finish, perform, answer, respond, complete, serve}
 use Rattle.laws.proofs.Count.{by-bool}
 use Rattle.laws.proofs.Error.{statusOf, NotDone, act-kept, status-word}
 
@@ -45,7 +45,7 @@ pub record Ran (call : List ℕ) (s : Store) (space : List ℕ) (c : Context) : 
 module _ (call : List ℕ) (s : Store) (space : List ℕ) (c : Context) where
   -- the tests before the header
   after-tests : ltb (length space) leastReplyBytes ≡ false → goodTime (c .clock) ≡ true → ltb mostCallBytes (length call) ≡ false → passes s ≡ true
-      → serve call s space c ≡ outcome space s (complete s c call (header call 0))
+      → serve call s space c ≡ complete space s c call (header call 0)
   unfolding serve
   after-tests a b d e = rw (a, b, d, e)
 
@@ -82,7 +82,7 @@ module _ (call : List ℕ) (s : Store) (space : List ℕ) (c : Context) where
 
     by-header : (r : Read Header) → header call 0 ≡ r → (serve call s space c .store ≡ s) ⊎ Ran call s space c
     by-header (bad p) q =
-        let w : serve call s space c ≡ outcome space s (refused 5) = after-tests a b d e ∙ rw q in
+        let w : serve call s space c ≡ refuse (headerFault call p) space s = after-tests a b d e ∙ rw q in
         _⊎_.inl (ap (λ (o : Outcome). o .store) w)
     by-header (got (Header.OtherVersion xid) at) q =
         let w : serve call s space c ≡ send space (respond s c call (Header.OtherVersion xid) at) = after-tests a b d e ∙ rw q in

@@ -1,4 +1,4 @@
--- The laws of the XDR readers: what a reading that succeeded tells. Assumes nothing.
+-- The laws of the XDR readers: what a reading that succeeded tells, and where one is refused. Assumes nothing.
 use Prim.Native.Nat.{ℕ, _+_, _≤_}
 use mathlib.Core.Bool.{Bool, true, false}
 use mathlib.Core.List.{List}
@@ -10,7 +10,7 @@ use lib.Dec.{leb}
 use Rattle.kinds.specs.Reading.{Read, got, bad}
 use Rattle.kinds.specs.declared.call.Part.{Part}
 use Rattle.spec.specs.Bytes.{padding}
-use Rattle.spec.specs.Xdr.{bind, only-if, placed, check, word, bytes, opaque}
+use Rattle.spec.specs.Xdr.{bind, _>>=_, done, only-if, placed, check, word, bytes, opaque}
 
 -- a refusal is no value
 pub never : {A : Type 0} (p : ℕ) (a : A) (q : ℕ) → bad p ≡ got a q → ⊥
@@ -39,6 +39,18 @@ only-if-got false p r a q e f = absurd (never p a q e)
 pub placed-got : {A : Type 0} (p : ℕ) (r : Read A) (a : A) (q : ℕ) → placed p r ≡ got a q → r ≡ got a q
 placed-got p (got b at) a q e = e
 placed-got p (bad at) a q e = absurd (never p a q e)
+
+-- a refusal stands at one place; that of a test at its own, and that of an item at its start
+pub same-place : {A : Type 0} (p q : ℕ) → _≡_ {A = Read A} (bad p) (bad q) → p ≡ q
+same-place p q e = cc
+
+pub only-if-bad : {A : Type 0} (t : Bool) (p : ℕ) (a : A) (n q : ℕ) → only-if t p (got a n) ≡ bad q → p ≡ q
+only-if-bad true p a n q e = absurd (never q a n (sym e))
+only-if-bad false p a n q e = same-place p q e
+
+pub placed-bad : {A : Type 0} (p : ℕ) (r : Read A) (q : ℕ) → placed p r ≡ bad q → p ≡ q
+placed-bad p (got a n) q e = absurd (never q a n (sym e))
+placed-bad p (bad n) q e = same-place p q e
 
 -- a part that was read: its length, which is allowed, stands before it, and its padding behind it, within the call
 pub record OpaqueRead (most : ℕ) (s : List ℕ) (at : ℕ) (p : Part) (q : ℕ) : Type 0 where
@@ -73,6 +85,12 @@ opaque-read most s at p q e =
       ends = sym last ∙ sym pad ∙ ap (λ (a : ℕ). a + padding n) (sym body ∙ ap (λ (a : ℕ). a + n) (sym stays));
       fits = omega (arith, leb-true (a₃ + padding n) (length s) inside);
     })))))))
+
+-- one that was not read is refused at its length
+pub opaque-bad : (most : ℕ) (s : List ℕ) (at q : ℕ) → opaque most s at ≡ bad q → at ≡ q
+unfolding opaque
+opaque-bad most s at q e =
+    placed-bad at ((word >>= λ n. check (leb n most) >>= λ _. bytes n >>= λ part. bytes (padding n) >>= λ _. done part) s at) q e
 
 -- it lies within the call, and is no longer than was allowed
 pub opaque-within : (most : ℕ) (s : List ℕ) (at : ℕ) (p : Part) (q : ℕ) → opaque most s at ≡ got p q

@@ -14,7 +14,7 @@ use Rattle.spec.specs.Bytes.{beOf, beAt, padding}
 use Rattle.spec.specs.Xdr.{number, word, bytes, opaque}
 use Rattle.laws.proofs.Count.{by-bool, and-both}
 use Rattle.laws.proofs.Bytes.{same-part}
-use Rattle.laws.proofs.Xdr.{same-value, same-end, only-if-got, opaque-read}
+use Rattle.laws.proofs.Xdr.{same-value, same-end, only-if-got, opaque-bad, opaque-read}
 use Rattle.laws_padding.specs.Fields.{lengthRead, opaqueField}
 use Rattle.laws_padding.specs.Alike.{padStart, padEnd, inPadding, inPaddings}
 use Rattle.laws_padding.proofs.ReadsAlike.{Before, SameCuts, SameWhereRead, ReadsAlike, no-pad}
@@ -109,6 +109,8 @@ module _ (s t : List ℕ) (long : length t ≡ length s) where
             let o = opaque-read most s at f next h in
             let one : inPaddings (f ∷ []) i ≡ true = ap (λ (l : List Part). inPaddings l i) (sym (field-listed most at f next h)) ∙ w in
             omega (arith, pad-one f i one .1, ap (λ (g : Part). g .start + g .length + padding (g .length)) (o .whole), o .ends);
+        behind-start = λ at q h. omega (arith, opaque-bad most s at q h);
+        clear = λ at q h i l m. not-before most at i (omega (arith, opaque-bad most s at q h));
         same = λ at same-bytes. opaque-same most at (length-same most at same-bytes);
         listing = λ at same-bytes. listing-same most at (length-same most at same-bytes);
         cuts = λ at same-bytes. field-cuts most at (word s at) refl same-bytes;

@@ -10,6 +10,7 @@ use mathlib.Core.Path.{_≡_, refl, sym, ap, subst, _∙_}
 use lib.ListN.{length}
 use borrow.Author.Tests.{le-leb, lt-ltb}
 use Rattle.kinds.specs.Reading.{Read, got, bad}
+use Rattle.kinds.specs.declared.numbers.Fault.{Fault}
 use Rattle.kinds.specs.declared.object.Context.{Context}
 use Rattle.kinds.specs.declared.call.Part.{Part}
 use Rattle.kinds.specs.declared.call.CallHeader.{CallHeader}
@@ -18,15 +19,15 @@ use Rattle.kinds.specs.declared.call.Header.the-variants as Header
 use Rattle.kinds.specs.declared.call.Arguments.{Arguments}
 use Rattle.kinds.specs.declared.call.Arguments.the-variants as Call
 use Rattle.spec.specs.Arguments.{arguments}
-use Rattle.spec.specs.Bytes.{overlay, padding}
+use Rattle.spec.specs.Bytes.{beOf, beAt, overlay, padding}
 use Rattle.spec.specs.Checked.{Checked, refused, passed}
-use Rattle.spec.specs.Header.{header}
+use Rattle.spec.specs.Header.{header, headerFault}
 use Rattle.spec.specs.Image.{Store}
 use Rattle.spec.specs.Procedures.{act}
 use Rattle.spec.specs.Rpc.{nfs, judge}
-use Rattle.spec.specs.Serve.{finish, perform, answer, complete, outcome, serve}
+use Rattle.spec.specs.Serve.{refuse, send, finish, perform, answer, complete, serve}
 use Rattle.spec.specs.Xdr.{Reader, bind, _>>=_, done}
-use Rattle.laws.proofs.Bytes.{overlay-length}
+use Rattle.laws.proofs.Bytes.{overlay-length, same-part}
 use Rattle.laws.proofs.Count.{true-false}
 use Rattle.laws.proofs.Tests.{and-true, or-none}
 use Rattle.laws_contents.proofs.Laid.{WithinStore, Outside, within?, byte-apart}
@@ -72,6 +73,15 @@ module _ (s t : List ℕ) (h : SameButPads s t) where
 
   pub header-same : header t 0 ≡ header s 0
   header-same = alike-header s t (h .sameLength) .same 0 header-where-read
+
+  -- where it is refused, the word at that place is the same
+  pub fault-same : (q : ℕ) → header s 0 ≡ bad q → headerFault t q ≡ headerFault s q
+  unfolding headerFault beAt
+  fault-same q e =
+      let w : beAt t q 4 ≡ beAt s q 4 =
+      ap beOf (same-part s t (h .sameLength) q 4 (λ i l m.
+      header-where-read i (omega arith) (subst (λ (r : Read Header). Before r i) (sym e) tt) (alike-header s t (h .sameLength) .clear 0 q e i l m))) in
+      rw (h .sameLength, w)
 
   headed-where-read : (x : Header) (at : ℕ) → header s 0 ≡ got x at → SameWhereRead s t at (headedParts x s at) (headedFields x s at)
   unfolding fieldsOf
@@ -172,10 +182,11 @@ module _ (s t : List ℕ) where
 
 -- ---- the outcome, and the book
 module _ (s t : List ℕ) (h : SameButPads s t) where
-  complete-same : (store : Store) (c : Context) (r : Read Header) → header s 0 ≡ r → complete store c t r ≡ complete store c s r
-  complete-same store c (bad q) e = refl
-  complete-same store c (got (Header.OtherVersion xid) at) e = refl
-  complete-same store c (got (Header.Call x) at) e = ap passed (judged (judge nfs x) refl)
+  complete-same : (space : List ℕ) (store : Store) (c : Context) (r : Read Header) → header s 0 ≡ r
+      → complete space store c t r ≡ complete space store c s r
+  complete-same space store c (bad q) e = ap (λ (f : Fault). refuse f space store) (fault-same s t h q e)
+  complete-same space store c (got (Header.OtherVersion xid) at) e = refl
+  complete-same space store c (got (Header.Call x) at) e = ap (send space) (judged (judge nfs x) refl)
     where
       performed : judge nfs x ≡ passed tt → (r : Read Arguments) → arguments (x .procedure) s at ≡ r → perform store c t x r ≡ perform store c s x r
       performed j (bad q) f = refl
@@ -186,10 +197,10 @@ module _ (s t : List ℕ) (h : SameButPads s t) where
       judged (passed u) f =
           ap (perform store c t x) (arguments-same s t h x at e f) ∙ performed f (arguments (x .procedure) s at) refl
 
-  -- "its meaning doesn't depend on them": answer, reply length, reply space and store
+  -- "its meaning doesn't depend on them": answer, reply length, offset, reply space and store
   pub serve-same : (store : Store) (space : List ℕ) (c : Context) → serve t store space c ≡ serve s store space c
   unfolding serve
-  serve-same store space c = rw (h .sameLength, header-same s t h, complete-same store c (header s 0) refl)
+  serve-same store space c = rw (h .sameLength, header-same s t h, complete-same space store c (header s 0) refl)
 
   -- what the book is told
   headed-same : (reply : List ℕ) (L : Ledger) (r : Read Header) → header s 0 ≡ r

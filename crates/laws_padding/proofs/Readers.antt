@@ -1,105 +1,47 @@
 -- The readers of the header and of the arguments do not look at padding. Assumes nothing.
 use Prim.Native.Nat.{ℕ}
-use mathlib.Core.Bool.{Bool, true, false, cond}
 use mathlib.Core.List.{List, [], _∷_, _++_, append-assoc}
 use mathlib.Core.Path.{_≡_, refl}
-use lib.Dec.{leb, eqb}
+use lib.Dec.{eqb}
 use lib.ListN.{length}
 use Rattle.kinds.specs.Numbers.{mostCredentialBytes, mostHandleBytes}
 use Rattle.kinds.specs.declared.call.Part.{Part}
 use Rattle.kinds.specs.declared.call.NameIn.{NameIn}
 use Rattle.kinds.specs.declared.call.Header.{Header}
 use Rattle.kinds.specs.declared.call.Header.the-variants as Header
-use Rattle.kinds.specs.declared.call.SetNumber.the-variants as SetNumber
-use Rattle.kinds.specs.declared.call.SetSize.the-variants as SetSize
-use Rattle.kinds.specs.declared.call.SetTime.the-variants as SetTime
-use Rattle.kinds.specs.declared.call.Guard.the-variants as Guard
-use Rattle.kinds.specs.declared.call.How.the-variants as How
 use Rattle.kinds.specs.declared.call.Arguments.{Arguments}
 use Rattle.kinds.specs.declared.call.Arguments.the-variants as Call
-use Rattle.spec.specs.Arguments.{handle, unbounded, nameIn, time, setNumber, setSize, setTime, settable, guard, how}
+use Rattle.spec.specs.Arguments.{handle, unbounded, nameIn, settable, guard, how}
 use Rattle.spec.specs.Arguments.{setattrArguments, accessArguments, readArguments, writeArguments, createArguments, mkdirArguments, renameArguments}
 use Rattle.spec.specs.Arguments.{readdirArguments, commitArguments, alone, handleThen, nameThen, formed, whole, arguments}
 use Rattle.spec.specs.Header.{credential, callHeader, header}
-use Rattle.spec.specs.Xdr.{Reader, _>>=_, done, word, long, choice, flag, optional, end, noMaximum}
+use Rattle.spec.specs.Xdr.{Reader, _>>=_, done, word, long, choice, end, noMaximum}
 use Rattle.laws.proofs.Arguments.{Rows, by-procedure}
+use Rattle.laws.proofs.Readers.{of-word, of-long, of-choice, of-settable, of-guard, of-how}
 use Rattle.laws_padding.specs.Fields.{Fields, noFields, behind, opaqueField, credentialFields, callHeaderFields, headerFields, nameInFields, dataFields}
 use Rattle.laws_padding.specs.Fields.{formedFields, argumentFields, nameParts, argumentParts, headerParts}
-use Rattle.laws_padding.proofs.ReadsAlike.{ReadsAlike, Plain, alike-done, alike-then, alike-plain, alike-cond, alike-item}
-use Rattle.laws_padding.proofs.ReadsAlike.{plain-check, plain-number, plain-end}
+use Rattle.laws_padding.proofs.ReadsAlike.{ReadsAlike, Plain, alike-done, alike-then, alike-plain, alike-cond, plain-end, PlainOf, plain}
 use Rattle.laws_padding.proofs.Opaque.{alike-opaque}
 
 module _ (s t : List ℕ) (same : length t ≡ length s) where
   -- ---- readers of what has no padding
-  plain-done : {A : Type 0} (a : A) → Plain s t same (done a)
-  plain-done a before = alike-done s t same a before (λ _. before) refl
-
-  plain-then : {A B : Type 0} {p : Reader A} {k : A → Reader B} → Plain s t same p → ((a : A) → Plain s t same (k a)) → Plain s t same (p >>= k)
-  plain-then {p} {k} f g before = alike-plain s t same p k noFields before (λ _. before) (λ _. before) (f before) (λ a. g a before)
-
-  plain-cond : {A : Type 0} (b : Bool) {p q : Reader A} → Plain s t same p → Plain s t same q → Plain s t same (cond b p q)
-  plain-cond true f g = f
-  plain-cond false f g = g
-
   plain-word : Plain s t same word
-  unfolding word
-  plain-word = plain-number s t same 4
+  plain-word = of-word (PlainOf s t same) (plain s t same)
 
   plain-long : Plain s t same long
-  unfolding long
-  plain-long = plain-number s t same 8
+  plain-long = of-long (PlainOf s t same) (plain s t same)
 
   plain-choice : (top : ℕ) → Plain s t same (choice top)
-  unfolding choice
-  plain-choice top before =
-      alike-item s t same _ noFields before (λ _. before)
-      (plain-then plain-word (λ n. plain-then (plain-check s t same (leb n top)) (λ _. plain-done n)) before)
-
-  plain-flag : Plain s t same flag
-  unfolding flag
-  plain-flag = plain-then (plain-choice 1) (λ n. plain-done (eqb n 1))
-
-  plain-optional : {A B : Type 0} {value : Reader A} (present : A → B) (absent : B) → Plain s t same value
-      → Plain s t same (optional value present absent)
-  plain-optional present absent f =
-      plain-then plain-flag (λ given. plain-cond given (plain-then f (λ a. plain-done (present a))) (plain-done absent))
-
-  plain-time : Plain s t same time
-  unfolding time
-  plain-time = plain-then plain-word (λ seconds. plain-then plain-word (λ nanoseconds. plain-done _))
-
-  plain-number-set : Plain s t same setNumber
-  unfolding setNumber
-  plain-number-set = plain-optional SetNumber.To SetNumber.Keep plain-word
-
-  plain-size-set : Plain s t same setSize
-  unfolding setSize
-  plain-size-set = plain-optional SetSize.To SetSize.Keep plain-long
-
-  plain-time-set : Plain s t same setTime
-  unfolding setTime
-  plain-time-set =
-      plain-then (plain-choice 2) (λ manner.
-      plain-cond (eqb manner 0) (plain-done SetTime.Keep)
-      (plain-cond (eqb manner 1) (plain-done SetTime.ToServer) (plain-then plain-time (λ time. plain-done (SetTime.ToClient time)))))
+  plain-choice top = of-choice (PlainOf s t same) (plain s t same) top
 
   plain-settable : Plain s t same settable
-  unfolding settable
-  plain-settable =
-      plain-then plain-number-set (λ mode.
-      plain-then plain-number-set (λ uid.
-      plain-then plain-number-set (λ gid.
-      plain-then plain-size-set (λ size. plain-then plain-time-set (λ atime. plain-then plain-time-set (λ mtime. plain-done _))))))
+  plain-settable = of-settable (PlainOf s t same) (plain s t same)
 
   plain-guard : Plain s t same guard
-  unfolding guard
-  plain-guard = plain-optional Guard.Ctime Guard.Absent plain-time
+  plain-guard = of-guard (PlainOf s t same) (plain s t same)
 
   plain-how : Plain s t same how
-  unfolding how
-  plain-how =
-      plain-then (plain-choice 2) (λ mode.
-      plain-cond (eqb mode 2) (plain-then plain-long (λ verifier. plain-done (How.Exclusive verifier))) (plain-then plain-settable (λ a. plain-done _)))
+  plain-how = of-how (PlainOf s t same) (plain s t same)
 
   -- ---- a field without padding, and then others
   alike-behind : {A B : Type 0} {p : Reader A} {k : A → Reader B} {K : A → Fields} {before : List Part} {parts : B → List Part}

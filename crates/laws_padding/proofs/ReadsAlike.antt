@@ -16,7 +16,8 @@ use Rattle.spec.specs.Xdr.{Reader, bind, _>>=_, done, only-if, check, placed, i
 use Rattle.laws.proofs.Bytes.{same-part}
 use Rattle.laws.proofs.Count.{true-false, by-bool}
 use Rattle.laws.proofs.Tests.{or-one}
-use Rattle.laws.proofs.Xdr.{never, same-value, same-end, only-if-got, placed-got}
+use Rattle.laws.proofs.Readers.{Built}
+use Rattle.laws.proofs.Xdr.{never, same-value, same-end, only-if-got, placed-got, same-place, only-if-bad, placed-bad}
 use Rattle.laws_padding.specs.Fields.{Fields, noFields, behind}
 use Rattle.laws_padding.specs.Alike.{inPadding, inPaddings}
 
@@ -55,6 +56,9 @@ pub record ReadsAlike (s t : List ℕ) {A : Type 0} (p : Reader A) (F : Fields) 
   pub ahead : (at i : ℕ) → inPaddings (F s at) i ≡ true → at ≤ i
   pub onward : (at : ℕ) (a : A) (next : ℕ) → p s at ≡ got a next → at ≤ next
   pub inside : (at : ℕ) (a : A) (next : ℕ) → p s at ≡ got a next → (i : ℕ) → inPaddings (F s at) i ≡ true → i < next
+  -- where it refuses, the word at that place is no padding
+  pub behind-start : (at q : ℕ) → p s at ≡ bad q → at ≤ q
+  pub clear : (at q : ℕ) → p s at ≡ bad q → (i : ℕ) → q ≤ i → i < q + 4 → inPaddings (F s at) i ≡ false
   -- whatever the padding: it reads the same of t, and its fields stand at the same places, with the same bytes
   pub same : (at : ℕ) → SameWhereRead s t at (p s at) (F s at) → p t at ≡ p s at
   pub listing : (at : ℕ) → SameWhereRead s t at (p s at) (F s at) → F t at ≡ F s at
@@ -79,6 +83,8 @@ module _ (s t : List ℕ) (long : length t ≡ length s) where
         ahead = λ at i h. no-pad i h;
         onward = λ at b next f. omega (arith, same-end a b at next f);
         inside = λ at b next f i h. no-pad i h;
+        behind-start = λ at q f. absurd (never q a at (sym f));
+        clear = λ at q f i l m. none-padded i;
         same = λ at same-bytes. refl;
         listing = λ at same-bytes. refl;
         cuts = λ at same-bytes. tt;
@@ -134,6 +140,19 @@ module _ (s t : List ℕ) (long : length t ≡ length s) where
         either at i (got a next) w (λ x. omega (arith, f .inside at a next e i x, g a .onward next b last h)) (λ x. g a .inside next b last h i x)
     then-inside at (bad q) e b last h i w = absurd (never q b last h)
 
+    then-start : (at : ℕ) (r : Read A) → p s at ≡ r → (q : ℕ) → all r ≡ bad q → at ≤ q
+    then-start at (got a next) e q h = omega (arith, f .onward at a next e, g a .behind-start next q h)
+    then-start at (bad place) e q h = omega (arith, f .behind-start at place e, same-place place q h)
+
+    then-clear : (at : ℕ) (r : Read A) → p s at ≡ r → (q : ℕ) → all r ≡ bad q → (i : ℕ) → q ≤ i → i < q + 4 → inPaddings (both at r) i ≡ false
+    then-clear at (got a next) e q h i l m =
+        neither at i (got a next)
+        (by-bool (inPaddings (F s at) i) (λ w. absurd (omega (arith, f .inside at a next e i w, g a .behind-start next q h))) (λ w. w))
+        (g a .clear next q h i l m)
+    then-clear at (bad place) e q h i l m =
+        let z = same-place place q h in
+        neither at i (bad place) (f .clear at place e i (omega arith) (omega arith)) (none-padded i)
+
     then-same : (at : ℕ) (r : Read A) → p s at ≡ r → SameWhereRead s t at (all r) (both at r) → bind (p t at) (λ a next. k a t next) ≡ all r
     then-same at (got a next) e same-bytes =
         ap (λ (r : Read A). bind r (λ b n. k b t n)) (f .same at (first-where-read at (got a next) e same-bytes) ∙ e)
@@ -167,6 +186,8 @@ module _ (s t : List ℕ) (long : length t ≡ length s) where
           ahead = λ at i h. then-ahead at i (p s at) refl h;
           onward = λ at b last h. then-onward at (p s at) refl b last h;
           inside = λ at b last h i w. then-inside at (p s at) refl b last h i w;
+          behind-start = λ at q h. then-start at (p s at) refl q h;
+          clear = λ at q h i l m. then-clear at (p s at) refl q h i l m;
           same = λ at same-bytes. then-same at (p s at) refl same-bytes;
           listing = λ at same-bytes. then-listing at (p s at) refl same-bytes;
           cuts = λ at same-bytes. then-cuts at (p s at) refl same-bytes;
@@ -181,6 +202,8 @@ module _ (s t : List ℕ) (long : length t ≡ length s) where
         ahead = λ at i h. f .ahead at i (ap (λ (l : List Part). inPaddings l i) (e s at) ∙ h);
         onward = f .onward;
         inside = λ at a next h i w. f .inside at a next h i (ap (λ (l : List Part). inPaddings l i) (e s at) ∙ w);
+        behind-start = f .behind-start;
+        clear = λ at q h i l m. ap (λ (l : List Part). inPaddings l i) (sym (e s at)) ∙ f .clear at q h i l m;
         same = λ at same-bytes. f .same at (as-listed at same-bytes);
         listing = λ at same-bytes. sym (e t at) ∙ f .listing at (as-listed at same-bytes) ∙ e s at;
         cuts = λ at same-bytes. subst (SameCuts s t) (e s at) (f .cuts at (as-listed at same-bytes));
@@ -198,6 +221,8 @@ module _ (s t : List ℕ) (long : length t ≡ length s) where
         ahead = f .ahead;
         onward = f .onward;
         inside = f .inside;
+        behind-start = f .behind-start;
+        clear = f .clear;
         same = f .same;
         listing = f .listing;
         cuts = f .cuts;
@@ -221,62 +246,71 @@ module _ (s t : List ℕ) (long : length t ≡ length s) where
   alike-cond true p q F G before parts f g = f
   alike-cond false p q F G before parts f g = g
 
-  -- an item is refused at its start
-  pub alike-item : {A : Type 0} (p : Reader A) (F : Fields) (before : List Part) (parts : A → List Part) → ReadsAlike s t p F before parts
-      → ReadsAlike s t (item p) F before parts
-  alike-item {A} p F before parts f =
-      record {
-        ahead = f .ahead;
-        onward = λ at a next h. f .onward at a next (placed-got at (p s at) a next h);
-        inside = λ at a next h i w. f .inside at a next (placed-got at (p s at) a next h) i w;
-        same = λ at same-bytes. ap (placed at) (f .same at (λ i l b out. same-bytes i l (placed-before at (p s at) i b) out));
-        listing = λ at same-bytes. f .listing at (λ i l b out. same-bytes i l (placed-before at (p s at) i b) out);
-        cuts = λ at same-bytes. f .cuts at (λ i l b out. same-bytes i l (placed-before at (p s at) i b) out);
-        listed = λ at a next h. f .listed at a next (placed-got at (p s at) a next h);
-      }
-    where
-      placed-before : (at : ℕ) (r : Read A) (i : ℕ) → Before r i → Before (placed at r) i
-      placed-before at (got a next) i b = b
-      placed-before at (bad q) i b = tt
-
   -- ---- fields without padding
   -- whatever has been read before stays all that was read
   abbrev pub Plain : {A : Type 0} → Reader A → Type 0
   Plain {A} p = (before : List Part) → ReadsAlike s t p noFields before (λ (a : A). before)
 
-  pub plain-reader : {A : Type 0} (p : Reader A) → ((at : ℕ) (a : A) (next : ℕ) → p s at ≡ got a next → at ≤ next)
-      → ((at : ℕ) → SameWhereRead s t at (p s at) [] → p t at ≡ p s at) → Plain p
-  plain-reader p onward same before =
+  plain-reader : {A : Type 0} (p : Reader A) → ((at : ℕ) (a : A) (next : ℕ) → p s at ≡ got a next → at ≤ next)
+      → ((at q : ℕ) → p s at ≡ bad q → at ≡ q) → ((at : ℕ) → SameWhereRead s t at (p s at) [] → p t at ≡ p s at) → Plain p
+  plain-reader p onward refused same before =
       record {
         ahead = λ at i h. no-pad i h;
         onward = onward;
         inside = λ at a next h i w. no-pad i w;
+        behind-start = λ at q h. omega (arith, refused at q h);
+        clear = λ at q h i l m. none-padded i;
         same = same;
         listing = λ at same-bytes. refl;
         cuts = λ at same-bytes. tt;
         listed = λ at a next h. append-nil before;
       }
 
-  pub plain-check : (b : Bool) → Plain (check b)
+  plain-check : (b : Bool) → Plain (check b)
   plain-check b =
       plain-reader (check b) (λ at a next h. only-if-got b at (got tt at) a next h (λ _ e. omega (arith, same-end tt a at next e)))
-      (λ at same-bytes. refl)
+      (λ at q h. only-if-bad b at tt at q h) (λ at same-bytes. refl)
 
   pub plain-end : Plain end
   unfolding end
   plain-end =
       plain-reader end (λ at a next h.
-      only-if-got (eqb at (length s)) at (got tt at) a next h (λ _ e. omega (arith, same-end tt a at next e))) (λ at same-bytes. rw long)
+      only-if-got (eqb at (length s)) at (got tt at) a next h (λ _ e. omega (arith, same-end tt a at next e)))
+      (λ at q h. only-if-bad (eqb at (length s)) at tt at q h) (λ at same-bytes. rw long)
 
-  pub plain-number : (w : ℕ) → Plain (number w)
+  plain-number : (w : ℕ) → Plain (number w)
   unfolding number beAt
   plain-number w =
       plain-reader (number w) (λ at a next h.
       only-if-got (leb (at + w) (length s)) at (got (beAt s at w) (at + w)) a next h (λ _ e. omega (arith, same-end _ a (at + w) next e)))
-      (λ at same-bytes. rw long (same-number at (leb (at + w) (length s)) same-bytes))
+      (λ at q h. only-if-bad (leb (at + w) (length s)) at (beAt s at w) (at + w) q h) (λ at same-bytes. rw long (same-number at (leb (at + w) (length s)) same-bytes))
     where
       same-number : (at : ℕ) (b : Bool) → SameWhereRead s t at (only-if b at (got (beAt s at w) (at + w))) []
           → only-if b at (got (beAt t at w) (at + w)) ≡ only-if b at (got (beAt s at w) (at + w))
       same-number at true same-bytes =
           ap (λ (l : List ℕ). got (beOf l) (at + w)) (same-part s t long at w (λ i l h. same-bytes i l h (none-padded i)))
       same-number at false same-bytes = refl
+
+  -- an item is refused at its start
+  plain-item : {A : Type 0} (p : Reader A) → Plain p → Plain (item p)
+  plain-item {A} p f before =
+      plain-reader (item p) (λ at a next h. f before .onward at a next (placed-got at (p s at) a next h)) (λ at q h. placed-bad at (p s at) q h)
+      (λ at same-bytes. ap (placed at) (f before .same at (λ i l b out. same-bytes i l (placed-before at (p s at) i b) out))) before
+    where
+      placed-before : (at : ℕ) (r : Read A) (i : ℕ) → Before r i → Before (placed at r) i
+      placed-before at (got a next) i b = b
+      placed-before at (bad q) i b = tt
+
+  -- what is built of these has no padding
+  abbrev pub PlainOf : (A : Type 0) → Reader A → Type 0
+  PlainOf A p = Plain p
+
+  pub plain : Built PlainOf
+  plain =
+      record {
+        of-done = λ a before. alike-done a before (λ _. before) refl;
+        of-then = λ {A} {B} {p} {k} f g before. alike-plain p k noFields before (λ _. before) (λ _. before) (f before) (λ a. g a before);
+        of-item = λ {A} {p} f. plain-item p f;
+        of-number = plain-number;
+        of-check = plain-check;
+      }

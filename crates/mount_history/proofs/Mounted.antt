@@ -70,7 +70,7 @@ mounts-directory t x m =
     let s = x .store in
     outcomes (λ o a. Leads s (take (o .length) (o .space)) a) (x .call) s t (x .space) (x .host)
     (λ n a p e ok. true-false (sym ok ∙ none-ok))
-    (λ reply p e ok. absurd (none-some (Mount.Mnt p) e))
+    (λ reply offset p e ok. absurd (none-some (Mount.Mnt p) e))
     (λ h _ head a short.
     let r = finishMount s head (actMount s t (x .host) (x .call) a) .reply in
     subst (λ (reply : List ℕ). Leads s reply (some a)) (sym (reply-is (x .space) r))

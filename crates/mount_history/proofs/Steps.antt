@@ -116,7 +116,7 @@ unfolding After tellAsked
 steps t g x small =
     outcomes (λ o a. Steps t (o .table) (x .host) (x .call) (take (o .length) (o .space)) a) (x .call) (x .store) t (x .space) (x .host)
     (λ n a. record { good = g; told = λ m k. subst (Agrees t) (sym (silent (x .host) (x .call) m a)) k })
-    (λ reply. record { good = g; told = λ m k. k })
+    (λ reply offset. record { good = g; told = λ m k. k })
     (λ _ _ h a short.
     let m = finishMount (x .store) h (actMount (x .store) t (x .host) (x .call) a) in
     subst (λ (reply : List ℕ). Steps t (m .table) (x .host) (x .call) reply (some a)) (sym (reply-is (x .space) (m .reply)))

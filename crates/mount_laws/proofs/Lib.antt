@@ -5,3 +5,6 @@ pub mod Pairs
 pub mod Good
 pub mod Checked
 pub mod Paths
+-- Examples of the table and of the entry, by computation.
+pub mod Tables
+pub mod Entry

@@ -1,4 +1,4 @@
--- The path in the arguments that were read lies within the call, and is at most 1,024 bytes long. Assumes nothing.
+-- The path in the arguments that were read lies within the call, and is at most 1,024 bytes long; reading stops within the call. Assumes nothing.
 use mathlib.Core.Path.{_≡_, subst}
 use mathlib.Core.Bool.{Bool, true, false, cond}
 use mathlib.Core.List.{List}
@@ -13,6 +13,8 @@ use Rattle.kinds.specs.declared.mount.MountArguments.{MountArguments}
 use Rattle.kinds.specs.declared.mount.MountArguments.the-variants as Mount
 use Rattle.spec.specs.Bytes.{part}
 use Rattle.spec.specs.Xdr.{Reader, end}
+use Rattle.laws.proofs.Places.{Inside, InsideOf, built, inside-then, inside-end, inside-opaque}
+use Rattle.laws.proofs.Readers.{of-cond}
 use Rattle.laws.proofs.Xdr.{same-value, bind-got, opaque-within}
 use Rattle.mount_spec.specs.Arguments.{dirpath, pathAlone, ofPath, ofNothing, mountArguments}
 
@@ -70,3 +72,22 @@ module _ (call : List ℕ) where
       (gives-cond (eqb p 4) _ _ (gives-nothing Mount.Umntall tt)
       (gives-cond (eqb p 5) _ _ (gives-nothing Mount.Export tt)
       (gives-nothing Mount.Null tt)))))
+
+-- ---- where reading stops
+inside-path : (k : Part → MountArguments) → Inside (ofPath k)
+unfolding dirpath
+inside-path k =
+    inside-then (inside-then (inside-opaque mostPathBytes) (λ path. inside-then inside-end (λ _. built .of-done path))) (λ path. built .of-done (k path))
+
+inside-nothing : (a : MountArguments) → Inside (ofNothing a)
+inside-nothing a = inside-then inside-end (λ _. built .of-done a)
+
+pub inside-arguments : (p : ℕ) → Inside (mountArguments p)
+unfolding mountArguments
+inside-arguments p =
+    of-cond InsideOf built (eqb p 1) (inside-path Mount.Mnt)
+    (of-cond InsideOf built (eqb p 2) (inside-nothing Mount.Dump)
+    (of-cond InsideOf built (eqb p 3) (inside-path Mount.Umnt)
+    (of-cond InsideOf built (eqb p 4) (inside-nothing Mount.Umntall)
+    (of-cond InsideOf built (eqb p 5) (inside-nothing Mount.Export)
+    (inside-nothing Mount.Null)))))

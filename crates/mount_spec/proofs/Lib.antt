@@ -1,4 +1,3 @@
 pub mod Setting
 pub mod Paths
-pub mod Tables
-pub mod Entry
+pub mod Faults

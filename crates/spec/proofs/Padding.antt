@@ -4,8 +4,10 @@ use lib.ListN.{length, replicate}
 use mathlib.Core.List.{List, [], _∷_, _++_}
 use mathlib.Core.Path.{_≡_, refl}
 use Rattle.spec.specs.Bytes.{words}
-use Rattle.spec.proofs.Setting.{space, fresh, callTo, served, after, replied, statusSent, handleTo, readCall, fileRead}
-use Rattle.spec.proofs.Setting.{nameA, nameB, rootAlone, withoutBlocks, answerTo, computing}
+use Rattle.spec.specs.Header.{fault}
+use Rattle.spec.specs.Serve.{refuse}
+use Rattle.spec.proofs.Setting.{space, fresh, callTo, served, after, repliedAt, replied, garbage, statusSent, handleTo, readCall, fileRead}
+use Rattle.spec.proofs.Setting.{nameA, nameB, rootAlone, withoutBlocks, computing}
 
 -- opaque data as a host sends it: its length, its bytes, and these bytes behind them
 abbrev pub sentWith : List ℕ → List ℕ → List ℕ
@@ -41,10 +43,10 @@ pub record Padding : Type 0 where
   pub credential-padded : served (nullWith (1 ∷ 2 ∷ 3 ∷ []) (0 ∷ 0 ∷ [])) rootAlone ≡ replied (words (7 ∷ 1 ∷ 0 ∷ 0 ∷ 0 ∷ 0 ∷ [])) rootAlone
   pub verifier-padded : served (nullWith (0 ∷ 0 ∷ 0 ∷ []) (0 ∷ 4 ∷ [])) rootAlone ≡ replied (words (7 ∷ 1 ∷ 0 ∷ 0 ∷ 0 ∷ 0 ∷ [])) rootAlone
   -- "Missing pad bytes still refuse."; one too many is left over
-  pub name-cut : served (lookupWith (0 ∷ 0 ∷ [])) rootAlone ≡ replied (words (7 ∷ 1 ∷ 0 ∷ 0 ∷ 0 ∷ 4 ∷ [])) rootAlone
-  pub data-cut : served (writeWith []) rootAlone ≡ replied (words (7 ∷ 1 ∷ 0 ∷ 0 ∷ 0 ∷ 4 ∷ [])) rootAlone
-  pub name-longer : served (lookupWith (0 ∷ 0 ∷ 0 ∷ 0 ∷ [])) rootAlone ≡ replied (words (7 ∷ 1 ∷ 0 ∷ 0 ∷ 0 ∷ 4 ∷ [])) rootAlone
-  pub verifier-cut : answerTo (nullWith (1 ∷ 2 ∷ 3 ∷ []) (4 ∷ [])) rootAlone space 0 ≡ 5
+  pub name-cut : served (lookupWith (0 ∷ 0 ∷ [])) rootAlone ≡ repliedAt 56 garbage rootAlone
+  pub data-cut : served (writeWith []) rootAlone ≡ repliedAt 72 garbage rootAlone
+  pub name-longer : served (lookupWith (0 ∷ 0 ∷ 0 ∷ 0 ∷ [])) rootAlone ≡ repliedAt 64 garbage rootAlone
+  pub verifier-cut : served (nullWith (1 ∷ 2 ∷ 3 ∷ []) (4 ∷ [])) rootAlone ≡ refuse (fault 8 40) space rootAlone
 
 pub padding-any : Padding
 unfolding computing

@@ -12,7 +12,7 @@ use Rattle.spec.specs.Count.{sum, count, every, some-below, passing, low
 use Rattle.spec.specs.Edits.{withAttributes, setAttributes, withVerifier, forgetVerifier, clearBlocks, clearTail, blockNumbers, withSize, resize}
 use Rattle.spec.specs.Edits.{withGeneration, createObject, removeObject, moveName, writeThrough, readThrough, writeFile, readFile}
 use Rattle.spec.specs.Handles.{handleOf, reach, reachDirectory, checkName, sizeAttribute, usedBytes, linkCount, attributes, before, change, handleChange}
-use Rattle.spec.specs.Header.{credential, callHeader, header}
+use Rattle.spec.specs.Header.{credential, callHeader, header, headerFault}
 use Rattle.spec.specs.Image.{Store, volumes, stamp, objects, names, blocks, halvesAt, halvesBytes, timeAt, timeBytes, objectFrom, headBytes}
 use Rattle.spec.specs.Image.{timesBytes, verifierBytes, objectBytes, objectAt, putObject, nameFrom, nameBytes, nameAt, nameLength, putName}
 use Rattle.spec.specs.Names.{isDot, isDotDot, goodByte, goodBytes, goodName}
@@ -57,9 +57,17 @@ abbrev pub after : List (List ℕ) → Store → Store
 after [] s = s
 after (c ∷ cs) s = after cs (served c s .store)
 
--- the outcome of a call whose reply is these bytes and which leaves the store t: nothing past the reply changes
+-- the outcome of a call whose reply is these bytes, with an offset beside it, and which leaves the store t: nothing past the reply changes
+abbrev pub repliedAt : ℕ → List ℕ → Store → Outcome
+repliedAt offset reply t =
+    record { number = 0; length = length reply; offset = offset; space = reply ++ replicate (4224 - length reply) 165; store = t }
+
 abbrev pub replied : List ℕ → Store → Outcome
-replied reply t = record { number = 0; length = length reply; space = reply ++ replicate (4224 - length reply) 165; store = t }
+replied reply t = repliedAt 0 reply t
+
+-- GARBAGE_ARGS to xid 7
+abbrev pub garbage : List ℕ
+garbage = words (7 ∷ 1 ∷ 0 ∷ 0 ∷ 0 ∷ 4 ∷ [])
 
 -- the words of an accepted reply to xid 7
 abbrev pub answered : List ℕ → List ℕ
@@ -192,7 +200,7 @@ unfolding handle unbounded nameIn time setNumber setSize setTime settable guard 
     goodNameRecord isDistinct isNamedOnce isUsedOnce leadsToRoot recordsPass passes oldNames oldBlocks oldShape lengthened converted goodOld sum every
     some-below passing lowest times iterate withAttributes setAttributes withVerifier forgetVerifier clearBlocks clearTail blockNumbers withSize
     resize withGeneration createObject removeObject moveName writeThrough readThrough writeFile readFile handleOf reach reachDirectory checkName
-    sizeAttribute usedBytes linkCount attributes before change handleChange credential callHeader header volumes stamp objects names blocks halvesAt
+    sizeAttribute usedBytes linkCount attributes before change handleChange credential callHeader header headerFault volumes stamp objects names blocks halvesAt
     halvesBytes timeAt timeBytes objectFrom headBytes timesBytes verifierBytes objectBytes objectAt putObject nameFrom nameBytes nameAt nameLength
     putName isDot isDotDot goodByte goodBytes goodName act badAttributes lacksRoom sizeTouches getattr checkSetattr setattrEdit setattr grantedBits
     access reachRegular readLength readResult read checkWrite writeEdit writeStore writeDone write commit entryOf dotEntries entries entriesAbove

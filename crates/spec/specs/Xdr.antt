@@ -42,7 +42,7 @@ abbrev pub placed : {A : Type 0} → ℕ → Read A → Read A
 placed p (got a at) = got a at
 placed p (bad q) = bad p
 
--- one XDR item: it is refused at its own start, whatever in it fails
+-- one XDR item: it is refused at its own start, whatever in it fails ("the innermost XDR item; of variable length: its length word")
 abbrev pub item : {A : Type 0} → Reader A → Reader A
 item p s at = placed at (p s at)
 
@@ -101,6 +101,6 @@ opaque most = item (do
 abbrev pub noMaximum : ℕ
 noMaximum = 4294967295
 
--- the end of the call: "bytes left over" are refused at the first of them
+-- the end of the call: "bytes left over" are refused at "the first byte left over"
 unfoldable pub end : Reader (Unit {0})
 end s at = only-if (eqb at (length s)) at (got tt at)

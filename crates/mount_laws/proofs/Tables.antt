@@ -1,15 +1,14 @@
 -- Examples of the mount table: its check and its edits, by computation.
-use Prim.Native.Nat.{ℕ, _+_}
+use Prim.Native.Nat.{_+_}
 use lib.ListN.{replicate, set}
 use mathlib.Core.List.{[], _∷_, _++_}
 use mathlib.Core.Bool.{true, false}
 use mathlib.Core.Path.{_≡_, refl}
 use Rattle.spec.specs.Bytes.{zeros, words}
 use Rattle.spec.specs.Checked.{refused, passed}
-use Rattle.mount_spec.specs.Procedures.{checkMount}
 use Rattle.mount_spec.specs.Replies.{dotted}
 use Rattle.mount_spec.specs.Table.{passesTable, addPair, removePair, removeHost}
-use Rattle.mount_spec.proofs.Setting.{lane, top, pathA, pathB, pathC, pathX, desk, gate, row, table1, table2, table3, empty, full, mounting}
+use Rattle.mount_spec.proofs.Setting.{top, pathA, pathB, pathX, desk, gate, row, table1, table2, table3, empty, full, mounting}
 
 pub record Rows : Type 0 where
   -- "Mount table: 33,024 bytes"
@@ -68,10 +67,6 @@ pub record Edits : Type 0 where
   pub there : addPair (table1 (row desk top)) desk top ≡ passed (table1 (row desk top))
   pub there-full : addPair full 31 top ≡ passed full
   pub no-row : addPair full desk top ≡ refused 10006
-  -- ".., after the path's own failures"
-  pub path-first : checkMount lane full desk pathX ≡ refused 2
-  pub file-first : checkMount lane full desk pathC ≡ refused 20
-  pub table-then : checkMount lane full desk pathA ≡ refused 10006
   -- "UMNT zeroes that pair's row, resolves nothing and always succeeds"; "other rows stay where they are"
   pub removed : removePair (table3 (row desk top) (row gate top) (row desk pathX)) desk top ≡ table3 (zeros 1032) (row gate top) (row desk pathX)
   pub not-there : removePair (table1 (row desk top)) gate top ≡ table1 (row desk top)
@@ -86,9 +81,6 @@ edits =
       there = refl;
       there-full = refl;
       no-row = refl;
-      path-first = refl;
-      file-first = refl;
-      table-then = refl;
       removed = refl;
       not-there = refl;
       removed-host = refl;

