@@ -22,15 +22,16 @@ use Rattle.xdr.specs.Wrote.{Wrote}
 use Rattle.entry_reply.specs.Sends.{Sends}
 
 -- a reply that leaves the store
-pub sends-kept : {n m : ℕ} {r r₁ : List ℕ} (s : Store) (b : List ℕ) → Wrote m r r₁ 0 n b → Sends (record { reply = b; store = s }) n r r₁ s
-sends-kept s b w = record { length = omega arith; space = w .bytes; store = refl }
+pub sends-kept : {n m : ℕ} {r r₁ : List ℕ} (s : Store) (offset : ℕ) (b : List ℕ) → Wrote m r r₁ 0 n b
+    → Sends (record { reply = b; offset = offset; store = s }) (record { number = 0; length = n; offset = offset }) r r₁ s
+sends-kept s offset b w = record { number = refl; length = omega arith; offset = refl; space = w .bytes; store = refl }
 
 -- a procedure's reply, from its reply value
 pub sends-done : {n m : ℕ} {r r₁ : List ℕ} (h : CallHeader) (d : Done) (t : Store) (v : Reply) → Does d v t
-    → Wrote m r r₁ 0 n (accepted (h .xid) 0 (resultBytes (h .procedure) (resultOf t v))) → Sends (finish h d) n r r₁ t
+    → Wrote m r r₁ 0 n (accepted (h .xid) 0 (resultBytes (h .procedure) (resultOf t v))) → Sends (finish h d) (record { number = 0; length = n; offset = 0 }) r r₁ t
 sends-done {n} {m} {r} {r₁} h d t v e w =
     let u = rw (e .result) at w in
-    record { length = omega arith; space = u .bytes; store = e .store }
+    record { number = refl; length = omega arith; offset = refl; space = u .bytes; store = e .store }
 
 -- a procedure that runs is at most the last
 pub runs-few : (h : CallHeader) → judge nfs h ≡ passed tt → h .procedure ≤ nfs .last

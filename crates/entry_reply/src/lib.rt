@@ -2,7 +2,8 @@
 ghost use mathlib.Core.Path.{_≡_};
 ghost use Prim.Native.Nat.{_≤_};
 ghost use lib.ListN.{length};
-ghost use Rattle.kinds.specs.Numbers.{leastReplyBytes};
+ghost use Rattle.kinds.specs.Numbers.{leastReplyBytes, mostCallBytes};
+ghost use Rattle.kinds.specs.Reading.{placeOf};
 ghost use Rattle.spec.specs.Arguments.{arguments};
 ghost use Rattle.spec.specs.Procedures.{act};
 ghost use Rattle.spec.specs.Rpc.{nfs, accepted, judge, mismatch};
@@ -20,6 +21,7 @@ use kinds::call::Arguments;
 use kinds::call::CallHeader;
 use kinds::call::Cursor;
 use kinds::call::Header;
+use kinds::numbers::Answer;
 use kinds::numbers::Limit;
 use kinds::numbers::Message;
 use kinds::object::Context;
@@ -48,19 +50,24 @@ fn finish(
     call: &[u8],
     h: CallHeader,
     a: Arguments,
-) -> u32
+) -> Answer
     requires { ⌜ leastReplyBytes ≤ length (now reply) ⌝ }
     requires { ⌜ Ready (now store) (now used) context ⌝ }
     requires { ⌜ h .procedure ≤ nfs .last ⌝ }
     requires { ⌜ Within (length (now call)) a ⌝ }
     requires { ⌜ FitsArguments a ⌝ }
-    ensures { λ n. ⌜ Sends (finish h (act (now (store .entry)) context (now (call .entry)) a)) n (now (reply .entry)) (now (reply .exit)) (now (store .exit)) ⌝ }
+    ensures { λ r. ⌜ Sends (finish h (act (now (store .entry)) context (now (call .entry)) a)) r (now (reply .entry)) (now (reply .exit)) (now (store .exit)) ⌝ }
 {
     let procedure = h.procedure;
     let xid = h.xid;
     let r = run(store, used, context, call, a);
     let next = put_result(reply, store, procedure, xid, r);
-    next as u32
+    let length = next as u32;
+    Answer {
+        number: Answer::DONE,
+        length,
+        offset: 0,
+    }
 }
 
 // Runs a procedure where its arguments are of its type.
@@ -73,17 +80,26 @@ fn perform(
     h: CallHeader,
     c: Cursor,
     read: ArgumentsRead,
-) -> u32
+) -> Answer
     requires { ⌜ leastReplyBytes ≤ length (now reply) ⌝ }
     requires { ⌜ Ready (now store) (now used) context ⌝ }
     requires { ⌜ h .procedure ≤ nfs .last ⌝ }
     requires { ⌜ argumentsOf read ≡ arguments (h .procedure) (now call) (c .at) ⌝ }
-    ensures { λ n. ⌜ Sends (perform (now (store .entry)) context (now (call .entry)) h (arguments (h .procedure) (now (call .entry)) (c .at))) n (now (reply .entry)) (now (reply .exit)) (now (store .exit)) ⌝ }
+    requires { ⌜ placeOf (argumentsOf read) ≤ mostCallBytes ⌝ }
+    ensures { λ r. ⌜ Sends (perform (now (store .entry)) context (now (call .entry)) h (arguments (h .procedure) (now (call .entry)) (c .at))) r (now (reply .entry)) (now (reply .exit)) (now (store .exit)) ⌝ }
 {
     let xid = h.xid;
     match read {
         ArgumentsRead::Got(a, _) => finish(store, reply, used, context, call, h, a),
-        ArgumentsRead::Bad(_) => stop(reply, xid, Message::GARBAGE_ARGS),
+        ArgumentsRead::Bad(place) => {
+            let offset = place as u32;
+            let length = stop(reply, xid, Message::GARBAGE_ARGS);
+            Answer {
+                number: Answer::DONE,
+                length,
+                offset,
+            }
+        }
     }
 }
 
@@ -97,21 +113,29 @@ fn answer(
     h: CallHeader,
     c: Cursor,
     read: ArgumentsRead,
-) -> u32
+) -> Answer
     requires { ⌜ leastReplyBytes ≤ length (now reply) ⌝ }
     requires { ⌜ Ready (now store) (now used) context ⌝ }
     requires { ⌜ argumentsOf read ≡ arguments (h .procedure) (now call) (c .at) ⌝ }
-    ensures { λ n. ⌜ Sends (answer (now (store .entry)) context (now (call .entry)) h (c .at) (judge nfs h)) n (now (reply .entry)) (now (reply .exit)) (now (store .exit)) ⌝ }
+    requires { ⌜ placeOf (argumentsOf read) ≤ mostCallBytes ⌝ }
+    ensures { λ r. ⌜ Sends (answer (now (store .entry)) context (now (call .entry)) h (c .at) (judge nfs h)) r (now (reply .entry)) (now (reply .exit)) (now (store .exit)) ⌝ }
 {
     let xid = h.xid;
     let judged = judge(Program::nfs(), h);
     match judged {
         Judged::Runs => perform(store, reply, used, context, call, h, c, read),
-        Judged::Stopped(stat) => stop(reply, xid, stat),
+        Judged::Stopped(stat) => {
+            let length = stop(reply, xid, stat);
+            Answer {
+                number: Answer::DONE,
+                length,
+                offset: 0,
+            }
+        }
     }
 }
 
-// Answers a call by its header, which ends at c, and what was read of its arguments there: the reply's length.
+// Answers a call by its header, which ends at c, and what was read of its arguments there.
 pub fn respond(
     store: &mut [u8],
     reply: &mut [u8],
@@ -121,17 +145,23 @@ pub fn respond(
     h: Header,
     c: Cursor,
     read: ArgumentsRead,
-) -> u32
+) -> Answer
     requires { ⌜ leastReplyBytes ≤ length (now reply) ⌝ }
     requires { ⌜ Ready (now store) (now used) context ⌝ }
     requires { ⌜ argumentsOf read ≡ arguments (namedProcedure h) (now call) (c .at) ⌝ }
-    ensures { λ n. ⌜ Sends (respond (now (store .entry)) context (now (call .entry)) h (c .at)) n (now (reply .entry)) (now (reply .exit)) (now (store .exit)) ⌝ }
+    requires { ⌜ placeOf (argumentsOf read) ≤ mostCallBytes ⌝ }
+    ensures { λ r. ⌜ Sends (respond (now (store .entry)) context (now (call .entry)) h (c .at)) r (now (reply .entry)) (now (reply .exit)) (now (store .exit)) ⌝ }
 {
     match h {
         Header::Call(header) => answer(store, reply, used, context, call, header, c, read),
         Header::OtherVersion(xid) => {
             let next = put_denied(reply, xid);
-            next as u32
+            let length = next as u32;
+            Answer {
+                number: Answer::DONE,
+                length,
+                offset: 0,
+            }
         }
     }
 }

@@ -3,17 +3,19 @@ use mathlib.Core.Path.{_≡_}
 use mathlib.Core.Bool.{true, false}
 use mathlib.Core.List.{List}
 use Prim.Native.Nat.{ℕ, _≤_, _<_}
+use native.Mathlib.Omega.{arith}
 use lib.ListN.{length}
 use borrow.Author.Tests.{lt-ltb, le-ltb}
 use Rattle.kinds.specs.Numbers.{leastReplyBytes, mostCallBytes, nanosecondsEnd}
-use Rattle.kinds.specs.Reading.{got, bad}
+use Rattle.kinds.specs.Reading.{got, bad, placeOf}
 use Rattle.kinds.specs.declared.call.Header.{Header}
 use Rattle.kinds.specs.declared.object.Context.{Context}
 use Rattle.spec.specs.Check.{goodTime, passes}
-use Rattle.spec.specs.Header.{header}
+use Rattle.spec.specs.Header.{header, fault, headerFault}
 use Rattle.spec.specs.Image.{Store}
 use Rattle.spec.specs.Serve.{refuse, send, respond, serve}
 use Rattle.laws.proofs.GoodRecords.{GoodClock}
+use Rattle.laws.proofs.Places.{inside-header, inside-arguments}
 use Rattle.laws.proofs.Range.{Below}
 use Rattle.laws.proofs.Valid.{valid}
 use Rattle.store_blocks.specs.Blocks.{UsedMap}
@@ -25,27 +27,27 @@ use Rattle.entry_tests.specs.Opens.{Hears}
 
 -- ---- each answer
 module _ (call : List ℕ) (s : Store) (space : List ℕ) (c : Context) where
-  pub small-space : length space < leastReplyBytes → serve call s space c ≡ refuse 2 space s
+  pub small-space : length space < leastReplyBytes → serve call s space c ≡ refuse (fault 2 0) space s
   unfolding serve
   small-space a = rw (lt-ltb (length space) leastReplyBytes a)
 
   module _ (a : leastReplyBytes ≤ length space) where
-    pub bad-clock : nanosecondsEnd ≤ c .clock .nanoseconds → serve call s space c ≡ refuse 3 space s
+    pub bad-clock : nanosecondsEnd ≤ c .clock .nanoseconds → serve call s space c ≡ refuse (fault 3 0) space s
     unfolding serve goodTime
     bad-clock b = rw (le-ltb (length space) leastReplyBytes a, le-ltb (c .clock .nanoseconds) nanosecondsEnd b)
 
     module _ (b : c .clock .nanoseconds < nanosecondsEnd) where
-      pub long-call : mostCallBytes < length call → serve call s space c ≡ refuse 4 space s
+      pub long-call : mostCallBytes < length call → serve call s space c ≡ refuse (fault 4 0) space s
       unfolding serve goodTime
       long-call d = rw (le-ltb (length space) leastReplyBytes a, lt-ltb (c .clock .nanoseconds) nanosecondsEnd b, lt-ltb mostCallBytes (length call) d)
 
       module _ (d : length call ≤ mostCallBytes) where
-        pub bad-store : passes s ≡ false → serve call s space c ≡ refuse 1 space s
+        pub bad-store : passes s ≡ false → serve call s space c ≡ refuse (fault 1 0) space s
         unfolding serve goodTime
         bad-store e = rw (le-ltb (length space) leastReplyBytes a, lt-ltb (c .clock .nanoseconds) nanosecondsEnd b, le-ltb mostCallBytes (length call) d, e)
 
         module _ (e : passes s ≡ true) where
-          pub bad-header : (p : ℕ) → header call 0 ≡ bad p → serve call s space c ≡ refuse 5 space s
+          pub bad-header : (p : ℕ) → header call 0 ≡ bad p → serve call s space c ≡ refuse (headerFault call p) space s
           unfolding serve goodTime
           bad-header p q = rw (
             le-ltb (length space) leastReplyBytes a,
@@ -74,4 +76,5 @@ module _ (call : List ℕ) (s : Store) (space : List ℕ) (c : Context) where
                 room = a;
                 ready = record { valid = valid s e; bytes = w; map = m; clock = k };
                 read = rw q at y;
+                inside = rw y (omega (arith, inside-arguments (procedureOf (header call 0)) .place call (placeOf (header call 0)) (inside-header .place call 0 (omega arith))));
               }

@@ -12,10 +12,11 @@ use kinds::numbers::Answer;
 use kinds::numbers::Limit;
 use kinds::object::Context;
 use rpc::header::HeaderRead;
+use rpc::header::fault;
 
-// What the tests find of a call: the number of the answer that refuses it, or its header, where that ends, and its arguments.
+// What the tests find of a call: the number and the offset of the answer that refuses it, or its header, where that ends, and its arguments.
 pub enum Opened {
-    Refused(u32),
+    Refused(u32, u32),
     Heard(Header, Cursor, ArgumentsRead),
 }
 
@@ -33,24 +34,25 @@ pub fn open(
 {
     let clock = context.clock;
     if reply.len() < Limit::LEAST_REPLY_BYTES {
-        return Opened::Refused(Answer::REPLY_SPACE);
+        return Opened::Refused(Answer::REPLY_SPACE, 0);
     }
     if clock.nanoseconds >= Limit::NANOSECONDS_END {
-        return Opened::Refused(Answer::CLOCK);
+        return Opened::Refused(Answer::CLOCK, 0);
     }
     if call.len() > Limit::MOST_CALL_BYTES {
-        return Opened::Refused(Answer::CALL);
+        return Opened::Refused(Answer::CALL, 0);
     }
     let mut parents = [0u8; Limit::MOST_OBJECTS];
     let found = check_store(store, used, &mut parents);
     let Found::Good(_) = found else {
-        return Opened::Refused(Answer::STORE);
+        return Opened::Refused(Answer::STORE, 0);
     };
     let whole = read_call(call, 0);
     let read = whole.header;
     let arguments = whole.arguments;
     let HeaderRead::Got(h, at) = read else {
-        return Opened::Refused(Answer::HEADER);
+        let broken = fault(call, read.place());
+        return Opened::Refused(broken.number, broken.offset);
     };
     Opened::Heard(h, at, arguments)
 }

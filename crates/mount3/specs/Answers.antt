@@ -9,5 +9,6 @@ use Rattle.mount_spec.specs.Serve.{MountOutcome}
 pub record ServesMount (o : MountOutcome) (r : Answer) (reply table : List ℕ) : Type 0 where
   pub number : r .number ≡ o .number
   pub length : r .length ≡ o .length
+  pub offset : r .offset ≡ o .offset
   pub space : reply ≡ o .space
   pub leaves : table ≡ o .table

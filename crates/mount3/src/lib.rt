@@ -10,7 +10,8 @@ use crate::tests::MountOpened;
 use crate::tests::open;
 use kinds::numbers::Answer;
 
-// Answers a call of MOUNT: 2, 4, 1, 12 or 5, which change nothing, or 0 with the length of the reply.
+// Answers a call of MOUNT: 2, 4, 1, 12, 5, 7, 8 or 9, which change nothing, or 0 with the length of the reply. 8, 9 and GARBAGE_ARGS come with the byte
+// at which the field starts that cannot be read.
 #[no_mangle]
 pub extern "C" fn mount3_call(
     call: &[u8],
@@ -23,13 +24,11 @@ pub extern "C" fn mount3_call(
 {
     let opened = open(call, store, table, reply);
     match opened {
-        MountOpened::Refused(number) => Answer { number, length: 0 },
-        MountOpened::Heard(h, c, read) => {
-            let length = respond(store, table, reply, host, call, h, c, read);
-            Answer {
-                number: Answer::DONE,
-                length,
-            }
-        }
+        MountOpened::Refused(number, offset) => Answer {
+            number,
+            length: 0,
+            offset,
+        },
+        MountOpened::Heard(h, c, read) => respond(store, table, reply, host, call, h, c, read),
     }
 }

@@ -3,6 +3,8 @@ ghost use mathlib.Core.Path.{_≡_};
 ghost use Prim.Native.Nat.{_≤_};
 ghost use lib.ListN.{length};
 ghost use Rattle.kinds.specs.Mount.{leastMountReplyBytes};
+ghost use Rattle.kinds.specs.Numbers.{mostCallBytes};
+ghost use Rattle.kinds.specs.Reading.{placeOf};
 ghost use Rattle.spec.specs.Rpc.{accepted, judge, mismatch};
 ghost use Rattle.laws.proofs.GoodRecords.{GoodRecords};
 ghost use Rattle.mount_spec.specs.Arguments.{mountArguments};
@@ -20,6 +22,7 @@ use kinds::call::Header;
 use kinds::mount::Mount;
 use kinds::mount::MountArguments;
 use kinds::mount::MountProcedure;
+use kinds::numbers::Answer;
 use kinds::numbers::Message;
 use mount_act::run_mount;
 use mount_call::MountRead;
@@ -60,17 +63,22 @@ fn finish(
     call: &[u8],
     h: CallHeader,
     a: MountArguments,
-) -> u32
+) -> Answer
     requires { ⌜ leastMountReplyBytes ≤ length (now reply) ⌝ }
     requires { ⌜ GoodRecords (now store) ⌝ }
     requires { ⌜ Fits (now table) ⌝ }
     requires { ⌜ PathWithin (length (now call)) a ⌝ }
-    ensures { λ n. ⌜ SendsMount (finishMount (now (store .entry)) h (actMount (now (store .entry)) (now (table .entry)) host (now (call .entry)) a)) n (now (reply .entry)) (now (reply .exit)) (now (table .exit)) ⌝ }
+    ensures { λ r. ⌜ SendsMount (finishMount (now (store .entry)) h (actMount (now (store .entry)) (now (table .entry)) host (now (call .entry)) a)) r (now (reply .entry)) (now (reply .exit)) (now (table .exit)) ⌝ }
 {
     let xid = h.xid;
     let r = run_mount(store, table, host, call, a);
     let next = put_mount_result(reply, store, table, xid, r);
-    next as u32
+    let length = next as u32;
+    Answer {
+        number: Answer::DONE,
+        length,
+        offset: 0,
+    }
 }
 
 // Runs a procedure where its arguments are of its type.
@@ -83,17 +91,26 @@ fn perform(
     h: CallHeader,
     c: Cursor,
     read: MountRead,
-) -> u32
+) -> Answer
     requires { ⌜ leastMountReplyBytes ≤ length (now reply) ⌝ }
     requires { ⌜ GoodRecords (now store) ⌝ }
     requires { ⌜ Fits (now table) ⌝ }
     requires { ⌜ mountReadOf read ≡ mountArguments (h .procedure) (now call) (c .at) ⌝ }
-    ensures { λ n. ⌜ SendsMount (performMount (now (store .entry)) (now (table .entry)) host (now (call .entry)) h (mountArguments (h .procedure) (now (call .entry)) (c .at))) n (now (reply .entry)) (now (reply .exit)) (now (table .exit)) ⌝ }
+    requires { ⌜ placeOf (mountReadOf read) ≤ mostCallBytes ⌝ }
+    ensures { λ r. ⌜ SendsMount (performMount (now (store .entry)) (now (table .entry)) host (now (call .entry)) h (mountArguments (h .procedure) (now (call .entry)) (c .at))) r (now (reply .entry)) (now (reply .exit)) (now (table .exit)) ⌝ }
 {
     let xid = h.xid;
     match read {
         MountRead::Got(a, _) => finish(store, table, reply, host, call, h, a),
-        MountRead::Bad(_) => stop(reply, xid, Message::GARBAGE_ARGS),
+        MountRead::Bad(place) => {
+            let offset = place as u32;
+            let length = stop(reply, xid, Message::GARBAGE_ARGS);
+            Answer {
+                number: Answer::DONE,
+                length,
+                offset,
+            }
+        }
     }
 }
 
@@ -107,22 +124,30 @@ fn answer(
     h: CallHeader,
     c: Cursor,
     read: MountRead,
-) -> u32
+) -> Answer
     requires { ⌜ leastMountReplyBytes ≤ length (now reply) ⌝ }
     requires { ⌜ GoodRecords (now store) ⌝ }
     requires { ⌜ Fits (now table) ⌝ }
     requires { ⌜ mountReadOf read ≡ mountArguments (h .procedure) (now call) (c .at) ⌝ }
-    ensures { λ n. ⌜ SendsMount (answerMount (now (store .entry)) (now (table .entry)) host (now (call .entry)) h (c .at) (judge mount3 h)) n (now (reply .entry)) (now (reply .exit)) (now (table .exit)) ⌝ }
+    requires { ⌜ placeOf (mountReadOf read) ≤ mostCallBytes ⌝ }
+    ensures { λ r. ⌜ SendsMount (answerMount (now (store .entry)) (now (table .entry)) host (now (call .entry)) h (c .at) (judge mount3 h)) r (now (reply .entry)) (now (reply .exit)) (now (table .exit)) ⌝ }
 {
     let xid = h.xid;
     let judged = judge(program(), h);
     match judged {
         Judged::Runs => perform(store, table, reply, host, call, h, c, read),
-        Judged::Stopped(stat) => stop(reply, xid, stat),
+        Judged::Stopped(stat) => {
+            let length = stop(reply, xid, stat);
+            Answer {
+                number: Answer::DONE,
+                length,
+                offset: 0,
+            }
+        }
     }
 }
 
-// Answers a call by its header, which ends at c, and what was read of its arguments there: the reply's length.
+// Answers a call by its header, which ends at c, and what was read of its arguments there.
 pub fn respond(
     store: &[u8],
     table: &mut [u8],
@@ -132,18 +157,24 @@ pub fn respond(
     h: Header,
     c: Cursor,
     read: MountRead,
-) -> u32
+) -> Answer
     requires { ⌜ leastMountReplyBytes ≤ length (now reply) ⌝ }
     requires { ⌜ GoodRecords (now store) ⌝ }
     requires { ⌜ Fits (now table) ⌝ }
     requires { ⌜ mountReadOf read ≡ mountArguments (namedProcedure h) (now call) (c .at) ⌝ }
-    ensures { λ n. ⌜ SendsMount (respondMount (now (store .entry)) (now (table .entry)) host (now (call .entry)) h (c .at)) n (now (reply .entry)) (now (reply .exit)) (now (table .exit)) ⌝ }
+    requires { ⌜ placeOf (mountReadOf read) ≤ mostCallBytes ⌝ }
+    ensures { λ r. ⌜ SendsMount (respondMount (now (store .entry)) (now (table .entry)) host (now (call .entry)) h (c .at)) r (now (reply .entry)) (now (reply .exit)) (now (table .exit)) ⌝ }
 {
     match h {
         Header::Call(header) => answer(store, table, reply, host, call, header, c, read),
         Header::OtherVersion(xid) => {
             let next = put_denied(reply, xid);
-            next as u32
+            let length = next as u32;
+            Answer {
+                number: Answer::DONE,
+                length,
+                offset: 0,
+            }
         }
     }
 }

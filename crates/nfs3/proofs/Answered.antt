@@ -5,6 +5,8 @@ use mathlib.Core.List.{List}
 use Prim.Native.Nat.{ℕ}
 use Rattle.spec.specs.Image.{Store}
 use Rattle.spec.specs.Check.{passes}
+use Rattle.kinds.specs.declared.numbers.Answer.{Answer}
+use Rattle.spec.specs.Header.{fault}
 use Rattle.spec.specs.Serve.{Outcome, Written, Sent, refuse, send, check}
 use Rattle.fsck.specs.Format.{Leaves}
 use Rattle.entry_reply.specs.Sends.{Sends}
@@ -25,10 +27,12 @@ writes-by w number s l = record { answers = ap answerOf (l .answers); leaves = l
 
 -- ---- a call
 -- a call that is refused changes nothing
-pub serves-refused : (o : Outcome) (number : ℕ) (space : List ℕ) (s : Store) → o ≡ refuse number space s → Serves o (answerOf number) space s
-serves-refused o number space s e = rw e (record { number = refl; length = refl; space = refl; leaves = refl })
+pub serves-refused : (o : Outcome) (number offset : ℕ) (space : List ℕ) (s : Store) → o ≡ refuse (fault number offset) space s
+    → Serves o (record { number = number; length = 0; offset = offset }) space s
+serves-refused o number offset space s e = rw e (record { number = refl; length = refl; offset = refl; space = refl; leaves = refl })
 
 -- a call that is answered
-pub serves-sent : (o : Outcome) (t : Sent) (n : ℕ) (space after left : List ℕ) → o ≡ send space t → Sends t n space after left
-    → Serves o (record { number = 0; length = n }) after left
-serves-sent o t n space after left e w = rw e (record { number = refl; length = w .length; space = w .space; leaves = w .store })
+pub serves-sent : (o : Outcome) (t : Sent) (r : Answer) (space after left : List ℕ) → o ≡ send space t → Sends t r space after left
+    → Serves o r after left
+serves-sent o t r space after left e w =
+    rw e (record { number = w .number; length = w .length; offset = w .offset; space = w .space; leaves = w .store })

@@ -7,9 +7,9 @@ use Rattle.kinds.specs.declared.object.Time.{Time}
 use Rattle.spec.specs.Serve.{Outcome, Written}
 use Rattle.kinds.specs.declared.numbers.Answer.{Answer}
 
--- the answers of the check, of format and of the converter: "both of length 0"
+-- the answers of the check, of format and of the converter: "both of length 0", with offset 0
 abbrev pub answerOf : ℕ → Answer
-answerOf number = record { number = number; length = 0 }
+answerOf number = record { number = number; length = 0; offset = 0 }
 
 -- a clock of two numbers
 abbrev pub clockOf : ℕ → ℕ → Time
@@ -28,5 +28,6 @@ contextOf seconds nanoseconds verifier = record { clock = clockOf seconds nanose
 pub record Serves (o : Outcome) (r : Answer) (reply store : List ℕ) : Type 0 where
   pub number : r .number ≡ o .number
   pub length : r .length ≡ o .length
+  pub offset : r .offset ≡ o .offset
   pub space : reply ≡ o .space
   pub leaves : store ≡ o .store

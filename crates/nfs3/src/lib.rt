@@ -15,7 +15,8 @@ use kinds::numbers::Limit;
 use kinds::object::Context;
 use kinds::object::Time;
 
-// Answers a call: 2, 3, 4, 1 or 5, which change nothing, or 0 with the length of the reply.
+// Answers a call: 2, 3, 4, 1, 5, 7, 8 or 9, which change nothing, or 0 with the length of the reply. 8, 9 and GARBAGE_ARGS come with the byte at which
+// the field starts that cannot be read.
 #[no_mangle]
 pub extern "C" fn nfs3_call(
     call: &[u8],
@@ -35,14 +36,12 @@ pub extern "C" fn nfs3_call(
     let mut used = [0u8; Limit::MOST_BLOCKS];
     let opened = open(call, store, reply, context, &mut used);
     match opened {
-        Opened::Refused(number) => Answer { number, length: 0 },
-        Opened::Heard(h, c, read) => {
-            let length = respond(store, reply, &used, context, call, h, c, read);
-            Answer {
-                number: Answer::DONE,
-                length,
-            }
-        }
+        Opened::Refused(number, offset) => Answer {
+            number,
+            length: 0,
+            offset,
+        },
+        Opened::Heard(h, c, read) => respond(store, reply, &used, context, call, h, c, read),
     }
 }
 
@@ -58,10 +57,12 @@ pub extern "C" fn nfs3_check(store: &[u8]) -> Answer
         Found::Bad => Answer {
             number: Answer::STORE,
             length: 0,
+            offset: 0,
         },
         Found::Good(_) => Answer {
             number: Answer::DONE,
             length: 0,
+            offset: 0,
         },
     }
 }
@@ -84,7 +85,11 @@ pub extern "C" fn nfs3_format(
         nanoseconds,
     };
     let number = format_store(store, stamp, objects, names, blocks, clock);
-    Answer { number, length: 0 }
+    Answer {
+        number,
+        length: 0,
+        offset: 0,
+    }
 }
 
 // Makes the bytes of `store` what an image of the old layout becomes: 1, 6 or 0; 1 and 6 change nothing.
@@ -94,5 +99,9 @@ pub extern "C" fn nfs3_convert(old: &[u8], store: &mut [u8]) -> Answer
 {
     let mut room = [0u8; MOST_RECORDS];
     let number = convert_store(old, store, &mut room);
-    Answer { number, length: 0 }
+    Answer {
+        number,
+        length: 0,
+        offset: 0,
+    }
 }

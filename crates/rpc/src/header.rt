@@ -1,12 +1,16 @@
-// Reads the header of a call.
+// Reads the header of a call, and says why one cannot be read.
 ghost use mathlib.Core.Path.{_≡_};
+ghost use Prim.Native.Nat.{_≤_};
+ghost use Rattle.kinds.specs.Numbers.{mostCallBytes};
 ghost use Rattle.kinds.specs.Reading.{placeOf};
-ghost use Rattle.spec.specs.Header.{credential, callHeader, header};
+ghost use Rattle.spec.specs.Header.{credential, callHeader, header, headerFault};
 ghost use Rattle.rpc.specs.Meaning.{credentialOf, headerOf, procedureOf};
 use kinds::call::CallHeader;
 use kinds::call::Credential;
 use kinds::call::Cursor;
 use kinds::call::Header;
+use kinds::numbers::Answer;
+use kinds::numbers::Fault;
 use kinds::numbers::Limit;
 use kinds::numbers::Message;
 use kinds::numbers::Procedure;
@@ -19,6 +23,11 @@ use xdr::read::word;
 
 // A number that no procedure has.
 const NO_PROCEDURE: u32 = Procedure::COMMIT + 1;
+
+// Where the message type of a call starts and ends.
+const TYPE_START: usize = 4;
+
+const TYPE_END: usize = 8;
 
 pub enum CredentialRead {
     Got(Credential, Cursor),
@@ -146,4 +155,41 @@ pub fn next_header<'a>(r: Reader<'a>) -> HeaderRead
     ensures { λ t. ⌜ headerOf t ≡ header (now (r .entry .call)) (r .entry .at) ⌝ }
 {
     header_at(r.call, r.at)
+}
+
+// The answer to a call whose header is refused at a place: 5, 7, 8 or 9.
+pub fn fault(call: &[u8], place: usize) -> Fault
+    requires { ⌜ place ≤ mostCallBytes ⌝ }
+    ensures { λ r. ⌜ r ≡ headerFault (now (call .entry)) place ⌝ }
+{
+    if call.len() < TYPE_END {
+        return Fault {
+            number: Answer::MESSAGE,
+            offset: 0,
+        };
+    }
+    if place == TYPE_START {
+        return Fault {
+            number: Answer::MESSAGE_TYPE,
+            offset: 0,
+        };
+    }
+    let offset = place as u32;
+    let answer = word(call, Cursor { at: place });
+    let WordRead::Got(length, _) = answer else {
+        return Fault {
+            number: Answer::HEADER,
+            offset,
+        };
+    };
+    if length as usize > Limit::MOST_CREDENTIAL_BYTES {
+        return Fault {
+            number: Answer::CREDENTIAL,
+            offset,
+        };
+    }
+    Fault {
+        number: Answer::HEADER,
+        offset,
+    }
 }

@@ -41,7 +41,7 @@ impl Tag {
     pub const LAST_GIVEN: usize = 15;
 
     // Numbers that must come back: the answer's length, the digest of the store, the byte pairs that the last search compared, the digest of the mount table
-    // after the last call of MOUNT, ..
+    // after the last call of MOUNT, the answer's offset, ..
     pub const FIRST_WANTED: usize = 64;
 
     pub const LENGTH: usize = 64;
@@ -52,7 +52,9 @@ impl Tag {
 
     pub const TABLE_DIGEST: usize = 68;
 
-    pub const LAST_WANTED: usize = 69;
+    pub const OFFSET: usize = 70;
+
+    pub const LAST_WANTED: usize = 70;
 
     // .. and those that no row of their own sets: the answer's number, how far the reply space is as wanted, and the byte there.
     pub const NUMBER: usize = 93;

@@ -82,6 +82,7 @@ fn ask(
     Answer {
         number: NO_ENTRY,
         length: 0,
+        offset: 0,
     }
 }
 
@@ -100,6 +101,7 @@ fn take_answer(
     let lanes = digest(store);
     numbers[Tag::NUMBER + Tag::FOUND] = answer.number;
     numbers[Tag::LENGTH + Tag::FOUND] = answer.length;
+    numbers[Tag::OFFSET + Tag::FOUND] = answer.offset;
     numbers[Tag::STORE_DIGEST + Tag::FOUND] = lanes.first;
     numbers[Tag::STORE_DIGEST + Tag::FOUND + 1] = lanes.second;
     answer.number != NO_ENTRY

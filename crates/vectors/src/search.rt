@@ -29,6 +29,7 @@ pub fn search(numbers: &mut Numbers, store: &[u8], call: &[u8]) -> Answer {
         return Answer {
             number: NO_ENTRY,
             length: 0,
+            offset: 0,
         };
     };
     let directory = ObjectNumber(size(numbers[Tag::DIRECTORY]));
@@ -44,5 +45,9 @@ pub fn search(numbers: &mut Numbers, store: &[u8], call: &[u8]) -> Answer {
     };
     numbers[Tag::SEARCHED] = number;
     numbers[Tag::PAIRS + Tag::FOUND] = narrow(result.compared);
-    Answer { number, length: 0 }
+    Answer {
+        number,
+        length: 0,
+        offset: 0,
+    }
 }

@@ -23,11 +23,12 @@ pub fn bytes(s: &[u8], c: Cursor, n: usize) -> PartRead
     ensures { λ r. ⌜ partOf r ≡ bytes n (now (s .entry)) (c .at) ⌝ }
 {
     let at = c.at;
+    let refused = PartRead::Bad(at);
     if s.len() < at {
-        return PartRead::Bad(at);
+        return refused;
     }
     if s.len() - at < n {
-        return PartRead::Bad(at);
+        return refused;
     }
     PartRead::Got(
         Part {
@@ -66,13 +67,14 @@ pub fn long(s: &[u8], c: Cursor) -> LongRead
 pub fn choice(s: &[u8], c: Cursor, top: u32) -> WordRead
     ensures { λ r. ⌜ wordOf r ≡ choice top (now (s .entry)) (c .at) ⌝ }
 {
+    let refused = WordRead::Bad(c.at);
     let WordRead::Got(n, next) = word(s, c) else {
-        return WordRead::Bad(c.at);
+        return refused;
     };
     if n <= top {
         WordRead::Got(n, next)
     } else {
-        WordRead::Bad(c.at)
+        refused
     }
 }
 
@@ -91,16 +93,17 @@ pub fn flag(s: &[u8], c: Cursor) -> FlagRead
 pub fn opaque(s: &[u8], c: Cursor, most: usize) -> PartRead
     ensures { λ r. ⌜ partOf r ≡ opaque most (now (s .entry)) (c .at) ⌝ }
 {
+    let refused = PartRead::Bad(c.at);
     let WordRead::Got(n, c1) = word(s, c) else {
-        return PartRead::Bad(c.at);
+        return refused;
     };
     let length = n as usize;
     if most < length {
-        return PartRead::Bad(c.at);
+        return refused;
     }
     let rest = padding(length);
     let PartRead::Got(_, next) = bytes(s, c1, length + rest) else {
-        return PartRead::Bad(c.at);
+        return refused;
     };
     let start = c1.at;
     PartRead::Got(Part { start, length }, next)

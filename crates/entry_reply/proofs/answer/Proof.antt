@@ -24,7 +24,7 @@ perform-requires c κs =
           runs-few (st .args .h)
               (judged-runs _ nfs (st .args .h) _ (c .before .before .before .before .judge .ensures) (c .before .before .before .before .before .nfs .ensures)
               (c .before .before .enum-told .given .1)),
-          st .pre .1 .1,
+          (st .pre .1 .1 .0, st .pre .1 .1 .1),
         ),
       ),
     )
@@ -56,7 +56,7 @@ returns-2 c =
     let h = c .before .before .before .before .before .before .before .before .before .before .before .before .args .h in
     rw (judged-stops _ nfs h _ _ (c .before .before .before .before .before .before .before .judge .ensures)
     (c .before .before .before .before .before .before .before .before .nfs .ensures)
-    (c .before .before .before .before .before .judged .given .1)) (sends-kept _ _ (c .before .before .stop .ensures))
+    (c .before .before .before .before .before .judged .given .1)) (sends-kept _ _ _ (c .before .before .stop .ensures))
 
 pub answer-spec : {M : Type 1} → statement M
 answer-spec =

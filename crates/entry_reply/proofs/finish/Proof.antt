@@ -11,8 +11,8 @@ run-requires c κs = search needs
 put-result-requires : tie.Need-put-result-requires
 put-result-requires c κs = search needs
 
-cast-result : tie.Need-cast-result
-cast-result c =
+cast-length : tie.Need-cast-length
+cast-length c =
     let h = c .before .before .before .before .before .before .before .before .before .before .before .before .args .h in
     let k = reply-short (c .before .before .before .before .before .before .before .run .last .0) (h .procedure) (h .xid)
     (c .before .before .before .before .before .before .before .run .result)
@@ -38,7 +38,7 @@ finish-spec =
     (tie.spec
     run-requires
     put-result-requires
-    cast-result
+    cast-length
     same-length
     same-length-2
     returns)

@@ -1,4 +1,5 @@
 use mathlib.Core.Path.{sym, ap, _∙_}
+use native.Mathlib.Omega.{arith}
 use Rattle.spec.specs.Rpc.{mismatch}
 use Rattle.laws.proofs.ArgumentRange.{arguments-fit}
 use Rattle.call_end.specs.Reading.{argumentsOf}
@@ -15,7 +16,7 @@ finish-requires : tie.Need-finish-requires
 finish-requires c κs =
     let st = c .before .before .before .before .before .before .before .before in
     let a = st .args in
-    let e = st .pre .1 .1 .1 in
+    let e = st .pre .1 .1 .1 .0 in
     let g = c .before .before .before .read .given .1 in (
       st .pre .0,
       (
@@ -31,8 +32,14 @@ finish-requires c κs =
       ),
     )
 
-enum-told : tie.Need-enum-told
-enum-told c = search needs
+enum-known-read-2 : tie.Need-enum-known-read-2
+enum-known-read-2 c = search needs
+
+cast-offset : tie.Need-cast-offset
+cast-offset c =
+    let start = c .before .before .before .before .before .before in
+    let k = rw (c .before .read2 .given .1) at (start .pre .1 .1 .1 .1) in
+    omega arith
 
 stop-requires : tie.Need-stop-requires
 stop-requires c κs = search needs
@@ -45,7 +52,7 @@ same-length-2 c = search needs
 
 returns : tie.Need-returns
 returns c = rw (
-  ← c .before .before .before .before .before .before .before .before .before .before .before .before .before .pre .1 .1 .1,
+  ← c .before .before .before .before .before .before .before .before .before .before .before .before .before .pre .1 .1 .1 .0,
   c .before .before .before .before .before .before .before .before .read .given .1,
 ) (c .before .before .before .before .finish .ensures)
 
@@ -55,9 +62,9 @@ same-length-3 c = search needs
 returns-2 : tie.Need-returns-2
 unfolding mismatch
 returns-2 c = rw (
-  ← c .before .before .before .before .before .before .before .before .before .pre .1 .1 .1,
-  c .before .before .before .before .enum-told .given .1,
-) (sends-kept _ _ (c .before .before .stop .ensures))
+  ← c .before .before .before .before .before .before .before .before .before .before .pre .1 .1 .1 .0,
+  c .before .before .before .before .before .read2 .given .1,
+) (sends-kept _ _ _ (c .before .before .stop .ensures))
 
 pub perform-spec : {M : Type 1} → statement M
 perform-spec =
@@ -65,7 +72,8 @@ perform-spec =
     (tie.spec
     enum-known-read
     finish-requires
-    enum-told
+    enum-known-read-2
+    cast-offset
     stop-requires
     same-length
     same-length-2

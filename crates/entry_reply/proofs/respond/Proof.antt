@@ -8,7 +8,7 @@ enum-known-h c = search needs
 
 answer-requires : tie.Need-answer-requires
 answer-requires c κs = let st = c .before .before .before .before .before .before .before .before in
-    (st .pre .0, (st .pre .1 .0, rw (c .before .before .before .h .given .1) at (st .pre .1 .1)))
+    (st .pre .0, (st .pre .1 .0, (rw (c .before .before .before .h .given .1) at (st .pre .1 .1 .0), st .pre .1 .1 .1)))
 
 enum-known-h-2 : tie.Need-enum-known-h-2
 enum-known-h-2 c = search needs
@@ -16,8 +16,8 @@ enum-known-h-2 c = search needs
 put-denied-requires : tie.Need-put-denied-requires
 put-denied-requires c κs = search needs
 
-cast-result : tie.Need-cast-result
-cast-result c = search needs
+cast-length : tie.Need-cast-length
+cast-length c = search needs
 
 same-length : tie.Need-same-length
 same-length c = search needs
@@ -32,7 +32,7 @@ same-length-3 : tie.Need-same-length-3
 same-length-3 c = search needs
 
 returns-2 : tie.Need-returns-2
-returns-2 c = rw (c .before .before .before .before .before .h2 .given .1) (sends-kept _ _ (c .before .before .put-denied .ensures))
+returns-2 c = rw (c .before .before .before .before .before .h2 .given .1) (sends-kept _ _ _ (c .before .before .put-denied .ensures))
 
 pub respond-spec : {M : Type 1} → statement M
 respond-spec =
@@ -42,7 +42,7 @@ respond-spec =
     answer-requires
     enum-known-h-2
     put-denied-requires
-    cast-result
+    cast-length
     same-length
     same-length-2
     returns

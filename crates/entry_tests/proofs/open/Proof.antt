@@ -4,6 +4,11 @@ use borrow.Author.Needs.{needs}
 use Rattle.kinds.specs.Numbers.{mostObjects}
 use Rattle.fsck.proofs.Filled.{blank-of}
 use Rattle.fsck.proofs.Verdict.{bad-fails, good-passes}
+use Rattle.kinds.specs.Reading.{placeOf}
+use Rattle.kinds.specs.declared.numbers.Fault.{Fault}
+use Rattle.spec.specs.Header.{headerFault}
+use Rattle.spec.specs.Serve.{refuse}
+use Rattle.laws.proofs.Places.{inside-header}
 use Rattle.rpc.specs.Meaning.{headerOf}
 use Rattle.entry_tests.proofs.Tests.{small-space, bad-clock, long-call, bad-store, bad-header, hears}
 use Rattle.entry_tests.proofs.open.Statement.{statement}
@@ -50,9 +55,22 @@ enum-known-read c = search needs
 enum-told-3 : tie.Need-enum-told-3
 enum-told-3 c = search needs
 
+place-requires : tie.Need-place-requires
+place-requires c κs = search needs
+
+fault-requires : tie.Need-fault-requires
+fault-requires c κs =
+    let after-read-call = c .before .before .before in
+    let else3 = after-read-call .before .before .before .before .before .before in
+    let a = else3 .before .before .before .before .before .before .before .before .args in
+    let k = inside-header .place (a .call .now) 0 (omega arith) in
+    omega (arith, c .place .ensures, ap placeOf (after-read-call .read-call .ensures .0), k, else3 .if3 .left)
+
 returns-5 : tie.Need-returns-5
 returns-5 c =
-    let after-enum-told = c .before .before .before in
+    let after-enum-told3 = c .before .before in
+    let after-read-call = after-enum-told3 .before .before in
+    let after-enum-told = after-read-call .before in
     let after-check-store = after-enum-told .before .before in
     let else3 = after-check-store .before .before .before in
     let else2 = else3 .before in
@@ -61,11 +79,14 @@ returns-5 c =
     let a = start .args in
     let s = a .store .now in
     let e = good-passes s _ (sym (after-enum-told .enum-told .given .1) ∙ after-check-store .check-store .ensures .is) in
+    let bad = ap headerOf (after-enum-told3 .enum-told3 .given .1) in
+    let broken = c .fault .ensures ∙ ap (headerFault (a .call .now)) (c .before .place .ensures ∙ ap placeOf bad) in
     bad-header (a .call .now) s (a .reply .now) (a .context)
     (else1 .if1 .left)
     (else2 .if2 .left)
     (else3 .if3 .left) e
-    _ (sym (c .before .before .read-call .ensures .0) ∙ ap headerOf (c .enum-told3 .given .1))
+    _ (sym (after-read-call .read-call .ensures .0) ∙ bad)
+    ∙ ap (λ (f : Fault). refuse f (a .reply .now) s) (sym broken)
 
 returns-6 : tie.Need-returns-6
 returns-6 c =
@@ -110,5 +131,7 @@ open-spec =
     read-call-requires
     enum-known-read
     enum-told-3
+    place-requires
+    fault-requires
     returns-5
     returns-6)

@@ -15,7 +15,7 @@ enum-known-opened-2 c = search needs
 respond-requires : tie.Need-respond-requires
 respond-requires c κs =
     let k = rw (c .before .before .before .opened2 .given .1) at (c .before .before .before .before .before .«open» .ensures) in
-    (k .room, (k .good, (k .fits, k .read)))
+    (k .room, (k .good, (k .fits, (k .read, k .inside))))
 
 same-length : tie.Need-same-length
 same-length c = search needs
@@ -27,7 +27,7 @@ returns : tie.Need-returns
 returns c =
     let a = c .before .before .before .before .before .before .before .before .before .before .args in
     let k = rw (c .before .opened .given .1) at (c .before .before .before .«open» .ensures) in
-    serves-refused _ _ (a .reply .now) (a .table .now) (k (a .host))
+    serves-refused _ _ _ (a .reply .now) (a .table .now) (k (a .host))
 
 same-length-3 : tie.Need-same-length-3
 same-length-3 c = search needs
@@ -41,7 +41,7 @@ returns-2 c =
     let opening = met .before .before in
     let a = opening .before .before .before .before .before .before .before .args in
     let k = rw (met .opened2 .given .1) at (opening .«open» .ensures) in
-    serves-sent _ _ _ _ _ (a .table .now) _ (k .serves (a .host)) (c .before .before .before .before .respond .ensures)
+    serves-sent _ _ _ _ _ _ (k .serves (a .host)) (c .before .before .before .before .respond .ensures)
 
 pub mount3-call-spec : {M : Type 1} → statement M
 mount3-call-spec =

@@ -17,7 +17,7 @@ enum-known-opened-2 c = search needs
 respond-requires : tie.Need-respond-requires
 respond-requires c κs =
     let k = rw (c .before .before .before .before .opened2 .given .1) at (c .before .before .before .before .before .before .«open» .ensures) in
-    (k .room, (k .ready, k .read))
+    (k .room, (k .ready, (k .read, k .inside)))
 
 same-length : tie.Need-same-length
 same-length c = search needs
@@ -28,7 +28,7 @@ same-length-2 c = search needs
 returns : tie.Need-returns
 returns c =
     let a = c .before .before .before .before .before .before .before .before .before .before .args in
-    serves-refused _ _ (a .reply .now) (a .store .now) (rw (c .before .opened .given .1) at (c .before .before .before .«open» .ensures))
+    serves-refused _ _ _ (a .reply .now) (a .store .now) (rw (c .before .opened .given .1) at (c .before .before .before .«open» .ensures))
 
 same-length-3 : tie.Need-same-length-3
 same-length-3 c = search needs

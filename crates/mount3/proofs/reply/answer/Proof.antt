@@ -46,7 +46,7 @@ returns-2 c =
     let judging = met .before .before in
     let h = judging .before .before .before .before .before .before .args .h in
     rw (judged-stops _ mount3 h _ _ (judging .judge .ensures) (judging .before .program .ensures) (met .judged .given .1))
-    (sends-kept _ _ (c .before .before .stop .ensures))
+    (sends-kept _ _ _ (c .before .before .stop .ensures))
 
 pub answer-spec : {M : Type 1} → statement M
 answer-spec =

@@ -16,8 +16,8 @@ put-mount-result-requires c κs =
     let a = start .args in
     (start .pre .0, acts-writable (a .store .now) (a .host) (a .call .now) (a .a) (ran .result) (start .pre .1 .1 .0) (ran .ensures .0) (ran .ensures .1))
 
-cast-result : tie.Need-cast-result
-cast-result c =
+cast-length : tie.Need-cast-length
+cast-length c =
     let ran = c .before .before .before .before .before .before .before .run-mount in
     let start = c .before .before .before .before .before .before .before .before .before .before .before .before .before in
     let a = start .args in
@@ -43,7 +43,7 @@ finish-spec =
     (tie.spec
     run-mount-requires
     put-mount-result-requires
-    cast-result
+    cast-length
     same-length
     same-length-2
     returns)

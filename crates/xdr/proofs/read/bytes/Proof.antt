@@ -18,12 +18,12 @@ returns-2 : tie.Need-returns-2
 unfolding bytes
 returns-2 c = let a = c .before .before .args in rw (lt-leb (a .c .at + a .n) (length (a .s .now)) (omega arith))
 
-add-t5 : tie.Need-add-t5
-add-t5 c = search needs
+add-t6 : tie.Need-add-t6
+add-t6 c = search needs
 
 returns-3 : tie.Need-returns-3
 unfolding bytes
 returns-3 c = let a = c .before .before .args in rw (le-leb (a .c .at + a .n) (length (a .s .now)) (omega arith))
 
 pub bytes-spec : {M : Type 1} → statement M
-bytes-spec = tie.close (tie.spec returns sub-if2 returns-2 add-t5 returns-3)
+bytes-spec = tie.close (tie.spec returns sub-if2 returns-2 add-t6 returns-3)
