@@ -1,6 +1,7 @@
 /*
- * Calls the check, format and the converter from C, and mount3_call with good and bad tables; prints a line for each answer, and compares it and the
- * bytes with those written out here from the rules of the store and of the mount table. Exits 1 on a difference.
+ * Calls the check, format and the converter from C, mount3_call with good and bad tables, and nfs3_call and mount3_call with calls that cannot be read;
+ * prints a line for each answer, and compares it and the bytes with those written out here from the rules of the store, of the mount table and of a
+ * call. Exits 1 on a difference.
  */
 #include "mount3.h"
 #include "same.h"
@@ -294,7 +295,6 @@ static void mounts(void) {
     lend("all but the reply space", NFS3_CALL_MOST + 1, 111, MOUNT3_TABLE_LENGTH - 1, MOUNT3_REPLY_SPACE, 4, 0);
     lend("a header that is cut, store and table", DUMP_LENGTH - 1, 111, MOUNT3_TABLE_LENGTH - 1, MOUNT3_REPLY_SPACE, 1, 0);
     lend("a header that is cut, and the table", DUMP_LENGTH - 1, 112, MOUNT3_TABLE_LENGTH - 1, MOUNT3_REPLY_SPACE, 12, 0);
-    lend("a header that is cut", DUMP_LENGTH - 1, 112, MOUNT3_TABLE_LENGTH, MOUNT3_REPLY_SPACE, 5, 0);
     lend("a table of one byte more", DUMP_LENGTH, 112, MOUNT3_TABLE_LENGTH + 1, MOUNT3_REPLY_SPACE, 12, 0);
     lend("a reply space of one byte more", DUMP_LENGTH, 112, MOUNT3_TABLE_LENGTH, MOUNT3_REPLY_SPACE + 1, 0, EMPTY_DUMP);
     for (size_t len = 0; len < MOUNT3_TABLE_LENGTH; len += 43)
@@ -328,6 +328,293 @@ static void mounts(void) {
                    mount3_call(dump, DUMP_LENGTH, store, LENGTH, table, MOUNT3_TABLE_LENGTH, reply, MOUNT3_REPLY_SPACE, 0x7F000001));
 }
 
+/* ---- Calls that cannot be read: where each broke (struct nfs3_answer) ---- */
+
+/* A message, of which the first bytes are lent, and the program that it calls. */
+static uint8_t message[NFS3_CALL_MOST];
+static size_t message_len;
+static uint32_t called;
+
+static void put_word(uint32_t word) {
+    for (int i = 0; i < 4; i++)
+        message[message_len++] = (uint8_t)(word >> (24 - 8 * i));
+}
+
+static void put_words(const uint32_t *words, size_t count) {
+    for (size_t i = 0; i < count; i++)
+        put_word(words[i]);
+}
+
+/* So many bytes, whatever they are. */
+static void put_bytes(size_t len) {
+    memset(message + message_len, 0xEE, len);
+    message_len += len;
+}
+
+/* Opaque data of so many bytes, padded. */
+static void put_opaque(uint32_t len) {
+    put_word(len);
+    put_bytes((len + 3) / 4 * 4);
+}
+
+/* The header of a call, field by field: where each starts that has a name. */
+enum { RPC = 8, PROGRAM = 12, VERSION = 16, PROCEDURE = 20, FLAVOR = 24, CREDENTIAL = 28, VERIFIER_FLAVOR = 40, VERIFIER_LENGTH = 44, ARGUMENTS = 52 };
+
+/* A call of a procedure up to its arguments: xid 7, a credential of 5 bytes, and a verifier of 3. */
+static void begin(uint32_t program, uint32_t procedure) {
+    called = program;
+    message_len = 0;
+    put_words((uint32_t[]){ 7, 0, 2, program, 3, procedure, 1 }, 7);
+    put_opaque(5);
+    put_word(0);
+    put_opaque(3);
+}
+
+/* The same, with a handle: that of the root. What follows it starts at AFTER_HANDLE. */
+enum { AFTER_HANDLE = ARGUMENTS + 16 };
+
+static void begin_on_root(uint32_t procedure) {
+    begin(NFS3_PROGRAM, procedure);
+    put_words((uint32_t[]){ NFS3_HANDLE_LENGTH, 9, 0, 0 }, 4);
+}
+
+/* The lent buffers as they were before a call. */
+static struct {
+    uint8_t message[sizeof message], store[sizeof store], table[sizeof table], reply[sizeof reply];
+} lent;
+
+/*
+ * Lends the message and a reply space of so many bytes to the function of a program, and compares the answer, the reply that is wanted, and every other
+ * byte of every buffer with what it was.
+ */
+static struct nfs3_answer answered(const char *what, uint32_t program, size_t space, uint32_t number, uint32_t offset, const uint8_t *wanted,
+                                   size_t len) {
+    struct nfs3_answer a;
+    memset(reply, 0x5A, sizeof reply);
+    memcpy(lent.message, message, sizeof message);
+    memcpy(lent.store, store, sizeof store);
+    memcpy(lent.table, table, sizeof table);
+    memcpy(lent.reply, reply, sizeof reply);
+    if (program == MOUNT3_PROGRAM)
+        a = mount3_call(message, message_len, store, LENGTH, table, MOUNT3_TABLE_LENGTH, reply, space, 0x7F000001);
+    else
+        a = nfs3_call(message, message_len, store, LENGTH, reply, space, 0, 0, 0);
+    steps++;
+    same_answer_at(what, a, number, len, offset);
+    same_bytes(what, reply, wanted, len);
+    same_bytes(what, reply + len, lent.reply + len, sizeof reply - len);
+    same_bytes(what, message, lent.message, sizeof message);
+    same_bytes(what, store, lent.store, sizeof store);
+    same_bytes(what, table, lent.table, sizeof table);
+    return a;
+}
+
+static void tell(const char *what, struct nfs3_answer a) {
+    printf("answer %-2u offset %-3u %s\n", (unsigned)a.number, (unsigned)a.offset, what);
+}
+
+/* The message is refused by both functions, whichever program it calls. */
+static struct nfs3_answer refused(const char *what, uint32_t number, uint32_t offset) {
+    answered(what, NFS3_PROGRAM, sizeof reply, number, offset, NULL, 0);
+    return answered(what, MOUNT3_PROGRAM, sizeof reply, number, offset, NULL, 0);
+}
+
+static void tell_refused(const char *what, uint32_t number, uint32_t offset) {
+    tell(what, refused(what, number, offset));
+}
+
+/* The message is refused, wherever it is cut between two places. */
+static void tell_cut(const char *what, size_t start, size_t end, uint32_t number, uint32_t offset) {
+    for (message_len = start; message_len + 1 < end; message_len++)
+        refused(what, number, offset);
+    tell_refused(what, number, offset);
+}
+
+/* The message is answered by both functions with a reply that denies it: it has another RPC version. */
+static void denied(const char *what) {
+    static const uint8_t wanted[24] = { [3] = 7, [7] = 1, [11] = 1, [19] = 2, [23] = 2 };
+    answered(what, NFS3_PROGRAM, sizeof reply, NFS3_DONE, 0, wanted, sizeof wanted);
+    tell(what, answered(what, MOUNT3_PROGRAM, sizeof reply, NFS3_DONE, 0, wanted, sizeof wanted));
+}
+
+/* The message is answered by the function of its program with this status of RPC, and nothing behind it. */
+enum { SUCCESS = 0, PROC_UNAVAIL = 3, GARBAGE_ARGS = 4 };
+
+static void replied(const char *what, uint8_t status, uint32_t offset) {
+    uint8_t wanted[24] = { [3] = 7, [7] = 1, [23] = status };
+    tell(what, answered(what, called, sizeof reply, NFS3_DONE, offset, wanted, sizeof wanted));
+}
+
+static void garbage(const char *what, uint32_t offset) {
+    replied(what, GARBAGE_ARGS, offset);
+}
+
+/* Messages whose header cannot be read, and some whose header can. */
+static void headers(void) {
+    make_store();
+    memset(table, 0, sizeof table);
+    begin(NFS3_PROGRAM, 0);
+    tell_cut("under 8 bytes", 0, RPC, NFS3_SHORT_MESSAGE, 0);
+    tell_cut("cut in the RPC version", RPC, PROGRAM, NFS3_CUT_HEADER, RPC);
+    tell_cut("cut in the program", PROGRAM, VERSION, NFS3_CUT_HEADER, PROGRAM);
+    tell_cut("cut in the version", VERSION, PROCEDURE, NFS3_CUT_HEADER, VERSION);
+    tell_cut("cut in the procedure", PROCEDURE, FLAVOR, NFS3_CUT_HEADER, PROCEDURE);
+    tell_cut("cut in the flavor of the credential", FLAVOR, CREDENTIAL, NFS3_CUT_HEADER, FLAVOR);
+    tell_cut("cut in the credential: length, body or padding", CREDENTIAL, VERIFIER_FLAVOR, NFS3_CUT_HEADER, CREDENTIAL);
+    tell_cut("cut in the flavor of the verifier", VERIFIER_FLAVOR, VERIFIER_LENGTH, NFS3_CUT_HEADER, VERIFIER_FLAVOR);
+    tell_cut("cut in the verifier: length, body or padding", VERIFIER_LENGTH, ARGUMENTS, NFS3_CUT_HEADER, VERIFIER_LENGTH);
+    message_len = ARGUMENTS;
+    replied("a whole header, of NULL", SUCCESS, 0);
+
+    message[7] = 1;
+    tell_refused("a REPLY", NFS3_OTHER_MESSAGE, 0);
+    message_len = RPC;
+    tell_refused("a REPLY of 8 bytes", NFS3_OTHER_MESSAGE, 0);
+    message_len = RPC - 1;
+    tell_refused("a REPLY of 7 bytes", NFS3_SHORT_MESSAGE, 0);
+    begin(NFS3_PROGRAM, 0);
+    message[4] = 0x80;
+    tell_refused("message type 2,147,483,648", NFS3_OTHER_MESSAGE, 0);
+
+    begin(NFS3_PROGRAM, 0);
+    message_len = CREDENTIAL;
+    put_opaque(NFS3_CREDENTIAL_MOST + 1);
+    put_words((uint32_t[]){ 0, 0 }, 2);
+    tell_refused("a credential of 401 bytes", NFS3_LONG_CREDENTIAL, CREDENTIAL);
+    message_len = CREDENTIAL + 4;
+    tell_refused("a credential of 401 bytes, cut", NFS3_LONG_CREDENTIAL, CREDENTIAL);
+    message_len = CREDENTIAL + 3;
+    tell_refused("a credential of 401 bytes, cut in its length", NFS3_CUT_HEADER, CREDENTIAL);
+    message_len = CREDENTIAL;
+    put_opaque(NFS3_CREDENTIAL_MOST);
+    put_words((uint32_t[]){ 0, NFS3_CREDENTIAL_MOST + 1 }, 2);
+    tell_refused("a credential of 400 bytes, and a verifier of 401, cut", NFS3_LONG_CREDENTIAL, CREDENTIAL + 4 + NFS3_CREDENTIAL_MOST + 4);
+    message_len -= 4;
+    put_opaque(NFS3_CREDENTIAL_MOST);
+    replied("a credential and a verifier of 400 bytes", SUCCESS, 0);
+    message_len--;
+    tell_refused("the same, cut by a byte", NFS3_CUT_HEADER, CREDENTIAL + 4 + NFS3_CREDENTIAL_MOST + 4);
+    begin(NFS3_PROGRAM, 0);
+    message_len = VERIFIER_LENGTH;
+    put_word(0xFFFFFFFF);
+    tell_refused("a verifier of 4,294,967,295 bytes", NFS3_LONG_CREDENTIAL, VERIFIER_LENGTH);
+    message_len = CREDENTIAL;
+    put_words((uint32_t[]){ 401, 0, 401 }, 3);
+    tell_refused("both too long: the first decides", NFS3_LONG_CREDENTIAL, CREDENTIAL);
+
+    begin(NFS3_PROGRAM, 0);
+    message[RPC + 3] = 3;
+    message_len = PROGRAM;
+    denied("RPC version 3, and nothing behind it");
+
+    begin(NFS3_PROGRAM, 0);
+    message_len = CREDENTIAL;
+    answered("a cut header, and a small reply space", NFS3_PROGRAM, NFS3_REPLY_SPACE - 1, NFS3_SMALL_REPLY, 0, NULL, 0);
+    answered("a cut header, and a small reply space", MOUNT3_PROGRAM, MOUNT3_REPLY_SPACE - 1, NFS3_SMALL_REPLY, 0, NULL, 0);
+    store[3] = 2;
+    tell_refused("a cut header, and a bad store", NFS3_BAD_STORE, 0);
+    store[3] = 1;
+}
+
+enum { NULL_PROCEDURE = 0, GETATTR = 1, SETATTR = 2, LOOKUP = 3, WRITE = 7, CREATE = 8, RENAME = 14, MNT = 1, DUMP = 2, UMNT = 3 };
+
+/* Calls of NFS whose arguments cannot be read. */
+static void arguments(void) {
+    begin(NFS3_PROGRAM, NULL_PROCEDURE);
+    put_bytes(1);
+    garbage("NULL, with a byte left over", ARGUMENTS);
+    begin(NFS3_PROGRAM, 22);
+    put_bytes(1);
+    replied("procedure 22, with a byte left over", PROC_UNAVAIL, 0);
+    begin(NFS3_PROGRAM, GETATTR);
+    garbage("GETATTR without a handle", ARGUMENTS);
+    put_opaque(NFS3_HANDLE_MOST + 1);
+    garbage("GETATTR, a handle of 65 bytes", ARGUMENTS);
+    begin_on_root(GETATTR);
+    message_len--;
+    garbage("GETATTR, a handle that is cut", ARGUMENTS);
+    begin_on_root(GETATTR);
+    put_bytes(4);
+    garbage("GETATTR, with 4 bytes left over", AFTER_HANDLE);
+
+    begin_on_root(LOOKUP);
+    put_opaque(5);
+    message_len -= 4;
+    garbage("LOOKUP, a name that is cut", AFTER_HANDLE);
+    begin_on_root(LOOKUP);
+    put_opaque(5);
+    message_len--;
+    garbage("LOOKUP, a name whose padding is cut", AFTER_HANDLE);
+    begin_on_root(LOOKUP);
+    put_word(0xFFFFFFFF);
+    garbage("LOOKUP, a name of 4,294,967,295 bytes", AFTER_HANDLE);
+
+    enum { OFFSET = AFTER_HANDLE, COUNT = OFFSET + 8, STABLE = COUNT + 4, DATA = STABLE + 4, DATA_BYTES = DATA + 4 };
+    begin_on_root(WRITE);
+    put_words((uint32_t[]){ 0, 0, 3, 2, 3, 0xEEEEEEEE }, 6);
+    put_bytes(1);
+    garbage("WRITE, with a byte left over", DATA_BYTES + 4);
+    message_len = DATA_BYTES + 3;
+    garbage("WRITE, data whose padding is cut", DATA);
+    message_len = DATA;
+    garbage("WRITE without data", DATA);
+    message[STABLE + 3] = 3;
+    garbage("WRITE, stable of 3", STABLE);
+    message_len = COUNT + 1;
+    garbage("WRITE, cut in its count", COUNT);
+    message_len = OFFSET + 7;
+    garbage("WRITE, cut in its offset", OFFSET);
+
+    enum { MODE = AFTER_HANDLE, ATIME = MODE + 16, ATIME_NANOSECONDS = ATIME + 8 };
+    begin_on_root(SETATTR);
+    put_words((uint32_t[]){ 0, 0, 0, 0, 2, 1000, 1 }, 7);
+    message_len--;
+    garbage("SETATTR, cut in the nanoseconds of a time", ATIME_NANOSECONDS);
+    message[ATIME + 3] = 3;
+    garbage("SETATTR, a time of manner 3", ATIME);
+    message[MODE + 3] = 2;
+    garbage("SETATTR, a boolean of 2", MODE);
+
+    begin_on_root(CREATE);
+    put_opaque(1);
+    put_word(2);
+    put_bytes(7);
+    garbage("CREATE, EXCLUSIVE with a verifier of 7 bytes", AFTER_HANDLE + 12);
+    begin_on_root(RENAME);
+    put_opaque(1);
+    put_words((uint32_t[]){ NFS3_HANDLE_LENGTH, 9, 0, 0, 2 }, 5);
+    put_bytes(2);
+    garbage("RENAME, the second name's padding is not there", AFTER_HANDLE + 8 + 16);
+}
+
+/* Calls of MOUNT whose arguments cannot be read. */
+static void mount_arguments(void) {
+    begin(MOUNT3_PROGRAM, NULL_PROCEDURE);
+    put_bytes(1);
+    garbage("NULL of MOUNT, with a byte left over", ARGUMENTS);
+    begin(MOUNT3_PROGRAM, DUMP);
+    put_bytes(4);
+    garbage("DUMP, with 4 bytes left over", ARGUMENTS);
+    begin(MOUNT3_PROGRAM, MNT);
+    garbage("MNT without a path", ARGUMENTS);
+    put_opaque(MOUNT3_PATH_MOST + 1);
+    garbage("MNT, a path of 1,025 bytes", ARGUMENTS);
+    begin(MOUNT3_PROGRAM, MNT);
+    put_opaque(MOUNT3_PATH_MOST);
+    message_len--;
+    garbage("MNT, a path of 1,024 bytes that is cut", ARGUMENTS);
+    begin(MOUNT3_PROGRAM, MNT);
+    put_opaque(1);
+    put_bytes(1);
+    garbage("MNT, with a byte left over", ARGUMENTS + 8);
+    begin(MOUNT3_PROGRAM, UMNT);
+    put_opaque(MOUNT3_PATH_MOST + 1);
+    garbage("UMNT, a path of 1,025 bytes", ARGUMENTS);
+    begin(MOUNT3_PROGRAM, 6);
+    put_bytes(1);
+    replied("procedure 6 of MOUNT, with a byte left over", PROC_UNAVAIL, 0);
+}
+
 int main(void) {
     formats();
     checks();
@@ -336,5 +623,8 @@ int main(void) {
     conversions();
     both_layouts();
     mounts();
+    headers();
+    arguments();
+    mount_arguments();
     return end("check", steps);
 }

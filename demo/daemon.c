@@ -15,6 +15,11 @@
  *
  * A store of the old layout is converted when it is read, by --stamp too; the old file stays as STORE_FILE.old.
  *
+ * Messages that are refused, and calls whose arguments cannot be read, are reported on standard error, in at most one line a second. The lines:
+ *     daemon: LENGTH bytes from ADDRESS: answer NUMBER, offset OFFSET                         too long, or too short to be a call
+ *     daemon: LENGTH bytes from ADDRESS: answer NUMBER, offset OFFSET, FIELD                  a header broke in this field
+ *     daemon: LENGTH bytes from ADDRESS: GARBAGE_ARGS, program PROGRAM, procedure PROCEDURE, offset OFFSET
+ *
  * There is one thread and no allocation. A connection has room for one call and one reply, and the next call is read when the reply is sent.
  * Beside STORE_FILE stand STORE_FILE.lock and, within a save, STORE_FILE.new.
  */
@@ -386,17 +391,42 @@ static void end_connection(struct connection *c) {
     c->fd = -1;
 }
 
-/* Duty 8: at most one line a second. */
-static void report_refused(const struct connection *c, uint32_t number, const char *what, size_t len) {
+/* Whether a message is refused for a fault of its host. */
+static bool is_refused(uint32_t number) {
+    return number == NFS3_LONG_CALL || number == NFS3_SHORT_MESSAGE || number == NFS3_OTHER_MESSAGE || number == NFS3_CUT_HEADER ||
+           number == NFS3_LONG_CREDENTIAL;
+}
+
+/* The name of the field in which the header of a call broke; offset 0 is an answer about the message type. */
+static const char *field_name(const uint8_t *call, uint32_t offset) {
+    enum { FIRST = 8, CREDENTIAL = 28 };
+    static const char *const names[] = { "RPC version", "program", "version", "procedure", "flavor of the credential", "credential" };
+    if (offset == 0)
+        return "message type";
+    if (offset <= CREDENTIAL)
+        return names[(offset - FIRST) / 4];
+    uint32_t credential_end = CREDENTIAL + 4 + (get_word(call + CREDENTIAL) + 3) / 4 * 4;
+    return offset == credential_end ? "flavor of the verifier" : "verifier";
+}
+
+/* Duty 8: reports a message of so many bytes that was refused, or answered GARBAGE_ARGS, and where it broke. At most one line a second. */
+static void report(const struct connection *c, struct nfs3_answer a, size_t len) {
     static time_t last = -1;
     time_t now = seconds_running();
     if (now == last || !can_report())
         return;
     last = now;
-    char address[INET_ADDRSTRLEN] = "?";
+    char address[INET_ADDRSTRLEN] = "?", what[80];
     struct in_addr in = { .s_addr = c->address };
     inet_ntop(AF_INET, &in, address, sizeof address);
-    fprintf(stderr, "daemon: refused: answer %u to %s of %zu bytes from %s\n", (unsigned)number, what, len, address);
+    if (a.number == NFS3_DONE)
+        snprintf(what, sizeof what, "GARBAGE_ARGS, program %u, procedure %u, offset %u", (unsigned)get_word(c->call + 12),
+                 (unsigned)get_word(c->call + 20), (unsigned)a.offset);
+    else if (a.number == NFS3_LONG_CALL || a.number == NFS3_SHORT_MESSAGE)
+        snprintf(what, sizeof what, "answer %u, offset %u", (unsigned)a.number, (unsigned)a.offset);
+    else
+        snprintf(what, sizeof what, "answer %u, offset %u, %s", (unsigned)a.number, (unsigned)a.offset, field_name(c->call, a.offset));
+    fprintf(stderr, "daemon: %zu bytes from %s: %s\n", len, address, what);
 }
 
 /* Duty 8: sends what can be sent of the reply. False where the connection is to be closed. */
@@ -431,12 +461,14 @@ static bool answer(struct connection *c) {
             struct timespec now = next_time();
             a = nfs3_call(c->call, c->call_len, store, store_len, reply, REPLY_SPACE, (uint32_t)now.tv_sec, (uint32_t)now.tv_nsec, verifier);
         }
-        if (a.number == NFS3_LONG_CALL || a.number == NFS3_NO_CALL) {
-            report_refused(c, a.number, "a message", c->call_len);
+        if (is_refused(a.number)) {
+            report(c, a, c->call_len);
             return false;
         }
         if (a.number != NFS3_DONE) /* NFS3_BAD_STORE and MOUNT3_BAD_TABLE too: something else wrote into memory */
             stop_at("a call", a.number);
+        if (a.offset != 0) /* the reply says GARBAGE_ARGS */
+            report(c, a, c->call_len);
         len = a.length;
         bool changed = memcmp(store, saved, store_len) != 0; /* never by MOUNT (MOUNT duty 5) */
         if (changed)
@@ -466,7 +498,7 @@ static bool receive(struct connection *c) {
             return true;
         c->fragment_left = get_word(c->mark) & ~LAST_FRAGMENT;
         if (c->fragment_left > NFS3_CALL_MOST - c->call_len) {
-            report_refused(c, NFS3_LONG_CALL, "a record", c->call_len + c->fragment_left);
+            report(c, (struct nfs3_answer){ .number = NFS3_LONG_CALL }, c->call_len + c->fragment_left);
             return false;
         }
     } else {

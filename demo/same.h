@@ -8,11 +8,18 @@
 
 static int differences;
 
-static inline void same_answer(const char *what, struct nfs3_answer a, uint32_t number, size_t length) {
-    if (a.number != number || a.length != length) {
-        printf("%s: answer %u, length %u, not %u, %u\n", what, (unsigned)a.number, (unsigned)a.length, (unsigned)number, (unsigned)length);
+/* An answer to a call that broke at an offset. */
+static inline void same_answer_at(const char *what, struct nfs3_answer a, uint32_t number, size_t length, uint32_t offset) {
+    if (a.number != number || a.length != length || a.offset != offset) {
+        printf("%s: answer %u, length %u, offset %u, not %u, %u, %u\n", what, (unsigned)a.number, (unsigned)a.length, (unsigned)a.offset,
+               (unsigned)number, (unsigned)length, (unsigned)offset);
         differences++;
     }
+}
+
+/* An answer where nothing broke: with the offset 0. */
+static inline void same_answer(const char *what, struct nfs3_answer a, uint32_t number, size_t length) {
+    same_answer_at(what, a, number, length, 0);
 }
 
 static inline void same_bytes(const char *what, const uint8_t *got, const uint8_t *wanted, size_t len) {

@@ -25,8 +25,9 @@
  * UMNTALL  nothing; all pairs of the calling host are struck.
  * EXPORT   one export, "/", without groups: every host may mount.
  *
- * A path of over MOUNT3_PATH_MOST bytes, in MNT and in UMNT, and bytes after the arguments are GARBAGE_ARGS. Other procedures, versions and programs, and
- * other versions of RPC, are answered as nfs3.h says, with the version 3; NFS calls are PROG_UNAVAIL here, and MOUNT calls there.
+ * A path of over MOUNT3_PATH_MOST bytes, in MNT and in UMNT, and bytes after the arguments are GARBAGE_ARGS; the answer has the offset of the path's length
+ * word, or of the first byte left over. Other procedures, versions and programs, and other versions of RPC, are answered as nfs3.h says, with the version
+ * 3; NFS calls are PROG_UNAVAIL here, and MOUNT calls there.
  *
  *
  * THE CALLER'S PART
@@ -109,9 +110,10 @@ enum mount3_number {
 
 /*
  * Answers one RPC call of MOUNT from the store, and changes the table where the call asks for it.
- * The first of these that holds: NFS3_SMALL_REPLY (under MOUNT3_REPLY_SPACE bytes), NFS3_LONG_CALL, NFS3_BAD_STORE, MOUNT3_BAD_TABLE, NFS3_NO_CALL; else
- * NFS3_DONE, with the reply in the first bytes of its space and no byte after it changed. What to do: as enum nfs3_number says, with nothing to save
- * but the table, and that only if it is kept in a file.
+ * The first of these that holds: NFS3_SMALL_REPLY (under MOUNT3_REPLY_SPACE bytes), NFS3_LONG_CALL, NFS3_BAD_STORE, MOUNT3_BAD_TABLE, NFS3_SHORT_MESSAGE,
+ * NFS3_OTHER_MESSAGE; then NFS3_CUT_HEADER or NFS3_LONG_CREDENTIAL, by the first field of the header that cannot be read; else NFS3_DONE, with the reply in
+ * the first bytes of its space and no byte after it changed. The offset is as struct nfs3_answer says. What to do: as enum nfs3_number says, with nothing
+ * to save but the table, and that only if it is kept in a file.
  */
 struct nfs3_answer mount3_call(const uint8_t *call, size_t call_len, const uint8_t *store, size_t store_len, uint8_t *table, size_t table_len,
                                uint8_t *reply, size_t reply_len, uint32_t host);

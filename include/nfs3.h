@@ -94,8 +94,15 @@
  *    seven of duty 5. These may leave the store as it was even with OK: WRITE of 0 bytes does, and RENAME of an object onto its own name.
  *
  * 8. Sending. The first `length` bytes of the reply space are the whole RPC message. With an answer other than NFS3_DONE there is no reply; enum
- *    nfs3_number says what to do. What is reported there never makes the daemon wait, and is limited to a few lines a second. Where standard
- *    error is closed, open something in its place at the start, or the reports go into the next file or connection that is opened.
+ *    nfs3_number says what to do.
+ *    Report a message that is refused there, and a call that is answered GARBAGE_ARGS (NFS3_DONE with an offset other than 0), each in one line.
+ *    Of a message: the host's address, the answer's number and offset, and the name of the header's field that broke: the message type with
+ *    NFS3_OTHER_MESSAGE, and with NFS3_CUT_HEADER and NFS3_LONG_CREDENTIAL the one at the offset; struct nfs3_answer says which it is. Of a call
+ *    that is answered GARBAGE_ARGS: the host's address, the program and the procedure (the words at bytes 12 and 20 of the call) and the offset;
+ *    its reply is kept and sent like any other, and the connection stays open. So a host that makes its calls wrongly, at the same field again
+ *    and again, can be told from a program that sends any bytes to any port. A report never makes the daemon wait, and there are at most a few
+ *    lines a second, of both kinds together. Where standard error is closed, open something in its place at the start, or the reports go into
+ *    the next file or connection that is opened.
  *    UDP: one datagram to the address and port that the call came from.
  *    TCP: one record on the connection that the call came on, with its 4 bytes in front. Replies may be sent in any order. `send` may take fewer
  *    bytes than it is given: the rest goes first when the connection takes bytes again, and other connections do not wait for it. Ignore SIGPIPE.
@@ -128,7 +135,8 @@
  *   bytes. In the OLD LAYOUT, that of the edition before, it has 80, and all else is the same; nfs3_convert makes a store of this layout of
  *   one in the old layout. Tell them apart by asking nfs3_check first, and nfs3_convert where that fails. No store that was made by format
  *   and calls, of either edition, is good in both layouts; bytes that were made in another way can be, and count as a store of this layout.
- *   The edition before refuses a store of this layout.
+ *   The edition before refuses a store of this layout. Compile a daemon with the header of the edition that it is linked to: struct nfs3_answer
+ *   is not the same in all.
  */
 #ifndef NFS3_H
 #define NFS3_H
@@ -206,7 +214,7 @@ extern "C" {
 #define NFS3_MODE_MOST 4095
 #define NFS3_DATA_MOST 4096
 
-/* The longest body of a credential or verifier in a call's header. A longer one is answered NFS3_NO_CALL. */
+/* The longest body of a credential or verifier in a call's header. A longer one is answered NFS3_LONG_CREDENTIAL. */
 #define NFS3_CREDENTIAL_MOST 400
 
 /*
@@ -224,28 +232,47 @@ extern "C" {
  */
 #define NFS3_CONVERT_STACK 32768
 
-/* The number of an answer, and the length of the reply: 0 for every number but NFS3_DONE, and for the check, format and the converter. */
+/*
+ * The number of an answer, the length of the reply, and the offset at which a call broke. The length is 0 for every number but NFS3_DONE, and for
+ * the check, format and the converter.
+ * The offset counts bytes of the call from its first one, which is 0. It is the byte where a field starts that cannot be read: it is cut short, or
+ * its type does not allow what stands there.
+ *   NFS3_CUT_HEADER, NFS3_LONG_CREDENTIAL: the first such field of the header. Its name follows from the offset: 8 is the RPC version, 12 program, 16
+ *       version, 20 procedure, 24 flavor of the credential, 28 credential. Where it is above 28, let N be the length of the credential, which is
+ *       the word at byte 28, rounded up to a multiple of 4: 32 + N is the flavor of the verifier, and 36 + N the verifier.
+ *   NFS3_DONE, with a reply that says GARBAGE_ARGS: the first such field of the arguments, which start at byte 40 or later; or, where all of them
+ *       can be read, the first byte left over behind the last one.
+ * In all other cases it is 0. So with NFS3_DONE and an offset other than 0, and only then, the reply says GARBAGE_ARGS.
+ * Fields are the smallest parts: a number of 32 or 64 bits, a boolean, an enumeration, the word that says which of several forms follows, the 8 bytes
+ * of a verifier in CREATE and READDIR; a time is two of them, seconds and nanoseconds. A field of variable length (a credential or verifier of the
+ * header, a handle, a name, data, a path) starts at its length word: its offset is the same whether that word is cut or above the greatest length,
+ * or the bytes or the padding behind it are cut.
+ */
 struct nfs3_answer {
     uint32_t number;
     uint32_t length;
+    uint32_t offset;
 };
 
 /*
  * The numbers of answers. All but NFS3_DONE leave every byte of every buffer as it was, and there is no reply.
- *   NFS3_DONE         of a call: save the store where it changed (duty 7), keep the reply where the procedure is one of the seven of duty 5, then
- *                     send it. Of the check: the store is good. Of format: it is made; save it. Of the converter: the new store is made; keep
- *                     the old file and save the new one (duty 3).
- *   NFS3_BAD_STORE    the bytes are no store that passes its check. Send nothing and stop. At the start: ask nfs3_convert (duty 3). Where that
- *                     says the same, it is another file, or a damaged one; bring back a copy (duty 2). Later on: something else wrote into the
- *                     store's memory.
- *   NFS3_SMALL_REPLY  the reply space has less than NFS3_REPLY_SPACE bytes: a fault of the daemon. Send nothing and stop.
- *   NFS3_BAD_CLOCK    the nanoseconds are NFS3_NANOSECONDS or more: a fault of the daemon. Send nothing and stop.
- *   NFS3_LONG_CALL    the call has more than NFS3_CALL_MOST bytes. Send nothing, report it; over TCP close the connection. No host that keeps to
- *                     what FSINFO told it sends such a call.
- *   NFS3_NO_CALL      the message is no RPC call with a complete header; an empty message or one of type REPLY is none either. Send nothing,
- *                     report it; over TCP close the connection, since the marks are no longer to be trusted; over UDP drop the datagram.
- *   NFS3_BAD_FORMAT   of format: a count is out of range, or the length is not NFS3_STORE_LENGTH of the counts. Of the converter: the old store is
- *                     good, and the target's length is not NFS3_CONVERTED_LENGTH: a fault of the daemon. Stop; the old file is as it was.
+ *   NFS3_DONE             of a call: save the store where it changed (duty 7), keep the reply where the procedure is one of the seven of duty 5,
+ *                         then send it; where the offset is not 0, report it (duty 8). Of the check: the store is good. Of format: it is made;
+ *                         save it. Of the converter: the new store is made; keep the old file and save the new one (duty 3).
+ *   NFS3_BAD_STORE        the bytes are no store that passes its check. Send nothing and stop. At the start: ask nfs3_convert (duty 3). Where that
+ *                         says the same, it is another file, or a damaged one; bring back a copy (duty 2). Later on: something else wrote into
+ *                         the store's memory.
+ *   NFS3_SMALL_REPLY      the reply space has less than NFS3_REPLY_SPACE bytes: a fault of the daemon. Send nothing and stop.
+ *   NFS3_BAD_CLOCK        the nanoseconds are NFS3_NANOSECONDS or more: a fault of the daemon. Send nothing and stop.
+ *   NFS3_LONG_CALL        the call has more than NFS3_CALL_MOST bytes. Send nothing, report it (duty 8); over TCP close the connection. No host that
+ *                         keeps to what FSINFO told it sends such a call.
+ *   NFS3_SHORT_MESSAGE    the message has fewer than 8 bytes, or none. With this number and the next three: send nothing, report it (duty 8); over
+ *                         TCP close the connection, since the marks are no longer to be trusted; over UDP drop the datagram.
+ *   NFS3_OTHER_MESSAGE    the message's type, the word at byte 4, is not CALL (0). A REPLY (1) is such a message.
+ *   NFS3_CUT_HEADER       the message is a call, and ends within its header: the field at the offset is cut short, or not there.
+ *   NFS3_LONG_CREDENTIAL  the length at the offset, of a credential or verifier, is above NFS3_CREDENTIAL_MOST, whether its bytes are there or not.
+ *   NFS3_BAD_FORMAT       of format: a count is out of range, or the length is not NFS3_STORE_LENGTH of the counts. Of the converter: the old store
+ *                         is good, and the target's length is not NFS3_CONVERTED_LENGTH: a fault of the daemon. Stop; the old file is as it was.
  * Treat a number that is not among these like NFS3_BAD_STORE: later editions may add some.
  */
 enum nfs3_number {
@@ -254,16 +281,21 @@ enum nfs3_number {
     NFS3_SMALL_REPLY = 2,
     NFS3_BAD_CLOCK = 3,
     NFS3_LONG_CALL = 4,
-    NFS3_NO_CALL = 5,
-    NFS3_BAD_FORMAT = 6
+    NFS3_SHORT_MESSAGE = 5,
+    NFS3_BAD_FORMAT = 6,
+    NFS3_OTHER_MESSAGE = 7,
+    NFS3_CUT_HEADER = 8,
+    NFS3_LONG_CREDENTIAL = 9
 };
 
 /*
  * Answers one RPC call from the store, which it may change.
- * The first of these that holds: NFS3_SMALL_REPLY, NFS3_BAD_CLOCK, NFS3_LONG_CALL, NFS3_BAD_STORE, NFS3_NO_CALL; else NFS3_DONE, with the reply
- * in the first bytes of its space and no byte after it changed. A call that is not understood or not allowed is answered NFS3_DONE too: its
- * reply says so. WRITE and COMMIT send the verifier to the host, most significant byte first. The padding of a call's fields (duty 5) must be
- * there, and may be any bytes: neither the answer nor the reply nor the store depends on them. A reply is padded with zeros.
+ * The first of these that holds: NFS3_SMALL_REPLY, NFS3_BAD_CLOCK, NFS3_LONG_CALL, NFS3_BAD_STORE, NFS3_SHORT_MESSAGE, NFS3_OTHER_MESSAGE; then
+ * NFS3_CUT_HEADER or NFS3_LONG_CREDENTIAL, by the first field of the header that cannot be read; else NFS3_DONE, with the reply in the first bytes
+ * of its space and no byte after it changed. The header of a call whose RPC version is not 2 ends behind that word. A call that is not understood
+ * or not allowed is answered NFS3_DONE too: its reply says so. WRITE and COMMIT send the verifier to the host, most significant byte first. The
+ * padding of a call's fields (duty 5) must be there, and may be any bytes: neither the answer nor the reply nor the store depends on them. A reply
+ * is padded with zeros.
  */
 struct nfs3_answer nfs3_call(const uint8_t *call, size_t call_len, uint8_t *store, size_t store_len, uint8_t *reply, size_t reply_len,
                              uint32_t seconds, uint32_t nanoseconds, uint64_t verifier);
@@ -286,7 +318,7 @@ struct nfs3_answer nfs3_format(uint8_t *store, size_t store_len, uint32_t stamp,
  * files, and no verifier of an EXCLUSIVE CREATE. So every handle goes on naming its object, and one that is STALE stays so.
  * The first of these that holds: NFS3_BAD_STORE, where the old bytes are no store that passes the check of the old layout (any bytes may be
  * lent); NFS3_BAD_FORMAT, where store_len is not exactly NFS3_CONVERTED_LENGTH; else NFS3_DONE, with every byte of the target written, and the
- * check passes on it. The length in the answer is 0.
+ * check passes on it. The length and the offset in the answer are 0.
  * How to call it: where the file has fewer than NFS3_FIXED_LENGTH bytes, or NFS3_CONVERTED_LENGTH of its length and of the number at
  * NFS3_OBJECT_COUNT_OFFSET is above NFS3_STORE_MOST, it is no such store. Else lend that length of a target with NFS3_STORE_MOST bytes. The two
  * buffers do not overlap: there is no conversion in place. Ask nfs3_check first (duty 3), and convert nothing that passes it.

@@ -5,8 +5,10 @@
  *
  * EXCLUSIVE is a CREATE that comes again: the last file of the store is made by it. RENAME gives the last file a new name, and the old one again: two
  * calls. LOOKUP finds the last file; in LOOKUP,first and LOOKUP,last the files have names of 32 bytes that differ in the first byte or in the last
- * one only. Compiled with MOUNT defined it has the rows of MOUNT too: NULL with an empty mount table and with 32 paths of 1,024 bytes that differ in
- * the last one, MNT of "/" whose pair is there, and DUMP of the 32 paths. Ends with status 1 where a call is not answered OK.
+ * one only. broken,header is a GETATTR that is cut in the length of its verifier, and is refused; broken,WRITE is a WRITE of 512 bytes with one byte
+ * left over, and is answered GARBAGE_ARGS. Compiled with MOUNT defined it has the rows of MOUNT too: NULL with an empty mount table and with 32 paths
+ * of 1,024 bytes that differ in the last one, MNT of "/" whose pair is there, and DUMP of the 32 paths. Ends with status 1 where a call is answered in
+ * another way; all but the broken ones are answered OK.
  */
 #ifdef MOUNT
 #include "mount3.h"
@@ -53,6 +55,18 @@ static void end(void) {
     wrong |= a.number | reply[24] | reply[25] | reply[26] | reply[27];
 }
 
+/* A call that is refused, by whatever number. */
+static void end_refused(void) {
+    struct nfs3_answer a = nfs3_call(call, len, store, store_len, reply, sizeof reply, 1, 1, 1);
+    wrong |= a.number == NFS3_DONE || a.length != 0;
+}
+
+/* A call that is answered GARBAGE_ARGS. */
+static void end_garbage(void) {
+    struct nfs3_answer a = nfs3_call(call, len, store, store_len, reply, sizeof reply, 1, 1, 1);
+    wrong |= a.number != NFS3_DONE || a.length != 24 || reply[23] != 4;
+}
+
 static void create(const char *name) {
     begin(CREATE, 0);
     opaque(name, strlen(name));
@@ -81,11 +95,15 @@ static void rename_to(const char *name, const char *title) {
     end();
 }
 
-static void write_bytes(uint32_t object, uint32_t offset, uint32_t count) {
+static void begin_write(uint32_t object, uint32_t offset, uint32_t count) {
     static uint8_t bytes[NFS3_DATA_MOST];
     begin(WRITE, object);
     words((uint32_t[]){ 0, offset, count, 2 }, 4);
     opaque(bytes, count);
+}
+
+static void write_bytes(uint32_t object, uint32_t offset, uint32_t count) {
+    begin_write(object, offset, count);
     end();
 }
 
@@ -154,6 +172,15 @@ static void turn(const char *operation, int full, const char *last) {
         end();
     } else if (strcmp(operation, "WRITE") == 0)
         write_bytes(1, 0, 512);
+    else if (strcmp(operation, "broken,header") == 0) {
+        begin(GETATTR, 0);
+        len = 39;
+        end_refused();
+    } else if (strcmp(operation, "broken,WRITE") == 0) {
+        begin_write(1, 0, 512);
+        call[len++] = 0;
+        end_garbage();
+    }
 #ifdef MOUNT
     else if (strncmp(operation, "MOUNT", 5) == 0)
         call_mount(strcmp(operation, "MOUNT,MNT") == 0 ? 1 : strcmp(operation, "MOUNT,DUMP") == 0 ? 2 : 0, strcmp(operation, "MOUNT,MNT") == 0 ? "/" : NULL);
