@@ -14,9 +14,9 @@ use Rattle.kinds.specs.declared.call.Part.{Part}
 use Rattle.kinds.specs.declared.numbers.Fault.{Fault}
 use Rattle.spec.specs.Bytes.{beAt, padding}
 use Rattle.spec.specs.Header.{credential, callHeader, header, fault, headerFault}
-use Rattle.spec.specs.Xdr.{bind, number, word, choice, bytes, opaque}
+use Rattle.spec.specs.Xdr.{bind, word, choice, bytes, opaque}
 use Rattle.laws.proofs.Count.{by-bool}
-use Rattle.laws.proofs.Xdr.{never, same-value, same-end, same-place, opaque-bad, opaque-read}
+use Rattle.laws.proofs.Xdr.{never, same-place, word-cases, word-got, opaque-bad, opaque-read}
 
 -- where the length words of a header start: that of the credential, and behind the credential and its flavor that of the verifier
 pub data LengthWord (call : List ℕ) : ℕ → Type 0 where
@@ -38,17 +38,12 @@ pub data Broken (call : List ℕ) (p : ℕ) : Fault → Type 0 where
 
 -- ---- fields by cases
 module _ {P : Type 0} (s : List ℕ) (at : ℕ) where
-  word-cases : (length s < at + 4 → word s at ≡ bad at → P) → (at + 4 ≤ length s → word s at ≡ got (beAt s at 4) (at + 4) → P) → P
-  unfolding word number
-  word-cases cut there =
-      by-bool (leb (at + 4) (length s)) (λ t. there (leb-true _ _ t) (rw t)) (λ t. cut (leb-false _ _ t) (rw t))
-
   opaque-cases : (most q : ℕ) → opaque most s at ≡ bad q → (length s < at + 4 → P) → (at + 4 ≤ length s → most < beAt s at 4 → P)
       → (at + 4 ≤ length s → beAt s at 4 ≤ most → length s < at + 4 + beAt s at 4 + padding (beAt s at 4) → P) → P
   unfolding opaque bytes
   opaque-cases most q e cut over within =
       let n = beAt s at 4 in
-      word-cases (λ l _. cut l) (λ l w.
+      word-cases s at (λ l _. cut l) (λ l w.
       by-bool (leb n most)
       (λ t. by-bool (leb (at + 4 + n) (length s))
       (λ u. by-bool (leb (at + 4 + n + padding n) (length s))
@@ -58,13 +53,6 @@ module _ {P : Type 0} (s : List ℕ) (at : ℕ) where
       (λ v. within l (leb-true n most t) (leb-false (at + 4 + n + padding n) (length s) v)))
       (λ u. within l (leb-true n most t) (omega (arith, leb-false (at + 4 + n) (length s) u))))
       (λ t. over l (leb-false n most t)))
-
--- what a word that was read, or not, says of the call
-pub word-got : (s : List ℕ) (at n q : ℕ) → word s at ≡ got n q → (at + 4 ≤ length s) × (n ≡ beAt s at 4)
-word-got s at n q e = word-cases s at (λ l w. absurd (never at n q (sym w ∙ e))) (λ l w. (l, same-value _ _ _ _ (sym e ∙ w)))
-
-pub word-bad : (s : List ℕ) (at q : ℕ) → word s at ≡ bad q → length s < at + 4
-word-bad s at q e = word-cases s at (λ l w. l) (λ l w. absurd (never q (beAt s at 4) (at + 4) (sym e ∙ w)))
 
 -- ---- the answers
 module _ (call : List ℕ) (p : ℕ) where
@@ -122,8 +110,7 @@ module _ (call : List ℕ) (p : ℕ) where
       body l w (got f v) o =
           let read = opaque-read mostCredentialBytes call (at + 4) f v o in
           there (record { flavor = beAt call at 4; body = f }) v (rw (w, o))
-          (word-cases call (at + 4) (λ m u. absurd (never (at + 4) (read .n) (read .start) (sym u ∙ read .length-read)))
-          (λ m u. omega (arith, same-end _ _ _ _ (sym u ∙ read .length-read), read .ends))) (read .fits) (rw (w, o) at e)
+          (omega (arith, word-got call (at + 4) (read .n) (read .start) (read .length-read) .2, read .ends)) (read .fits) (rw (w, o) at e)
       body l w (bad q) o =
           let z = opaque-bad mostCredentialBytes call (at + 4) q o in
           refused l (o ∙ ap bad (sym z)) (z ∙ same-place q p (rw (w, o) at e))

@@ -1,16 +1,17 @@
 -- The laws of the XDR readers: what a reading that succeeded tells, and where one is refused. Assumes nothing.
-use Prim.Native.Nat.{ℕ, _+_, _≤_}
+use Prim.Native.Nat.{ℕ, _+_, _≤_, _<_}
 use mathlib.Core.Bool.{Bool, true, false}
 use mathlib.Core.List.{List}
 use mathlib.Core.Path.{_≡_, refl, sym, ap, _∙_}
 use native.Mathlib.Omega.{arith}
-use borrow.Author.Tests.{leb-true}
+use borrow.Author.Tests.{leb-true, leb-false}
 use lib.ListN.{length}
 use lib.Dec.{leb}
 use Rattle.kinds.specs.Reading.{Read, got, bad}
 use Rattle.kinds.specs.declared.call.Part.{Part}
-use Rattle.spec.specs.Bytes.{padding}
-use Rattle.spec.specs.Xdr.{bind, _>>=_, done, only-if, placed, check, word, bytes, opaque}
+use Rattle.spec.specs.Bytes.{beAt, padding}
+use Rattle.spec.specs.Xdr.{bind, _>>=_, done, only-if, placed, check, number, word, bytes, opaque}
+use Rattle.laws.proofs.Count.{by-bool}
 
 -- a refusal is no value
 pub never : {A : Type 0} (p : ℕ) (a : A) (q : ℕ) → bad p ≡ got a q → ⊥
@@ -51,6 +52,20 @@ only-if-bad false p a n q e = same-place p q e
 pub placed-bad : {A : Type 0} (p : ℕ) (r : Read A) (q : ℕ) → placed p r ≡ bad q → p ≡ q
 placed-bad p (got a n) q e = absurd (never q a n (sym e))
 placed-bad p (bad n) q e = same-place p q e
+
+-- a word is cut, and refused at its start, or it is there
+pub word-cases : {P : Type 0} (s : List ℕ) (at : ℕ) → (length s < at + 4 → word s at ≡ bad at → P)
+    → (at + 4 ≤ length s → word s at ≡ got (beAt s at 4) (at + 4) → P) → P
+unfolding word number
+word-cases s at cut there =
+    by-bool (leb (at + 4) (length s)) (λ t. there (leb-true (at + 4) (length s) t) (rw t)) (λ t. cut (leb-false (at + 4) (length s) t) (rw t))
+
+pub word-got : (s : List ℕ) (at n q : ℕ) → word s at ≡ got n q → (at + 4 ≤ length s) × (n ≡ beAt s at 4) × (q ≡ at + 4)
+word-got s at n q e =
+    word-cases s at (λ l w. absurd (never at n q (sym w ∙ e))) (λ l w. (l, same-value _ _ _ _ (sym e ∙ w), same-end _ _ _ _ (sym e ∙ w)))
+
+pub word-bad : (s : List ℕ) (at q : ℕ) → word s at ≡ bad q → length s < at + 4
+word-bad s at q e = word-cases s at (λ l w. l) (λ l w. absurd (never q (beAt s at 4) (at + 4) (sym e ∙ w)))
 
 -- a part that was read: its length, which is allowed, stands before it, and its padding behind it, within the call
 pub record OpaqueRead (most : ℕ) (s : List ℕ) (at : ℕ) (p : Part) (q : ℕ) : Type 0 where

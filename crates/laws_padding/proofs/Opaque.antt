@@ -14,7 +14,7 @@ use Rattle.spec.specs.Bytes.{beOf, beAt, padding}
 use Rattle.spec.specs.Xdr.{number, word, bytes, opaque}
 use Rattle.laws.proofs.Count.{by-bool, and-both}
 use Rattle.laws.proofs.Bytes.{same-part}
-use Rattle.laws.proofs.Xdr.{same-value, same-end, only-if-got, opaque-bad, opaque-read}
+use Rattle.laws.proofs.Xdr.{same-value, same-end, word-got, opaque-bad, opaque-read}
 use Rattle.laws_padding.specs.Fields.{lengthRead, opaqueField}
 use Rattle.laws_padding.specs.Alike.{padStart, padEnd, inPadding, inPaddings}
 use Rattle.laws_padding.proofs.ReadsAlike.{Before, SameCuts, SameWhereRead, ReadsAlike, no-pad}
@@ -36,13 +36,9 @@ module _ (s t : List ℕ) (long : length t ≡ length s) where
   unfolding opaque bytes word number
   opaque-same most at e = rw (e, long)
 
-  word-end : (at n next : ℕ) → word s at ≡ got n next → next ≡ at + 4
-  unfolding word number
-  word-end at n next e = only-if-got (leb (at + 4) (length s)) _ _ _ _ e (λ _ h. sym (same-end _ _ _ _ h))
-
   -- its padding is behind its length
   field-ahead : (most at i : ℕ) (r : Read ℕ) → word s at ≡ r → inPaddings (lengthRead most r) i ≡ true → at + 4 ≤ i
-  field-ahead most at i (got n start) e h = omega (arith, word-end at n start e, behind (leb n most) h)
+  field-ahead most at i (got n start) e h = omega (arith, word-got s at n start e .2, behind (leb n most) h)
     where
       behind : (b : Bool) → inPaddings (cond b (record { start = start; length = n } ∷ []) []) i ≡ true → start + n ≤ i
       behind true w = pad-one (record { start = start; length = n }) i w .0
@@ -62,7 +58,7 @@ module _ (s t : List ℕ) (long : length t ≡ length s) where
   reads-length : (most at i : ℕ) → i < at + 4 → (r : Read Part) → opaque most s at ≡ r → Before r i
   reads-length most at i l (got f next) e =
       let o = opaque-read most s at f next e in
-      omega (arith, word-end at (o .n) (o .start) (o .length-read), o .ends)
+      omega (arith, word-got s at (o .n) (o .start) (o .length-read) .2, o .ends)
   reads-length most at i l (bad q) e = tt
 
   reads-bytes : (most at n start i : ℕ) → word s at ≡ got n start → i < start + n → (r : Read Part) → opaque most s at ≡ r → Before r i
@@ -83,7 +79,7 @@ module _ (s t : List ℕ) (long : length t ≡ length s) where
       allowed : (b : Bool) → SameWhereRead s t at (opaque most s at) (cond b (f ∷ []) []) → SameCuts s t (cond b (f ∷ []) [])
       allowed true close = (
         same-part s t long start n (λ i l h.
-            close i (omega (arith, word-end at n start e)) (reads-bytes most at n start i e h (opaque most s at) refl) (before i h)),
+            close i (omega (arith, word-got s at n start e .2)) (reads-bytes most at n start i e h (opaque most s at) refl) (before i h)),
         tt,
       )
       allowed false close = tt
@@ -104,7 +100,7 @@ module _ (s t : List ℕ) (long : length t ≡ length s) where
   alike-opaque most before =
       record {
         ahead = λ at i h. omega (arith, field-ahead most at i (word s at) refl h);
-        onward = λ at f next h. let o = opaque-read most s at f next h in omega (arith, word-end at (o .n) (o .start) (o .length-read), o .ends);
+        onward = λ at f next h. let o = opaque-read most s at f next h in omega (arith, word-got s at (o .n) (o .start) (o .length-read) .2, o .ends);
         inside = λ at f next h i w.
             let o = opaque-read most s at f next h in
             let one : inPaddings (f ∷ []) i ≡ true = ap (λ (l : List Part). inPaddings l i) (sym (field-listed most at f next h)) ∙ w in

@@ -1,5 +1,5 @@
 -- The path in the arguments that were read lies within the call, and is at most 1,024 bytes long; reading stops within the call. Assumes nothing.
-use mathlib.Core.Path.{_≡_, subst}
+use mathlib.Core.Path.{_≡_, ap, subst}
 use mathlib.Core.Bool.{Bool, true, false, cond}
 use mathlib.Core.List.{List}
 use Prim.Native.Nat.{ℕ, _+_, _≤_}
@@ -7,13 +7,16 @@ use native.Mathlib.Omega.{arith}
 use lib.Dec.{eqb}
 use lib.ListN.{length, length-take}
 use Rattle.kinds.specs.Mount.{mostPathBytes}
-use Rattle.kinds.specs.Reading.{got}
+use Rattle.kinds.specs.Reading.{got, bad, placeOf}
+use Rattle.kinds.specs.declared.call.CallHeader.{CallHeader}
+use Rattle.kinds.specs.declared.call.Header.the-variants as Header
 use Rattle.kinds.specs.declared.call.Part.{Part}
 use Rattle.kinds.specs.declared.mount.MountArguments.{MountArguments}
 use Rattle.kinds.specs.declared.mount.MountArguments.the-variants as Mount
 use Rattle.spec.specs.Bytes.{part}
+use Rattle.spec.specs.Header.{header}
 use Rattle.spec.specs.Xdr.{Reader, end}
-use Rattle.laws.proofs.Places.{Inside, InsideOf, built, inside-then, inside-end, inside-opaque}
+use Rattle.laws.proofs.Places.{Inside, InsideOf, built, inside-then, inside-end, inside-opaque, header-long}
 use Rattle.laws.proofs.Readers.{of-cond}
 use Rattle.laws.proofs.Xdr.{same-value, bind-got, opaque-within}
 use Rattle.mount_spec.specs.Arguments.{dirpath, pathAlone, ofPath, ofNothing, mountArguments}
@@ -91,3 +94,8 @@ inside-arguments p =
     (of-cond InsideOf built (eqb p 4) (inside-nothing Mount.Umntall)
     (of-cond InsideOf built (eqb p 5) (inside-nothing Mount.Export)
     (inside-nothing Mount.Null)))))
+
+-- so with GARBAGE_ARGS the offset is never 0
+pub refused-behind : (call : List ℕ) (h : CallHeader) (at p : ℕ) → header call 0 ≡ got (Header.Call h) at → mountArguments (h .procedure) call at ≡ bad p
+    → 40 ≤ p
+refused-behind call h at p e f = omega (arith, header-long call h at e, inside-arguments (h .procedure) .ahead call at, ap placeOf f)

@@ -2,7 +2,8 @@ use mathlib.Core.Path.{sym, ap, _∙_}
 use native.Mathlib.Omega.{arith}
 use borrow.Author.Needs.{needs}
 use Rattle.kinds.specs.Reading.{wordOf}
-use Rattle.laws.proofs.BrokenHeader.{word-got, word-bad, fault-short, fault-type, fault-cut, fault-overlong, fault-allowed}
+use Rattle.laws.proofs.BrokenHeader.{fault-short, fault-type, fault-cut, fault-overlong, fault-allowed}
+use Rattle.laws.proofs.Xdr.{word-got, word-bad}
 use Rattle.rpc.proofs.header.fault.Statement.{statement}
 use Rattle.rpc.proofs.header.fault.Tie as tie
 
