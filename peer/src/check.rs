@@ -10,7 +10,7 @@
 use crate::layout::*;
 use crate::name::Text;
 
-/// Slots of the name table. At most 63 of them are ever filled.
+/// Slots of the name table. At most 128 of them are ever filled.
 const SLOTS: usize = 512;
 
 /// What the check learns about a valid store.
@@ -26,10 +26,11 @@ pub struct Survey {
     pub available: u64,
     /// Directories that hold at least one name.
     occupied: u64,
-    /// The directory of each live object but the root.
+    /// The directory that holds each directory but the root. For a file it is
+    /// the directory of one of its names.
     pub parents: [u8; MAX_OBJECTS],
-    /// The name record of each live object but the root.
-    records: [u8; MAX_OBJECTS],
+    /// How many names each object has.
+    pub links: [u8; MAX_OBJECTS],
     /// The lowest free name record, or the count of names if there is none.
     first_free_name: usize,
     /// One past the last used name record.
@@ -56,7 +57,7 @@ impl Survey {
             available: 0,
             occupied: 0,
             parents: [0; MAX_OBJECTS],
-            records: [0; MAX_OBJECTS],
+            links: [0; MAX_OBJECTS],
             first_free_name: 0,
             names_end: 0,
             used: [0; MAX_BLOCKS],
@@ -136,7 +137,10 @@ impl Survey {
 
     /// The pass over the name records.
     fn names(&mut self, section: &[u8]) -> bool {
-        let live = self.directories | self.files;
+        // The objects that must be named, and of these the ones that the next
+        // record may name: a directory is named once, the root never.
+        let wanted = (self.directories | self.files) & !1;
+        let mut allowed = wanted;
         let (mut first_free, mut names_end) = (self.shape.names, 0);
         let (mut named, mut occupied) = (0u64, 0u64);
         // Under each hash the number of a name record plus 1, or 0 in an empty
@@ -165,13 +169,14 @@ impl Survey {
             }
             let child_bit = 1u64 << child;
             let directory_bit = 1u64 << directory;
-            if (self.directories & directory_bit == 0) | ((live & !named) & child_bit == 0) {
+            if (self.directories & directory_bit == 0) | (allowed & child_bit == 0) {
                 return false;
             }
             named |= child_bit;
+            allowed &= self.files | !child_bit;
             occupied |= directory_bit;
             self.parents[child as usize % MAX_OBJECTS] = directory as u8;
-            self.records[child as usize % MAX_OBJECTS] = number as u8;
+            self.links[child as usize % MAX_OBJECTS] += 1;
             let mut slot = slot_of(directory, &text);
             while slots[slot] != 0 {
                 let other = &records[usize::from(slots[slot] - 1)];
@@ -186,12 +191,23 @@ impl Survey {
         self.first_free_name = first_free;
         self.names_end = names_end;
         self.occupied = occupied;
-        // Every live object but the root is named once, the root never.
-        named == live & !1
+        named == wanted && self.links_in_range()
+    }
+
+    /// Whether no object has more than 16 names. There are at most 128 names in
+    /// all, so eight counts are looked at in one number without a carry.
+    #[inline(always)]
+    fn links_in_range(&self) -> bool {
+        const BELOW_LIMIT: u64 = 0x0101_0101_0101_0101 * (127 - MAX_LINKS as u64);
+        const LIMIT_BITS: u64 = 0x8080_8080_8080_8080;
+        let over = self.links.as_chunks::<8>().0.iter().fold(0, |over, group| {
+            over | u64::from_le_bytes(*group).wrapping_add(BELOW_LIMIT)
+        });
+        over & LIMIT_BITS == 0
     }
 
     /// Whether the parents of every directory lead to the root. Files follow,
-    /// since each of them is in a directory.
+    /// since each of their names is in a directory.
     fn rooted(&self) -> bool {
         let mut rooted = 1u64;
         let mut left = self.directories & !1;
@@ -283,15 +299,10 @@ impl Survey {
         self.occupied >> object.0 & 1 != 0
     }
 
-    /// The directory that holds the object; the root's is the root.
+    /// The directory that holds a directory; the root's is the root.
     #[inline(always)]
-    pub fn parent(&self, object: Object) -> Object {
-        Object(usize::from(self.parents[object.0]))
-    }
-
-    /// The name record of a live object other than the root.
-    pub fn record_of(&self, object: Object) -> NameRecord {
-        NameRecord(usize::from(self.records[object.0]))
+    pub fn parent(&self, directory: Object) -> Object {
+        Object(usize::from(self.parents[directory.0]))
     }
 
     /// How many directories a directory holds.

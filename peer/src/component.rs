@@ -44,6 +44,7 @@ pub fn step(store: &[u8], survey: &Survey, from: Object, name: &[u8]) -> Result<
     } else if text.is_dot_dot() {
         Ok(survey.parent(from))
     } else {
-        find(store, survey, from, name).ok_or(Status::NOENT)
+        let found = find(store, survey, from, name).ok_or(Status::NOENT)?;
+        Ok(found.object)
     }
 }

@@ -24,6 +24,8 @@ pub const PLACES: usize = 16;
 pub const NO_BLOCK: u16 = 65535;
 /// The longest name.
 pub const MAX_NAME: usize = 32;
+/// The most names of one file.
+pub const MAX_LINKS: u8 = 16;
 /// The generation that is never given out.
 pub const SPENT_GENERATION: u32 = u32::MAX;
 /// The largest mode.

@@ -13,6 +13,7 @@ impl Status {
     pub const INVAL: Status = Status(22);
     pub const FBIG: Status = Status(27);
     pub const NOSPC: Status = Status(28);
+    pub const MLINK: Status = Status(31);
     pub const NAMETOOLONG: Status = Status(63);
     pub const NOTEMPTY: Status = Status(66);
     pub const STALE: Status = Status(70);

@@ -66,6 +66,7 @@ fn run_with(
         procedure::REMOVE => remove(reader, volume, reply),
         procedure::RMDIR => rmdir(reader, volume, reply),
         procedure::RENAME => rename(reader, volume, reply),
+        procedure::LINK => link(reader, volume, reply),
         procedure::READDIR => readdir(reader, volume, reply),
         procedure::FSSTAT => fsstat(reader, volume, reply),
         procedure::FSINFO => fsinfo(reader, volume, reply),
@@ -334,6 +335,7 @@ fn create(reader: &mut Reader<'_>, volume: &mut Volume<'_>, reply: &mut Reply<'_
         let text = want_name(place.name)?;
         refuse_dots(&text, Status::EXIST)?;
         let existing = volume.find(directory, place.name);
+        let existing = existing.map(|found| found.object);
         match &how {
             How::Unchecked(wanted) | How::Guarded(wanted) => {
                 if !wanted.valid() {
@@ -444,7 +446,7 @@ fn remove(reader: &mut Reader<'_>, volume: &mut Volume<'_>, reply: &mut Reply<'_
         let text = want_name(place.name)?;
         refuse_dots(&text, Status::ACCES)?;
         let found = volume.find(directory, place.name).ok_or(Status::NOENT)?;
-        if volume.survey.is_directory(found) {
+        if volume.survey.is_directory(found.object) {
             return Err(Status::ACCES);
         }
         volume.remove(directory, found);
@@ -464,8 +466,8 @@ fn rmdir(reader: &mut Reader<'_>, volume: &mut Volume<'_>, reply: &mut Reply<'_>
         let text = want_name(place.name)?;
         refuse_dots(&text, Status::INVAL)?;
         let found = volume.find(directory, place.name).ok_or(Status::NOENT)?;
-        want_directory(volume.survey, found)?;
-        if volume.survey.is_occupied(found) {
+        want_directory(volume.survey, found.object)?;
+        if volume.survey.is_occupied(found.object) {
             return Err(Status::NOTEMPTY);
         }
         volume.remove(directory, found);
@@ -508,26 +510,26 @@ fn try_rename(
     let new_text = want_name(new_name)?;
     refuse_dots(&old_text, Status::INVAL)?;
     refuse_dots(&new_text, Status::INVAL)?;
-    let object = volume.find(from, old_name).ok_or(Status::NOENT)?;
+    let moved = volume.find(from, old_name).ok_or(Status::NOENT)?;
     // The second directory and all that hold it, up to the root. The moved
     // object is never the root. A file is none of these.
     let mut above = to;
     while above != ROOT {
-        if above == object {
+        if above == moved.object {
             return Err(Status::INVAL);
         }
         above = volume.survey.parent(above);
     }
     if let Some(target) = volume.find(to, new_name) {
-        if target == object {
+        if target.object == moved.object {
             return Ok(());
         }
-        if !replaceable(volume, object, target) {
+        if !replaceable(volume, moved.object, target.object) {
             return Err(Status::EXIST);
         }
         volume.remove(to, target);
     }
-    volume.rename(object, from, to, new_name);
+    volume.rename(moved, from, to, new_name);
     Ok(())
 }
 
@@ -536,6 +538,45 @@ fn try_rename(
 fn replaceable(volume: &Volume<'_>, object: Object, target: Object) -> bool {
     let survey = &volume.survey;
     survey.is_directory(object) == survey.is_directory(target) && !survey.is_occupied(target)
+}
+
+fn link(reader: &mut Reader<'_>, volume: &mut Volume<'_>, reply: &mut Reply<'_>) -> Option<()> {
+    let raw = handle(reader)?;
+    let place = Place::read(reader)?;
+    reader.ended(())?;
+    let resolved_file = resolve(volume, raw);
+    let resolved = resolve(volume, place.directory);
+    let before = resolved.ok().map(|directory| volume.before(directory));
+    let status = match try_link(volume, resolved_file, resolved, place.name) {
+        Ok(()) => Status::OK,
+        Err(status) => status,
+    };
+    write_status(reply, status);
+    reply.optional_attributes(volume, resolved_file.ok());
+    reply.change(volume, before);
+    Some(())
+}
+
+fn try_link(
+    volume: &mut Volume<'_>,
+    file: Result<Object, Status>,
+    directory: Result<Object, Status>,
+    name: &[u8],
+) -> Result<(), Status> {
+    let file = file?;
+    want_file(volume, file)?;
+    let directory = directory?;
+    want_directory(volume.survey, directory)?;
+    let text = want_name(name)?;
+    refuse_dots(&text, Status::EXIST)?;
+    if volume.find(directory, name).is_some() {
+        return Err(Status::EXIST);
+    }
+    if volume.survey.links[file.0] >= MAX_LINKS {
+        return Err(Status::MLINK);
+    }
+    volume.link(file, directory, name)?;
+    Ok(())
 }
 
 fn readdir(reader: &mut Reader<'_>, volume: &Volume<'_>, reply: &mut Reply<'_>) -> Option<()> {
@@ -690,7 +731,8 @@ fn fsinfo(reader: &mut Reader<'_>, volume: &Volume<'_>, reply: &mut Reply<'_>) -
             // The finest time step: 0 seconds, 1 nanosecond.
             reply.word(0);
             reply.word(1);
-            reply.word(0x18);
+            // Hard links, the same PATHCONF for all objects, times are set.
+            reply.word(0x19);
         }
         Err(status) => write_failure(volume, None, status, reply),
     }
@@ -704,7 +746,7 @@ fn pathconf(reader: &mut Reader<'_>, volume: &Volume<'_>, reply: &mut Reply<'_>)
         Ok(object) => {
             write_status(reply, Status::OK);
             reply.optional_attributes(volume, Some(object));
-            for number in [1, MAX_NAME as u32, 1, 0, 0, 1] {
+            for number in [u32::from(MAX_LINKS), MAX_NAME as u32, 1, 0, 0, 1] {
                 reply.word(number);
             }
         }

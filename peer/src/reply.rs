@@ -109,7 +109,8 @@ impl<'a, const SPACE: usize> Reply<'a, SPACE> {
             (2 + volume.survey.subdirectories(object), 512, 0)
         } else {
             let size = size_in(record);
-            (1, size, blocks_for(size) * BLOCK_BYTES)
+            let links = u32::from(volume.survey.links[object.0]);
+            (links, size, blocks_for(size) * BLOCK_BYTES)
         };
         let fields = self.array::<84>();
         // Type and mode stand in the record as they are sent.

@@ -87,17 +87,22 @@ fn equal_in_group<const N: usize>(text: &[u8], name: &[u8], at: usize) -> Option
     Some(equal)
 }
 
-/// The object of this name in the directory of a checked store.
+/// A name that is there: its record and the object that it leads to.
+#[derive(Clone, Copy)]
+pub(crate) struct Found {
+    pub record: NameRecord,
+    pub object: Object,
+}
+
+/// Finds a name in the directory of a checked store.
 #[inline]
-pub(crate) fn find(
-    store: &[u8],
-    survey: &Survey,
-    directory: Object,
-    name: &[u8],
-) -> Option<Object> {
+pub(crate) fn find(store: &[u8], survey: &Survey, directory: Object, name: &[u8]) -> Option<Found> {
     let records = survey.name_records(store);
     let found = search_records(records, directory.0 as u32, name).found?;
-    Some(Object(word(&records[found], name_field::CHILD) as usize))
+    Some(Found {
+        record: NameRecord(found),
+        object: Object(word(&records[found], name_field::CHILD) as usize),
+    })
 }
 
 /// Searches a directory of a store for a name. `None` if the store fails its

@@ -2,7 +2,7 @@
 
 use crate::check::Survey;
 use crate::layout::*;
-use crate::search::find;
+use crate::search::{find, Found};
 
 /// A checked store with its survey and the caller's clock.
 pub struct Volume<'a> {
@@ -134,8 +134,8 @@ impl<'a> Volume<'a> {
         }
     }
 
-    /// The object of this name in the directory.
-    pub fn find(&self, directory: Object, name: &[u8]) -> Option<Object> {
+    /// Finds a name in the directory.
+    pub fn find(&self, directory: Object, name: &[u8]) -> Option<Found> {
         find(self.store, self.survey, directory, name)
     }
 
@@ -260,6 +260,7 @@ impl<'a> Volume<'a> {
         let bit = 1 << object.0;
         self.survey.available &= !bit;
         self.survey.parents[object.0] = directory.0 as u8;
+        self.survey.links[object.0] = 1;
         if kind == DIRECTORY {
             self.survey.directories |= bit;
         } else {
@@ -269,9 +270,36 @@ impl<'a> Volume<'a> {
         Ok(object)
     }
 
-    /// Frees an object other than the root, its blocks and its name, and sets
-    /// the times of its directory.
-    pub fn remove(&mut self, directory: Object, object: Object) {
+    /// Gives a file another name, which the directory has not. Sets the file's
+    /// change time and the directory's times. Nothing changes when there is no
+    /// room for the name.
+    pub fn link(&mut self, file: Object, directory: Object, name: &[u8]) -> Result<(), NoSpace> {
+        let record = self.survey.free_name().ok_or(NoSpace)?;
+        self.write_name(record, directory, file, name);
+        self.survey.links[file.0] += 1;
+        self.set_time(file, object_field::CTIME, self.clock);
+        self.touch(directory);
+        Ok(())
+    }
+
+    /// Frees the name of an object other than the root, and sets the times of
+    /// its directory. With its last name the object is freed; otherwise its
+    /// change time is set.
+    pub fn remove(&mut self, directory: Object, name: Found) {
+        let object = name.object;
+        let at = self.survey.shape.name_at(name.record);
+        self.store[at..at + NAME_BYTES].fill(0);
+        self.survey.links[object.0] -= 1;
+        if self.survey.links[object.0] == 0 {
+            self.free(object);
+        } else {
+            self.set_time(object, object_field::CTIME, self.clock);
+        }
+        self.touch(directory);
+    }
+
+    /// Frees an object and its blocks.
+    fn free(&mut self, object: Object) {
         let generation = self.generation(object);
         if !self.survey.is_directory(object) {
             for place in 0..blocks_for(self.size(object)) {
@@ -280,23 +308,20 @@ impl<'a> Volume<'a> {
                 self.contents_mut(block).fill(0);
             }
         }
-        let at = self.survey.shape.name_at(self.survey.record_of(object));
-        self.store[at..at + NAME_BYTES].fill(0);
         self.record_mut(object).fill(0);
         // The generation of a live object is below the largest number.
         self.set_field(object, object_field::GENERATION, generation + 1);
         let bit = 1u64 << object.0;
         self.survey.directories &= !bit;
         self.survey.files &= !bit;
-        self.touch(directory);
     }
 
-    /// Gives an object a name that the directory `to` has not, in the name
-    /// record it has. Sets the object's change time and the times of both
-    /// directories.
-    pub fn rename(&mut self, object: Object, from: Object, to: Object, name: &[u8]) {
-        let record = self.survey.record_of(object);
-        self.write_name(record, to, object, name);
+    /// Turns a name of an object into one that the directory `to` has not, in
+    /// the same name record. Sets the object's change time and the times of
+    /// both directories.
+    pub fn rename(&mut self, moved: Found, from: Object, to: Object, name: &[u8]) {
+        let object = moved.object;
+        self.write_name(moved.record, to, object, name);
         self.survey.parents[object.0] = to.0 as u8;
         let clock = self.clock;
         self.set_time(object, object_field::CTIME, clock);

@@ -39,6 +39,7 @@ fn requests(file: &[u8]) -> Vec<Request> {
         remove(&root(), b"n"),
         rmdir(&root(), b"nn"),
         rename(&root(), b"nnn", &root(), b"to"),
+        link(&file, &root(), b"link"),
         readdir(&root(), 0, 4096),
         Request::Fsstat {
             object: file.clone(),
@@ -174,6 +175,7 @@ fn failure_bodies_without_a_live_handle() {
             remove(&bad, b""),
             rmdir(&bad, b""),
             rename(&bad, b"", &bad, b""),
+            link(&bad, &bad, b""),
             Request::Readdir {
                 directory: bad.clone(),
                 cookie: 0,
@@ -287,6 +289,7 @@ fn name_checks() {
         (b"./", status::ACCES),
     ];
     let mut lane = Lane::new(4, 4, 4);
+    let file = lane.create(&root(), b"file");
     for (name, wanted) in names {
         let attributes = Attributes::mode(4096);
         for request in [
@@ -299,6 +302,7 @@ fn name_checks() {
             rmdir(&root(), name),
             rename(&root(), name, &root(), b"."),
             rename(&root(), b".", &root(), name),
+            link(&file, &root(), name),
         ] {
             assert_eq!(lane.status(&request), wanted, "{request:?}");
         }

@@ -6,7 +6,7 @@ mod common;
 use common::plain::plain_old_check;
 use common::*;
 use peer::generator::encode::Attributes;
-use peer::generator::old_images::{Pool, KINDS, WHOLE};
+use peer::generator::old_images::{Pool, KINDS, LINKED, WHOLE};
 use peer::generator::random::Random;
 use peer::old_check;
 
@@ -272,7 +272,7 @@ fn generated_images() {
     let mut image = Vec::new();
     let mut answers: BTreeMap<&str, [usize; 2]> = BTreeMap::new();
     let mut other_lengths = 0;
-    for number in 0..30_000 {
+    for number in 0..40_000 {
         let made = pool.make(&mut Random::part(34, number), &mut image);
         let sound = verdict(&image);
         answers.entry(made.kind).or_default()[usize::from(sound)] += 1;
@@ -286,12 +286,17 @@ fn generated_images() {
         };
         assert_eq!(converted(&image, made.target).0, wanted);
     }
-    assert_eq!(answers.len(), KINDS.len() + 2);
+    assert_eq!(answers.len(), KINDS.len() + 4);
+    let [unsound, sound] = answers.remove(LINKED).unwrap();
+    assert!(unsound > 500 && sound == 0);
     assert!(other_lengths > 1_000);
     for (kind, [unsound, sound]) in answers {
         let always_sound = [WHOLE, "stamp", "bytes of a block"].contains(&kind);
         assert_eq!(unsound == 0, always_sound, "{kind}");
-        assert!(sound > 3 || ["cut", "longer"].contains(&kind), "{kind}");
+        assert!(
+            sound > 3 || ["cut", "longer"].contains(&kind),
+            "{kind}: {sound}"
+        );
     }
 }
 

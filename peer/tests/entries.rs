@@ -221,7 +221,7 @@ fn rpc_outcomes_in_their_order() {
 #[test]
 fn unserved_procedures() {
     let mut lane = Lane::new(2, 2, 2);
-    for (number, zeros) in [(5, 1), (10, 2), (11, 2), (15, 3), (17, 1)] {
+    for (number, zeros) in [(5, 1), (10, 2), (11, 2), (17, 1)] {
         for arguments in [vec![], vec![1], root(), vec![0xFF; 60]] {
             let got = lane.raw(&Header::new(6, number).call(&arguments));
             let mut wanted = vec![6, 1, 0, 0, 0, 0, status::NOTSUPP];

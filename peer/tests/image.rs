@@ -314,14 +314,16 @@ fn names_join_live_objects() {
     for child in [0u32, 2, 4, 5, 9, 11, 12, 63, 64, 65, u32::MAX] {
         assert!(!with_name(0, 4, &child.to_be_bytes()));
     }
-    // Two names for one object: record 3 is free.
+    // Two names for a file: record 3 is free.
     let mut lane = sample();
     let at = 16 + RECORD * 12 + 44 * 3;
     lane.store[at..at + 13].copy_from_slice(&[0, 0, 0, 0, 0, 0, 0, 6, 0, 0, 0, 1, b'q']);
-    assert!(!verdict(&lane.store));
-    // A name for the root.
-    lane.store[at + 7] = 0;
-    assert!(!verdict(&lane.store));
+    assert!(verdict(&lane.store));
+    // Two names for a directory, a name for the root, a name of a free object.
+    for child in [1, 2, 3, 0, 4, 11] {
+        lane.store[at + 7] = child;
+        assert!(!verdict(&lane.store), "{child}");
+    }
     // An object without a name.
     let mut lane = sample();
     let at = 16 + RECORD * 12;

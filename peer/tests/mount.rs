@@ -603,6 +603,48 @@ fn a_full_table() {
     assert_eq!(gate.mnt(b"/a"), SERVERFAULT);
 }
 
+/// Files with several names, at the end of a path and beside it.
+#[test]
+fn linked_files() {
+    let mut gate = Gate::new();
+    let (a, b, file) = (
+        handle(STAMP, 1, 0),
+        handle(STAMP, 2, 0),
+        handle(STAMP, 3, 0),
+    );
+    for (directory, name) in [
+        (root(), b"link"),
+        (a.clone(), b"link"),
+        (b.clone(), b"file"),
+    ] {
+        let request = link(&file, &directory, name);
+        assert_eq!(gate.lane.status(&request), status::OK);
+    }
+    for path in [
+        &b"/file"[..],
+        b"/link",
+        b"/a/link",
+        b"/a/b/file",
+        b"/a/b/file/",
+        b"/a/link/.",
+        b"/link/..",
+        b"/link/x",
+    ] {
+        assert_eq!(gate.mnt(path), status::NOTDIR, "{}", path.escape_ascii());
+    }
+    for (path, object) in [
+        (&b"/a"[..], 1),
+        (b"/a/b", 2),
+        (b"/a/b/..", 1),
+        (b"/a/..", 0),
+    ] {
+        assert_eq!(gate.object(path), object);
+    }
+    assert_eq!(gate.lane.status(&remove(&a, b"link")), status::OK);
+    assert_eq!(gate.mnt(b"/a/link"), status::NOENT);
+    assert_eq!(gate.mnt(b"/a/b/file"), status::NOTDIR);
+}
+
 #[test]
 fn the_store_changes() {
     let mut gate = Gate::new();

@@ -178,6 +178,7 @@ fn handled(bytes: &[u8]) -> Vec<Request> {
         remove(bytes, b"n"),
         rmdir(bytes, b"nn"),
         rename(bytes, b"nnn", bytes, b"to"),
+        link(bytes, bytes, b"lin"),
         readdir(bytes, 0, 4096),
         Request::Fsstat {
             object: object.clone(),
@@ -205,12 +206,16 @@ fn handles() {
         let mut requests = handled(bad);
         requests.push(rename(&root(), b"ffff", bad, b"to"));
         requests.push(rename(bad, b"f", &root(), b"to"));
+        requests.push(link(bad, &root(), b"to"));
+        requests.push(link(&file, bad, b"to"));
         for request in requests {
             assert_eq!(alike(&lane.store, &request), status::BADHANDLE);
         }
         // The first directory decides; the second handle is read all the same.
         let request = rename(&file, b"", bad, b"");
         assert_eq!(alike(&lane.store, &request), status::NOTDIR);
+        let request = link(&root(), bad, b"");
+        assert_eq!(alike(&lane.store, &request), status::INVAL);
     }
 }
 
@@ -288,6 +293,10 @@ fn names() {
             (rename(root, empty, root, filled), status::EXIST),
             (rename(root, none, root, named), status::NOENT),
             (rename(root, filled, &full, none), status::INVAL),
+            (link(&file, root, none), status::OK),
+            (link(&file, &full, named), status::OK),
+            (link(&file, root, empty), status::EXIST),
+            (link(root, root, none), status::INVAL),
         ];
         for (directory, name, wanted) in [
             (stale, named, status::STALE),
@@ -304,6 +313,7 @@ fn names() {
                 (rmdir(directory, name), wanted),
                 (rename(directory, name, root, none), wanted),
                 (rename(root, named, directory, name), wanted),
+                (link(&file, directory, name), wanted),
             ]);
         }
         for (request, wanted) in cases {
@@ -512,7 +522,7 @@ fn other_outcomes() {
         let left = alike_or(&lane.store, &header, &fields, unread);
         assert_eq!(left.words(), wanted);
     }
-    for (number, zeros) in [(5, 1), (10, 2), (11, 2), (15, 3), (17, 1)] {
+    for (number, zeros) in [(5, 1), (10, 2), (11, 2), (17, 1)] {
         let header = Header {
             procedure: number,
             ..header.clone()
@@ -551,6 +561,7 @@ fn a_later_fault() {
         exclusive(bad, b"na", [1; 8]),
         mkdir(bad, b"nam", attributes),
         rename(bad, b"n", bad, b"na"),
+        link(bad, bad, b"na"),
         write(bad, 0, b"d"),
         setattr(bad, attributes, None),
     ] {

@@ -8,8 +8,8 @@ use peer::generator::encode::{
     encode, handle, Attributes, Field, Header, Request, Time as SetTime,
 };
 use peer::generator::lane::{
-    access, commit, exclusive, fsinfo, fsstat, getattr, guarded, lookup, mkdir, pathconf, read,
-    readdir, remove, rename, rmdir, setattr, unchecked, write,
+    access, commit, exclusive, fsinfo, fsstat, getattr, guarded, link, lookup, mkdir, pathconf,
+    read, readdir, remove, rename, rmdir, setattr, unchecked, write,
 };
 use peer::generator::places;
 use peer::generator::random::Random;
@@ -277,7 +277,7 @@ fn not_served() {
 
 #[test]
 fn unserved_procedures() {
-    for procedure in [5, 10, 11, 15, 17] {
+    for procedure in [5, 10, 11, 17] {
         for arguments in [&[][..], &[0], &[0xFF; 6], &[0, 0, 0, 65], &[0; 200]] {
             assert_eq!(nfs(&Header::new(7, procedure).call(arguments)), (0, 0));
         }
@@ -343,6 +343,7 @@ fn requests(file: &[u8]) -> Vec<(Request, Vec<usize>)> {
             rename(root, b"file", root, b"name"),
             vec![0, 16, 24, 40, 48],
         ),
+        (link(file, root, b"name"), vec![0, 16, 32, 40]),
         (readdir(root, 0, 0, 1000), vec![0, 16, 24, 32, 36]),
         (fsstat(file), vec![0, 16]),
         (fsinfo(file), vec![0, 16]),

@@ -1115,12 +1115,12 @@ fn file_system_numbers() {
         assert_eq!(got.optional_attr().unwrap(), attr);
         assert_eq!(
             words(&got.bytes[got.at..]),
-            [4096, 4096, 1, 4096, 4096, 1, 4096, 0, 8192, 0, 1, 0x18]
+            [4096, 4096, 1, 4096, 4096, 1, 4096, 0, 8192, 0, 1, 0x19]
         );
         let (answer, mut got) = lane.ask(&Request::Pathconf { object });
         assert_eq!(answer, status::OK);
         assert_eq!(got.optional_attr().unwrap(), attr);
-        assert_eq!(words(&got.bytes[got.at..]), [1, 32, 1, 0, 0, 1]);
+        assert_eq!(words(&got.bytes[got.at..]), [16, 32, 1, 0, 0, 1]);
     }
 }
 

@@ -7,7 +7,7 @@ use peer::generator::random::Random;
 
 fn deep_call(random: &mut Random, file: &[u8]) -> Vec<u8> {
     let far = random.pick(&[0, 1, 511, 8191, 8192, u64::MAX, u64::MAX - 4095, 1 << 63]);
-    let request = match random.below(10) {
+    let request = match random.below(11) {
         0 => getattr(file),
         1 => setattr(file, Attributes::size(far), Some((1, 2))),
         2 => lookup(&root(), b"file"),
@@ -20,6 +20,7 @@ fn deep_call(random: &mut Random, file: &[u8]) -> Vec<u8> {
         5 => unchecked(&root(), b"file", Attributes::size(far)),
         6 => mkdir(&root(), b"dir", Attributes::default()),
         7 => rename(&root(), b"file", &root(), b"dir"),
+        9 => link(file, &root(), b"link"),
         8 => Request::Readdir {
             directory: root(),
             cookie: far,

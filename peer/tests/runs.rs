@@ -4,13 +4,13 @@ use std::collections::BTreeMap;
 
 mod common;
 use common::plain::{plain_check, plain_old_check};
-use common::plain_rename::plain_rename;
+use common::plain_names::plain_names;
 use common::store_of;
 use peer::generator::driver::{is_garbage, Call, Driver, Format, Mount, Outcome, Peer};
 use peer::generator::lane::status_of;
 use peer::generator::mounts::{self, definition::defined};
 use peer::generator::places;
-use peer::generator::random_runs::{self, Extent, RENAMES};
+use peer::generator::random_runs::{self, Extent, LINKS, RENAMES};
 use peer::generator::scripts::{self, Runs};
 use peer::Answer;
 
@@ -29,10 +29,12 @@ struct Tester {
     damaged: usize,
     /// Conversions answered 0, 1 and 6.
     converted: [usize; 3],
-    /// RENAMEs that were made a second time.
+    /// REMOVEs, RENAMEs and LINKs that were made a second time.
     renamed: usize,
     /// RENAMEs of random runs onto names that exist, by kind and status.
     renames: BTreeMap<String, usize>,
+    /// What random runs do with names of files.
+    links: BTreeMap<String, usize>,
 }
 
 impl Driver for Tester {
@@ -103,7 +105,7 @@ impl Driver for Tester {
             other => panic!("answer {other}"),
         }
         if status_of(reply).is_some() {
-            let renamed = plain_rename(&before, call.bytes, call.seconds, call.nanoseconds);
+            let renamed = plain_names(&before, call.bytes, call.seconds, call.nanoseconds);
             if let Some((store, result)) = renamed {
                 assert!(self.peer.store == store);
                 assert_eq!(reply[24..], result);
@@ -178,6 +180,8 @@ impl Driver for Tester {
     fn note(&mut self, group: &'static str, label: &str) {
         if group == RENAMES {
             *self.renames.entry(label.to_owned()).or_default() += 1;
+        } else if group == LINKS {
+            *self.links.entry(label.to_owned()).or_default() += 1;
         }
     }
 }
@@ -198,14 +202,14 @@ fn scripted_runs() {
 #[test]
 fn random_runs() {
     let mut tester = Tester::default();
-    for number in 0..120 {
+    for number in 0..180 {
         random_runs::run(&mut tester, number, 99, Extent::Small, 80, 600);
         random_runs::raw_store_run(&mut tester, number, 98);
     }
-    for number in 0..30 {
+    for number in 0..50 {
         random_runs::run(&mut tester, number, 97, Extent::Middle, 120, 5000);
     }
-    for number in 0..4 {
+    for number in 0..12 {
         random_runs::run(&mut tester, number, 96, Extent::Wide, 200, 600);
     }
     random_runs::run(&mut tester, 0, 95, Extent::Largest, 40, 5000);
@@ -226,16 +230,25 @@ fn random_runs() {
     let wanted = [
         ("below itself, INVAL", 50),
         ("directory over a full one, EXIST", 15),
-        ("directory over an empty one, OK", 100),
+        ("directory over an empty one, OK", 80),
         ("directory over file, EXIST", 15),
         ("file over directory, EXIST", 15),
-        ("file over file, OK", 150),
+        ("file over one of several names of a file, OK", 100),
+        ("file over the last name of a file, OK", 50),
+        ("onto another name of the same file, OK", 30),
         ("onto itself, OK", 50),
     ];
     assert_eq!(renames.len(), wanted.len(), "{renames:?}");
     for ((label, count), (wanted, least)) in renames.into_iter().zip(wanted) {
         assert_eq!(label, wanted);
         assert!(count >= least, "{label}: {count}");
+    }
+    let kinds = random_runs::link_kinds();
+    assert_eq!(tester.links.len(), kinds.len(), "{:?}", tester.links);
+    for kind in kinds {
+        let count = tester.links[&kind];
+        let least = if kind.starts_with("READDIR") { 4 } else { 20 };
+        assert!(count >= least, "{kind}: {count}");
     }
 }
 

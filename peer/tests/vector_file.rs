@@ -20,7 +20,7 @@ fn digest_of_known_bytes() {
 #[test]
 fn reach_and_replay() {
     let recording = record();
-    assert!(recording.file.len() <= 4_000_000);
+    assert!(recording.file.len() <= 4_600_000);
     assert!(recording.digested <= 300_000_000);
     assert_eq!(recording.coverage.missing(), Vec::<String>::new());
     assert_eq!(recording.coverage.unexpected(), Vec::<String>::new());

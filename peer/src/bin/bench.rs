@@ -547,6 +547,10 @@ mod measuring {
                 ..Operation::new("CREATE+RENAME over", &over)
             },
             Operation::new("RENAME onto itself", &[rename(&root, &name, &root, &name)]),
+            Operation::new(
+                "LINK+REMOVE",
+                &[link(&file, &root, b"link"), remove(&root, b"link")],
+            ),
             Operation::new("READDIR", &[readdir(&root, 0, 0, 4096)]),
             Operation::new("mix of 12 calls", &mix),
         ]
@@ -569,6 +573,65 @@ mod measuring {
                 rows.push((format!("LOOKUP, {byte} byte, {end}"), peer, other));
             }
         }
+        rows
+    }
+
+    /// Names of so many bytes: as many as a store has.
+    fn all_names(shape: Shape, bytes: usize) -> Vec<Vec<u8>> {
+        let names = 0..shape.names;
+        names
+            .map(|number| format!("{number:0bytes$}").into_bytes())
+            .collect()
+    }
+
+    /// A full store whose names are all used, in the root: the first four files
+    /// have 16 names each, and the fifth the rest.
+    fn with_links(shape: Shape, names: &[Vec<u8>]) -> Vec<u8> {
+        let mut store = with_names(shape, &names[..FULL], 8192);
+        let root = handle(STAMP, 0, 0);
+        for (number, name) in names[FULL..].iter().enumerate() {
+            let file = handle(STAMP, 1 + number as u32 / 15, 0);
+            apply(&mut store, &link(&file, &root, name));
+        }
+        assert_eq!(library::check(&store).number, 0);
+        store
+    }
+
+    /// The rows for a full store whose names are all used.
+    fn linked_rows(shape: Shape) -> Vec<(&'static str, f64, f64)> {
+        let root = handle(STAMP, 0, 0);
+        let file = handle(STAMP, 4, 0);
+        let names = all_names(shape, 3);
+        let last = &names[shape.names - 1];
+        let store = with_links(shape, &names);
+        let (peer, other) = check_times(&store);
+        let mut rows = vec![("check, 128 names", peer, other)];
+        // The last name is one of the fifth file, the one before the last files'
+        // further names the fourth's sixteenth.
+        let fifth = handle(STAMP, 5, 0);
+        let sixteenth = &names[FULL + 59];
+        let operations: [(&'static str, Vec<Request>); 5] = [
+            ("GETATTR, 16 names", vec![getattr(&file)]),
+            (
+                "GETATTR, 1 name of 128",
+                vec![getattr(&handle(STAMP, 60, 0))],
+            ),
+            ("LOOKUP, 16 names", vec![lookup(&root, sixteenth)]),
+            (
+                "REMOVE+LINK, 128 names",
+                vec![remove(&root, last), link(&fifth, &root, last)],
+            ),
+            ("READDIR, 128 names", vec![readdir(&root, 0, 0, 4096)]),
+        ];
+        for (name, requests) in operations {
+            let calls: Vec<Vec<u8>> = requests.iter().map(|request| request.call(77)).collect();
+            let (peer, other) = call_times(&store, &calls, Status::OK);
+            rows.push((name, peer, other));
+        }
+        let store = with_links(shape, &all_names(shape, 32));
+        let calls = [readdir(&root, 0, 0, 4096).call(77)];
+        let (peer, other) = call_times(&store, &calls, Status::OK);
+        rows.push(("READDIR, cut at 4,096", peer, other));
         rows
     }
 
@@ -763,6 +826,9 @@ mod measuring {
             if *shape == full {
                 for (name, peer, other) in lookups(full) {
                     largest = largest.max(line(label, &name, peer, other));
+                }
+                for (name, peer, other) in linked_rows(full) {
+                    largest = largest.max(line(label, name, peer, other));
                 }
             }
             if library::HAS_MOUNT {

@@ -490,13 +490,15 @@ mod comparison {
             &self.peer.table
         }
 
-        /// Of the labels only the rules and the random RENAMEs are counted.
+        /// Of the labels only the rules and those of random calls are counted.
         fn note(&mut self, group: &'static str, label: &str) {
             let counted = [
                 rules::GROUP,
                 rules::MOUNT_GROUP,
                 rules::PLACE_GROUP,
+                rules::LINK_GROUP,
                 random_runs::RENAMES,
+                random_runs::LINKS,
             ];
             if counted.contains(&group) {
                 self.coverage.note(group, label);

@@ -7,7 +7,7 @@ use super::driver::Outcome;
 use super::lane::status_of;
 use super::mounts::counts::Mounts;
 use super::places;
-use super::random_runs::{meetings, RENAMES};
+use super::random_runs::{link_kinds, meetings, LINKS, RENAMES};
 use super::rules;
 use super::searches;
 use crate::arguments::{How, Place};
@@ -41,7 +41,7 @@ pub const PROCEDURE_NAMES: [&str; 22] = [
     "COMMIT",
 ];
 
-const STATUS_NAMES: [(Status, &str); 17] = [
+const STATUS_NAMES: [(Status, &str); 18] = [
     (Status::OK, "OK"),
     (Status::NOENT, "NOENT"),
     (Status::ACCES, "ACCES"),
@@ -50,6 +50,7 @@ const STATUS_NAMES: [(Status, &str); 17] = [
     (Status::INVAL, "INVAL"),
     (Status::FBIG, "FBIG"),
     (Status::NOSPC, "NOSPC"),
+    (Status::MLINK, "MLINK"),
     (Status::NAMETOOLONG, "NAMETOOLONG"),
     (Status::NOTEMPTY, "NOTEMPTY"),
     (Status::STALE, "STALE"),
@@ -69,7 +70,7 @@ pub fn status_name(status: u32) -> &'static str {
 }
 
 /// The procedures whose arguments stay unread.
-const UNREAD: [usize; 5] = [5, 10, 11, 15, 17];
+const UNREAD: [usize; 4] = [5, 10, 11, 17];
 
 const HANDLE: [Status; 3] = [Status::OK, Status::BADHANDLE, Status::STALE];
 const NAME: [Status; 3] = [Status::NOTDIR, Status::ACCES, Status::NAMETOOLONG];
@@ -148,6 +149,14 @@ pub fn expected_pairs() -> Vec<(u32, Status)> {
         ],
     );
     add(
+        procedure::LINK,
+        &[
+            &HANDLE,
+            &NAME,
+            &[Status::INVAL, Status::EXIST, Status::MLINK, Status::NOSPC],
+        ],
+    );
+    add(
         procedure::READDIR,
         &[
             &HANDLE,
@@ -162,7 +171,6 @@ pub fn expected_pairs() -> Vec<(u32, Status)> {
         procedure::READLINK,
         procedure::SYMLINK,
         procedure::MKNOD,
-        procedure::LINK,
         procedure::READDIRPLUS,
     ] {
         add(number, &[&[Status::NOTSUPP]]);
@@ -294,9 +302,19 @@ impl Coverage {
                 missing.push(format!("rule of E6: {rule}"));
             }
         }
+        for rule in rules::link::all() {
+            if !self.noted(rules::LINK_GROUP, &rule) {
+                missing.push(format!("rule of E7: {rule}"));
+            }
+        }
         for meeting in meetings() {
             if !self.noted(RENAMES, &meeting) {
                 missing.push(format!("random RENAME: {meeting}"));
+            }
+        }
+        for kind in link_kinds() {
+            if !self.noted(LINKS, &kind) {
+                missing.push(format!("random LINK: {kind}"));
             }
         }
         missing.extend(self.places.missing(&PROCEDURE_NAMES, &UNREAD));

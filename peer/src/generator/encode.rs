@@ -112,6 +112,11 @@ pub enum Request {
         to: Vec<u8>,
         to_name: Vec<u8>,
     },
+    Link {
+        file: Vec<u8>,
+        directory: Vec<u8>,
+        name: Vec<u8>,
+    },
     Readdir {
         directory: Vec<u8>,
         cookie: u64,
@@ -220,6 +225,7 @@ impl Request {
             Request::Remove { .. } => procedure::REMOVE,
             Request::Rmdir { .. } => procedure::RMDIR,
             Request::Rename { .. } => procedure::RENAME,
+            Request::Link { .. } => procedure::LINK,
             Request::Readdir { .. } => procedure::READDIR,
             Request::Fsstat { .. } => procedure::FSSTAT,
             Request::Fsinfo { .. } => procedure::FSINFO,
@@ -328,6 +334,15 @@ impl Request {
                 fields.push(Field::Text(from_name.clone()));
                 fields.push(Field::Handle(to.clone()));
                 fields.push(Field::Text(to_name.clone()));
+            }
+            Request::Link {
+                file,
+                directory,
+                name,
+            } => {
+                fields.push(Field::Handle(file.clone()));
+                fields.push(Field::Handle(directory.clone()));
+                fields.push(Field::Text(name.clone()));
             }
             Request::Readdir {
                 directory,

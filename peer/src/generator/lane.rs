@@ -286,6 +286,14 @@ pub fn rename(from: &[u8], from_name: &[u8], to: &[u8], to_name: &[u8]) -> Reque
     }
 }
 
+pub fn link(file: &[u8], directory: &[u8], name: &[u8]) -> Request {
+    Request::Link {
+        file: file.to_vec(),
+        directory: directory.to_vec(),
+        name: name.to_vec(),
+    }
+}
+
 pub fn readdir(directory: &[u8], cookie: u64, verifier: u64, count: u32) -> Request {
     Request::Readdir {
         directory: directory.to_vec(),

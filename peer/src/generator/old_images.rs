@@ -22,6 +22,23 @@ pub fn old_image(shape: Shape, store: &[u8]) -> Vec<u8> {
     image
 }
 
+/// Frees the name records of an old image that name an object once more, but
+/// for so many of them.
+pub fn free_further_names(counts: Counts, image: &mut [u8], kept: usize) {
+    let start = counts.name_count_at() + 4;
+    let mut named = [false; 64];
+    let mut further = 0;
+    for record in image[start..counts.block_count_at()].chunks_mut(NAME_RECORD) {
+        let child = usize::from(record[7]);
+        if record[11] != 0 && std::mem::replace(&mut named[child], true) {
+            further += 1;
+            if further > kept {
+                record.fill(0);
+            }
+        }
+    }
+}
+
 /// Where a byte of a store of this shape stands in its old image, if it has a
 /// place there.
 pub fn old_place(shape: Shape, at: usize) -> Option<usize> {
@@ -104,11 +121,7 @@ pub const KINDS: [Kind; 26] = [
         let (count, start) = (image.counts.names, image.counts.name_count_at() + 4);
         image.record_over_another(start, NAME_RECORD, count);
     }),
-    ("name record emptied", |image| {
-        if let Some(at) = image.any_name() {
-            image.put(at, &[0; NAME_RECORD]);
-        }
-    }),
+    ("name record emptied", |image| image.empty_name()),
     ("bytes of a block", |image| image.block_bytes()),
 ];
 
@@ -242,6 +255,12 @@ impl Damaged<'_> {
         (self.counts.names > 0).then(|| start + NAME_RECORD * self.random.below(self.counts.names))
     }
 
+    fn empty_name(&mut self) {
+        if let Some(at) = self.any_name() {
+            self.put(at, &[0; NAME_RECORD]);
+        }
+    }
+
     fn name_word(&mut self, field: usize, values: &[u32]) {
         if let Some(at) = self.any_name() {
             self.set_word(at + field, values);
@@ -297,6 +316,9 @@ impl Damaged<'_> {
     }
 }
 
+/// How many images of each extent are kept whose files have several names.
+const LINKED_IMAGES: usize = 30;
+
 /// The length of the largest old image.
 pub const LARGEST_OLD: usize = 535_060;
 
@@ -346,9 +368,11 @@ impl Driver for Quiet {
     }
 }
 
-/// Whole old images with their counts, by how often they are taken.
+/// Whole old images with their counts, by how often they are taken, and images
+/// whose files have several names.
 pub struct Pool {
     groups: [Vec<(Counts, Vec<u8>)>; 4],
+    linked: Vec<(Counts, Vec<u8>)>,
 }
 
 /// How an image was made.
@@ -362,6 +386,9 @@ pub struct Made {
 /// What whole images are called, and those with more than one kind of damage.
 pub const WHOLE: &str = "whole";
 pub const SEVERAL: &str = "several kinds";
+/// What images are called whose files have several names, whole and damaged.
+pub const LINKED: &str = "files with several names";
+pub const LINKED_DAMAGED: &str = "files with several names, damaged";
 
 impl Pool {
     /// The whole images of a seed: small, middle, wide and largest ones that
@@ -369,12 +396,24 @@ impl Pool {
     pub fn new(seed: u64) -> Pool {
         let mut quiet = Quiet::default();
         let mut number = 0;
+        let mut linked = Vec::new();
         let mut left = |extent: Extent, count: usize, steps: usize| {
             let mut images = Vec::new();
+            let most_linked = linked.len() + LINKED_IMAGES;
             while images.len() < count {
                 number += 1;
                 random_runs::run(&mut quiet, number, seed, extent, steps, 1500);
-                images.extend(image_of(quiet.store()));
+                let Some((counts, mut image)) = image_of(quiet.store()) else {
+                    continue;
+                };
+                let whole = image.clone();
+                free_further_names(counts, &mut image, 0);
+                if image != whole && linked.len() < most_linked {
+                    let mut one_more = whole.clone();
+                    free_further_names(counts, &mut one_more, 1);
+                    linked.extend([(counts, whole), (counts, one_more)]);
+                }
+                images.push((counts, image));
             }
             images
         };
@@ -390,6 +429,7 @@ impl Pool {
         }
         Pool {
             groups: [small, middle, wide, largest],
+            linked,
         }
     }
 
@@ -401,8 +441,13 @@ impl Pool {
             1850..1995 => 2,
             _ => 3,
         };
-        let at = random.below(self.groups[group].len());
-        let (counts, whole) = &self.groups[group][at];
+        let linked = random.once_in(12);
+        let images = if linked {
+            &self.linked
+        } else {
+            &self.groups[group]
+        };
+        let (counts, whole) = &images[random.below(images.len())];
         image.clear();
         image.extend_from_slice(whole);
         let mut damaged = Damaged {
@@ -411,6 +456,16 @@ impl Pool {
             random,
         };
         let kind = match damaged.random.below(8) {
+            0..=3 if linked => LINKED,
+            // Without one of its names the image may be sound.
+            4..=5 if linked => {
+                damaged.empty_name();
+                LINKED_DAMAGED
+            }
+            _ if linked => {
+                damaged.once();
+                LINKED_DAMAGED
+            }
             0 => WHOLE,
             1 => {
                 damaged.once();
@@ -430,10 +485,19 @@ impl Pool {
     }
 }
 
-/// The counts and the old image of a sound store.
+/// The counts and the old image of a sound store. It fails its check where a
+/// file has several names.
 fn image_of(store: &[u8]) -> Option<(Counts, Vec<u8>)> {
-    let image = old_image(Shape::read(store)?, store);
-    old_check::check(&image).map(|counts| (counts, image))
+    if crate::check(store).number != 0 {
+        return None;
+    }
+    let shape = Shape::read(store)?;
+    let counts = Counts {
+        objects: shape.objects,
+        names: shape.names,
+        blocks: shape.blocks,
+    };
+    Some((counts, old_image(shape, store)))
 }
 
 /// The old image of an empty store with these counts, which are in range.

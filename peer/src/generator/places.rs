@@ -54,7 +54,7 @@ const NFS: [Option<&[&[Kind]]>; 22] = [
     Some(&[&[HANDLE, TEXT]]),
     Some(&[&[HANDLE, TEXT]]),
     Some(&[&[HANDLE, TEXT, HANDLE, TEXT]]),
-    None,
+    Some(&[&[HANDLE, HANDLE, TEXT]]),
     Some(&[&[HANDLE, LONG, LONG, NUMBER]]),
     None,
     Some(&[&[HANDLE]]),

@@ -5,16 +5,17 @@ use super::broken_calls::{any_authenticators, break_by_chance, Itemized};
 use super::coverage::status_name;
 use super::driver::{Call, Driver, Format};
 use super::encode::{handle, malformed, Attributes, Header, How, Request, Time};
-use super::lane::{exclusive, mkdir, rename, status_of, Lane};
-use super::old_images::{empty, old_image, Damaged};
+use super::lane::{exclusive, link, mkdir, readdir, rename, status_of, Lane};
+use super::old_images::{empty, free_further_names, old_image, Damaged};
 use super::padding::Padded;
 use super::random::Random;
 use super::view::{Named, View};
 use crate::layout::{
-    object_field, Shape, MAX_BLOCKS, MAX_NAMES, MAX_OBJECTS, OBJECTS_AT, OBJECT_BYTES,
+    name_field, object_field, word, Shape, MAX_BLOCKS, MAX_NAMES, MAX_OBJECTS, NAME_BYTES,
+    OBJECTS_AT, OBJECT_BYTES,
 };
 use crate::numbers::{procedure, Status};
-use crate::old_check;
+use crate::old_check::Counts;
 
 /// How large the store of a run is.
 #[derive(Clone, Copy, PartialEq, Eq, Debug)]
@@ -110,6 +111,9 @@ const VERIFIERS: [[u8; 8]; 4] = [[0; 8], *b"verifier", *b"verifies", [0xFF; 8]];
 /// The group of labels for what random RENAMEs do.
 pub const RENAMES: &str = "RENAME in random runs";
 
+/// The group of labels for what random calls do with names of files.
+pub const LINKS: &str = "Names of files in random runs";
+
 /// The largest store that takes part in conversions.
 const LARGEST_CONVERTED: usize = 50_000;
 
@@ -124,19 +128,23 @@ enum Existing {
 
 /// The kinds of RENAME onto a name that exists.
 const ITSELF: &str = "onto itself";
+const OTHER_NAME: &str = "onto another name of the same file";
 const BELOW: &str = "below itself";
-const FILES: &str = "file over file";
+const FILES: &str = "file over the last name of a file";
+const ONE_OF_SEVERAL: &str = "file over one of several names of a file";
 const FILE_ON_DIRECTORY: &str = "file over directory";
 const DIRECTORY_ON_FILE: &str = "directory over file";
 const ON_FULL: &str = "directory over a full one";
 const ON_EMPTY: &str = "directory over an empty one";
 
 /// Each of them with its status, as they are counted.
-pub fn meetings() -> [String; 7] {
+pub fn meetings() -> [String; 9] {
     [
         (ITSELF, Status::OK),
+        (OTHER_NAME, Status::OK),
         (BELOW, Status::INVAL),
         (FILES, Status::OK),
+        (ONE_OF_SEVERAL, Status::OK),
         (FILE_ON_DIRECTORY, Status::EXIST),
         (DIRECTORY_ON_FILE, Status::EXIST),
         (ON_FULL, Status::EXIST),
@@ -149,11 +157,121 @@ fn met(kind: &str, status: u32) -> String {
     format!("{kind}, {}", status_name(status))
 }
 
+/// What calls do with names of files, as it is counted.
+pub fn link_kinds() -> Vec<String> {
+    let mut kinds: Vec<String> = (2..=16).map(linked).collect();
+    let others = [
+        MANY,
+        NO_ROOM,
+        SHARED,
+        APART,
+        NOT_LAST,
+        LAST,
+        BY_ANY_NAME,
+        CUT,
+    ];
+    kinds.extend(others.map(str::to_owned));
+    kinds
+}
+
+const MANY: &str = "LINK of a file with 16 names, MLINK";
+const NO_ROOM: &str = "LINK without a free name, NOSPC";
+const SHARED: &str = "LINK into a directory that has a name of the file";
+const APART: &str = "LINK into a directory without a name of the file";
+const NOT_LAST: &str = "REMOVE of one of several names";
+const LAST: &str = "REMOVE of the last name";
+const CUT: &str = "READDIR cut at 4,096 bytes";
+const BY_ANY_NAME: &str = "EXCLUSIVE again for a file with several names";
+
+fn linked(names: usize) -> String {
+    format!("LINK, now {names:2} names")
+}
+
+/// What a call with this status does with the names of a file in the store
+/// before it.
+fn link_events(view: &View, request: &Request, status: Status) -> Vec<String> {
+    let names = |file: usize| view.names.iter().filter(move |named| named.child == file);
+    let label = match (request, status) {
+        (
+            Request::Link {
+                file, directory, ..
+            },
+            Status::OK,
+        ) => {
+            let [file, directory] = [file, directory].map(|handle| word(handle, 4) as usize);
+            let shared = names(file).any(|named| named.directory == directory);
+            let place = if shared { SHARED } else { APART };
+            return vec![linked(names(file).count() + 1), place.to_owned()];
+        }
+        (Request::Link { .. }, Status::MLINK) => MANY,
+        (Request::Link { .. }, Status::NOSPC) => NO_ROOM,
+        (Request::Remove { directory, name }, Status::OK) => match view.find(directory, name) {
+            Some(named) if names(named.child).count() > 1 => NOT_LAST,
+            _ => LAST,
+        },
+        (
+            Request::Create {
+                directory,
+                name,
+                how: How::Exclusive(_),
+            },
+            Status::OK,
+        ) => match view.find(directory, name) {
+            Some(named) if names(named.child).count() > 1 => BY_ANY_NAME,
+            _ => return vec![],
+        },
+        _ => return vec![],
+    };
+    vec![label.to_owned()]
+}
+
 /// What meets in a RENAME onto a name that exists.
 struct Meeting {
     kind: &'static str,
     /// The handle of the object that has the second name.
     target: Vec<u8>,
+}
+
+/// Whether a listing does not end though the request sets no limit below 4,096.
+fn cut_at_most(request: &Request, reply: &[u8]) -> bool {
+    matches!(request, Request::Readdir { count, .. } if *count >= 4096)
+        && status_of(reply) == Some(0)
+        && word(reply, reply.len() - 4) == 0
+}
+
+/// What meets if the request is a RENAME of a name that exists onto another
+/// one that exists.
+fn meeting(view: &View, request: &Request) -> Option<Meeting> {
+    let Request::Rename {
+        from,
+        from_name,
+        to,
+        to_name,
+    } = request
+    else {
+        return None;
+    };
+    let moved = view.find(from, from_name)?;
+    let target = view.find(to, to_name)?;
+    let directories = (
+        view.is_directory(moved.child),
+        view.is_directory(target.child),
+    );
+    let kind = match directories {
+        _ if moved.record == target.record => ITSELF,
+        _ if moved.child == target.child => OTHER_NAME,
+        (true, _) if view.is_within(target.directory, moved.child) => BELOW,
+        (false, false) if view.links(target.child) > 1 => ONE_OF_SEVERAL,
+        (false, false) => FILES,
+        (false, true) => FILE_ON_DIRECTORY,
+        (true, false) => DIRECTORY_ON_FILE,
+        (true, true) if view.is_occupied(target.child) => ON_FULL,
+        (true, true) => ON_EMPTY,
+    };
+    Some(Meeting {
+        kind,
+        target: view.handle(target.child)?.to_vec(),
+    })
 }
 
 /// Where a RENAME goes that is to meet a name.
@@ -163,8 +281,10 @@ enum Goal {
     Replaceable,
     /// Any object.
     Any,
-    /// The moved object itself.
+    /// The moved object itself, by any of its names.
     Itself,
+    /// The moved name itself.
+    ItsName,
     /// An object below the moved directory.
     Below,
 }
@@ -207,6 +327,9 @@ pub fn run(
         last: Vec::new(),
         transfer,
     };
+    if extent == Extent::Wide && random_run.random.once_in(3) {
+        random_run.fill_root();
+    }
     for _ in 0..steps {
         random_run.step();
     }
@@ -214,11 +337,12 @@ pub fn run(
 
 impl RandomRun<'_> {
     fn step(&mut self) {
-        match self.random.below(100) {
+        match self.random.below(103) {
             0..=67 => {
                 let request = self.request();
                 self.send(&request);
             }
+            100..=102 => self.many_links(),
             68..=75 => self.broken_call(),
             76..=77 => {
                 let request = self.request();
@@ -281,14 +405,23 @@ impl RandomRun<'_> {
 
     /// Sends a call and keeps the handle that its reply gives out.
     fn send(&mut self, request: &Request) {
-        let meeting = self.meeting(request);
+        let view = self.view();
+        let meeting = view.as_ref().and_then(|view| meeting(view, request));
         self.last = self.call(request).bytes;
         let outcome = self.lane.raw(&self.last);
         let status = status_of(&outcome.reply);
+        if let (Some(view), Some(status)) = (view, status) {
+            for label in link_events(&view, request, Status(status)) {
+                self.lane.driver.note(LINKS, &label);
+            }
+            if cut_at_most(request, &outcome.reply) {
+                self.lane.driver.note(LINKS, CUT);
+            }
+        }
         if let (Some(meeting), Some(status)) = (meeting, status) {
             let label = met(meeting.kind, status);
             self.lane.driver.note(RENAMES, &label);
-            if status == 0 && meeting.kind != ITSELF {
+            if status == 0 && ![ITSELF, OTHER_NAME].contains(&meeting.kind) {
                 self.keep(&meeting.target);
                 self.replaced = self.random.once_in(2).then_some(meeting.target);
             }
@@ -308,40 +441,6 @@ impl RandomRun<'_> {
         if !self.handles.iter().any(|known| known == given) {
             self.handles.push(given.to_vec());
         }
-    }
-
-    /// What meets if the request is a RENAME of a name that exists onto
-    /// another one that exists.
-    fn meeting(&self, request: &Request) -> Option<Meeting> {
-        let Request::Rename {
-            from,
-            from_name,
-            to,
-            to_name,
-        } = request
-        else {
-            return None;
-        };
-        let view = self.view()?;
-        let moved = view.find(from, from_name)?;
-        let target = view.find(to, to_name)?;
-        let directories = (
-            view.is_directory(moved.child),
-            view.is_directory(target.child),
-        );
-        let kind = match directories {
-            _ if moved.child == target.child => ITSELF,
-            (true, _) if view.is_within(target.directory, moved.child) => BELOW,
-            (false, false) => FILES,
-            (false, true) => FILE_ON_DIRECTORY,
-            (true, false) => DIRECTORY_ON_FILE,
-            (true, true) if view.is_occupied(target.child) => ON_FULL,
-            (true, true) => ON_EMPTY,
-        };
-        Some(Meeting {
-            kind,
-            target: view.handle(target.child)?.to_vec(),
-        })
     }
 
     /// A handle, mostly live and of the wanted kind.
@@ -516,7 +615,8 @@ impl RandomRun<'_> {
         let Some(view) = self.view() else {
             return Request::Null;
         };
-        match self.random.below(100) {
+        match self.random.below(113) {
+            100..=112 => self.link_request(&view),
             0..=13 => {
                 let directory = self.handle(&view, true);
                 let existing = self.existing_once_in(4);
@@ -659,7 +759,7 @@ impl RandomRun<'_> {
             }
             98 => Request::Null,
             _ => {
-                let procedure = self.random.pick(&[5, 10, 11, 15, 17, 22, u32::MAX]);
+                let procedure = self.random.pick(&[5, 10, 11, 17, 22, u32::MAX]);
                 let length = self.random.below(40);
                 let arguments = self.random.bytes(length);
                 Request::Other {
@@ -670,6 +770,101 @@ impl RandomRun<'_> {
         }
     }
 
+    /// A LINK, mostly one that succeeds.
+    fn link_request(&mut self, view: &View) -> Request {
+        let file = match self.random.below(12) {
+            0..=4 => self.most_linked(view),
+            _ => None,
+        };
+        let file = file.unwrap_or_else(|| self.handle(view, false));
+        let directory = match self.random.below(16) {
+            0 => file.clone(),
+            _ => self.handle(view, true),
+        };
+        let existing = self.existing_once_in(10);
+        let name = if existing == Existing::No && self.random.once_in(2) {
+            self.numbered_name()
+        } else {
+            self.name(view, &directory, existing)
+        };
+        link(&file, &directory, &name)
+    }
+
+    /// A sound name, one of many.
+    fn numbered_name(&mut self) -> Vec<u8> {
+        let number = self.random.below(300);
+        match self.random.below(4) {
+            0 => format!("link-{number:027}").into_bytes(),
+            1 => format!("{number:03}").into_bytes(),
+            _ => format!("tag {number}").into_bytes(),
+        }
+    }
+
+    /// The handle of a file that has as many names as any.
+    fn most_linked(&mut self, view: &View) -> Option<Vec<u8>> {
+        let files = view.live.iter().filter(|seen| !seen.directory);
+        let most = files.max_by_key(|seen| view.links(seen.object));
+        most.map(|seen| seen.handle.clone())
+    }
+
+    /// Files in the root with up to 16 long names each, until its listing is
+    /// longer than one reply.
+    fn fill_root(&mut self) {
+        let root = self.lane.root();
+        let names = self.random.between(75, MAX_NAMES);
+        let each = self.random.between(2, 17);
+        // The root is an object too.
+        let mut left = self.lane.shape.objects - 1;
+        let mut file = Vec::new();
+        for number in 0..names {
+            let name = format!("one of many names in the root{number:03}");
+            if number % each == 0 && left > 0 {
+                file = self.lane.exclusive(&root, name.as_bytes(), VERIFIERS[1]);
+                left -= 1;
+            } else if number % each == 0 {
+                // No object for one more file; like EXCLUSIVE, this draws no number.
+                self.lane.send(&link(&file, &root, name.as_bytes()));
+            } else {
+                self.send(&link(&file, &root, name.as_bytes()));
+            }
+        }
+        for cookie in [0, self.random.below(MAX_NAMES) as u64] {
+            self.send(&readdir(&root, cookie, 0, 4096));
+        }
+    }
+
+    /// A few to many LINKs of one file, up to 16 names and one more.
+    fn many_links(&mut self) {
+        let Some(view) = self.view() else {
+            return;
+        };
+        let files = view.live.iter().filter(|seen| !seen.directory);
+        let files: Vec<&Vec<u8>> = files.map(|seen| &seen.handle).collect();
+        let file = match self.most_linked(&view) {
+            None => return,
+            Some(most) if self.random.once_in(2) => most,
+            Some(_) => self.random.pick(&files).clone(),
+        };
+        let directories: Vec<Vec<u8>> = view
+            .live
+            .iter()
+            .filter(|seen| seen.directory)
+            .map(|seen| seen.handle.clone())
+            .collect();
+        let one = self.random.below(directories.len());
+        // Few in small stores, so that there is room for directories.
+        let count = self.random.between(2, 17).min(view.shape.names / 3);
+        for _ in 0..count {
+            let at = if self.random.once_in(2) {
+                one
+            } else {
+                self.random.below(directories.len())
+            };
+            let name = self.numbered_name();
+            self.send(&link(&file, &directories[at], &name));
+        }
+    }
+
     /// A RENAME, mostly onto a name that exists.
     fn rename_request(&mut self, view: &View) -> Request {
         let goal = match self.random.below(16) {
@@ -677,6 +872,7 @@ impl RandomRun<'_> {
             8..=9 => Some(Goal::Any),
             10 => Some(Goal::Itself),
             11 => Some(Goal::Below),
+            12 => Some(Goal::ItsName),
             _ => None,
         };
         if let Some(request) = goal.and_then(|goal| self.rename_onto(view, goal)) {
@@ -719,6 +915,7 @@ impl RandomRun<'_> {
     /// A RENAME of a name that exists onto one that exists, if there is such a
     /// pair.
     fn rename_onto(&mut self, view: &View, goal: Goal) -> Option<Request> {
+        let any_directory = self.random.once_in(2);
         let fits = |moved: &Named, target: &Named| match goal {
             Goal::Replaceable => {
                 moved.child != target.child
@@ -726,8 +923,12 @@ impl RandomRun<'_> {
                     && !view.is_occupied(target.child)
                     && !view.is_within(target.directory, moved.child)
             }
-            Goal::Any => moved.child != target.child,
+            Goal::Any => {
+                moved.child != target.child && view.is_directory(target.child) == any_directory
+            }
+            // A file with several names has many such pairs.
             Goal::Itself => moved.child == target.child,
+            Goal::ItsName => moved.record == target.record,
             Goal::Below => view.is_within(target.directory, moved.child),
         };
         let pairs_of = |directory: bool| -> Vec<(&Named, &Named)> {
@@ -810,7 +1011,12 @@ impl RandomRun<'_> {
                 return None;
             }
             let (file, verifier) = self.random.pick(&kept);
-            let named = view.names.iter().find(|named| named.child == file)?;
+            let names: Vec<&Named> = view
+                .names
+                .iter()
+                .filter(|named| named.child == file)
+                .collect();
+            let named = self.random.pick(&names);
             let directory = view.handle(named.directory)?;
             let verifier = if self.random.once_in(5) {
                 self.random.pick(&VERIFIERS)
@@ -837,10 +1043,17 @@ impl RandomRun<'_> {
         // Seldom an image that becomes a store of another length.
         let other = self.random.once_in(8).then(|| self.random.below(3) as u32);
         let other = other.and_then(|more| empty(1 + more, more, 1));
-        let image = other.or_else(|| Some((old_check::check(&own)?, own)));
-        let Some((counts, mut image)) = image else {
-            return;
+        let shape = self.lane.shape;
+        let own_counts = Counts {
+            objects: shape.objects,
+            names: shape.names,
+            blocks: shape.blocks,
         };
+        let (counts, mut image) = other.unwrap_or((own_counts, own));
+        // Where files have several names the image is not sound; most lose all
+        // names but one of each file, or all but one that is left over.
+        let kept = self.random.pick(&[0, 0, 0, 1, MAX_NAMES]);
+        free_further_names(counts, &mut image, kept);
         if self.random.once_in(2) {
             for _ in 0..self.random.between(1, 2) {
                 Damaged {
@@ -1006,11 +1219,12 @@ impl RandomRun<'_> {
         let shape = self.lane.shape;
         let random = &mut self.random;
         let store = self.lane.driver.store();
-        match random.below(7) {
+        match random.below(10) {
             0 | 1 => {
                 let at = random.below(records);
                 (at, vec![store[at] ^ (1 << random.below(8))])
             }
+            7..=9 => self.damaged_name(),
             2 => {
                 let at = random.below(records);
                 (at, vec![random.pick(&[0, 1, 2, 0x2E, 0x2F, 0xFF])])
@@ -1062,6 +1276,48 @@ impl RandomRun<'_> {
                 let to = start + 44 * random.below(shape.names);
                 (to, store[from..from + 44].to_vec())
             }
+        }
+    }
+
+    /// A name more or less, or one that names another object: of the root, of a
+    /// directory, of a free object, or of a file, mostly one with many names.
+    fn damaged_name(&mut self) -> (usize, Vec<u8>) {
+        let shape = self.lane.shape;
+        if shape.names == 0 {
+            return (0, vec![0, 0, 0, 2]);
+        }
+        let store = self.lane.driver.store();
+        let start = |record: usize| shape.name_count_at() + 4 + NAME_BYTES * record;
+        let length = |record: usize| word(store, start(record) + name_field::LENGTH);
+        let (used, free): (Vec<usize>, Vec<usize>) =
+            (0..shape.names).partition(|&record| length(record) != 0);
+        let children = used.iter().map(|&record| store[start(record) + 7]);
+        let mut counts = [0; 256];
+        for child in children {
+            counts[usize::from(child)] += 1;
+        }
+        let most = (0..256).max_by_key(|&child| counts[child]).unwrap_or(0) as u32;
+        let any = self.random.below(shape.objects) as u32;
+        let child = self.random.pick(&[most, most, any, any, 0]);
+        let number = self.random.below(1000);
+        let name = format!("more {number}");
+        let directory = self.random.pick(&[0, 0, any]);
+        let mut bytes = [directory, child, name.len() as u32]
+            .map(u32::to_be_bytes)
+            .concat();
+        bytes.extend(name.as_bytes());
+        bytes.resize(NAME_BYTES, 0);
+        match self.random.below(4) {
+            // One more.
+            0 | 1 if !free.is_empty() => (start(self.random.pick(&free)), bytes),
+            // One less.
+            2 if !used.is_empty() => (start(self.random.pick(&used)), vec![0; NAME_BYTES]),
+            // Another object.
+            _ if !used.is_empty() => {
+                let at = start(self.random.pick(&used)) + name_field::CHILD;
+                (at, child.to_be_bytes().to_vec())
+            }
+            _ => (start(self.random.below(shape.names)), bytes),
         }
     }
 

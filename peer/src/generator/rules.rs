@@ -16,6 +16,9 @@ pub const MOUNT_GROUP: &str = "Rules of request E5";
 /// The group of labels for the rules of request E6.
 pub const PLACE_GROUP: &str = "Rules of request E6";
 
+/// The group of labels for the rules of request E7.
+pub const LINK_GROUP: &str = "Rules of request E7";
+
 /// Gives each label its name, and lists them all.
 macro_rules! labels {
     ($list:ident: $($name:ident = $label:literal;)*) => {
@@ -209,7 +212,7 @@ pub fn searches() -> &'static [&'static str] {
 }
 
 /// The procedures that take a handle, but for those that are not served.
-const WITH_HANDLE: [u32; 16] = [
+const WITH_HANDLE: [u32; 17] = [
     procedure::GETATTR,
     procedure::SETATTR,
     procedure::LOOKUP,
@@ -221,6 +224,7 @@ const WITH_HANDLE: [u32; 16] = [
     procedure::REMOVE,
     procedure::RMDIR,
     procedure::RENAME,
+    procedure::LINK,
     procedure::READDIR,
     procedure::FSSTAT,
     procedure::FSINFO,
@@ -253,7 +257,6 @@ fn padded_fields(number: u32) -> &'static [&'static str] {
         | procedure::READLINK
         | procedure::SYMLINK
         | procedure::MKNOD
-        | procedure::LINK
         | procedure::READDIRPLUS => &[],
         procedure::LOOKUP
         | procedure::CREATE
@@ -262,6 +265,7 @@ fn padded_fields(number: u32) -> &'static [&'static str] {
         | procedure::RMDIR => &["handle", "name"],
         procedure::WRITE => &["handle", "data"],
         procedure::RENAME => &["first handle", "first name", "second handle", "second name"],
+        procedure::LINK => &["file's handle", "directory's handle", "name"],
         _ => &["handle"],
     }
 }
@@ -284,7 +288,8 @@ pub fn padding(number: u32, place: usize, count: usize, end: End) -> String {
     format!("padding of {count}: {field}, {end}")
 }
 
-/// Every label but those of request E4. A handle that has padding is never a good one.
+/// Every label of the requests E1, E2 and E3. A handle that has padding is never
+/// a good one.
 pub fn all() -> Vec<String> {
     let mut labels: Vec<String> = LABELS.iter().map(|&label| label.to_owned()).collect();
     for count in 1..=3 {
@@ -308,6 +313,189 @@ pub fn all() -> Vec<String> {
         }
     }
     labels
+}
+
+/// The rules of request E7, which the vector file must show.
+pub mod link {
+    labels! { LABELS:
+        // A further name.
+        SAME_DIRECTORY = "link: a further name in a directory that has one";
+        OTHER_DIRECTORY = "link: a further name in another directory";
+        SAME_TEXT = "link: the same name in another directory";
+        ANY_TEXT = "link: names of 1 to 32 bytes of any value";
+        LOWEST_RECORD = "link: the lowest free name record is taken";
+        UP_TO_16 = "link: one name after the other up to 16";
+        SEVENTEENTH = "link: the 17th name, MLINK";
+        AFTER_MLINK = "link: after MLINK and a REMOVE a name is free again";
+        COUNTED = "link: nlink is the number of names, in every reply";
+        CLOCKS = "link: times from the clock of the call, earlier ones too";
+        ANY_NAME = "link: LOOKUP of each name gives the same handle and attributes";
+        ANY_HANDLE = "link: READ, WRITE and SETATTR act on the file, whichever name is looked up";
+        UNCHECKED = "link: UNCHECKED CREATE of any name with a size cuts the file";
+        GUARDED = "link: GUARDED CREATE, MKDIR and LINK of a further name, EXIST";
+        // Removal.
+        ONE_REMOVED = "remove: one of several names, the file stays with its bytes";
+        LAST_REMOVED = "remove: the last name frees the file and its blocks";
+        EVERY_ORDER = "remove: three names in every order";
+        FREED_RECORD = "remove: the freed name record is taken by the next LINK";
+        STALE = "remove: after the last name the handle is STALE, also as LINK's file";
+        RMDIR = "remove: RMDIR of a name of a file, NOTDIR; a directory with a link, NOTEMPTY";
+        // RENAME.
+        ONE_MOVED = "rename: one of several names moves, the others stay";
+        OVER_ONE = "rename: over one of several names, that file stays, its ctime is set";
+        OVER_LAST = "rename: over the last name of a file that had several";
+        BY_LINKED = "rename: one of several names over a file with one name";
+        LINKED_BOTH = "rename: one of several names over one of several of another file";
+        TWO_NAMES = "rename: between two names of one file, one directory, nothing changes";
+        TWO_DIRECTORIES = "rename: between two names of one file, two directories, nothing changes";
+        ONTO_ITSELF = "rename: one of several names onto itself, nothing changes";
+        ON_DIRECTORY = "rename: one of several names over a directory, EXIST, and the other way";
+        // Kept verifiers.
+        KEPT_BY_EACH = "verifier: EXCLUSIVE again by each name, OK, nothing changes";
+        KEPT_OTHER = "verifier: another one by each name, EXIST";
+        KEPT_LINK = "verifier: LINK keeps it";
+        KEPT_REMOVE = "verifier: REMOVE of one of several names keeps it";
+        KEPT_OVER = "verifier: RENAME over one of several names keeps it";
+        FORGOTTEN = "verifier: SETATTR forgets it for every name";
+        NONE_KEPT = "verifier: a linked file without one, EXIST by each name";
+        // Room.
+        NO_NAME = "room: LINK without a free name, objects free, NOSPC";
+        NO_OBJECT = "room: LINK without a free object, OK";
+        MAKE_NO_NAME = "room: CREATE and MKDIR without a free name, objects free, NOSPC";
+        MAKE_NO_OBJECT = "room: CREATE and MKDIR without a free object, names free, NOSPC";
+        FULL = "room: 64 objects with 128 used names";
+        FSSTAT = "room: LINK and REMOVE of one of several names leave FSSTAT's numbers";
+        BLOCKS_ONCE = "room: the blocks of a linked file count once";
+        // Listings.
+        CUT = "readdir: 128 names of 32 bytes, cut at 4,096";
+        RESUMED = "readdir: resumed by its cookies until eof, each name once";
+        BETWEEN = "readdir: LINK, REMOVE and RENAME between two parts";
+        LISTED_TWICE = "readdir: two names of one file have the same file number";
+        // The check.
+        CHECK_16 = "check: a file with 16 names";
+        CHECK_17 = "check: a file with 17 names fails";
+        CHECK_NONE = "check: a file without a name fails, beside linked ones";
+        CHECK_DIRECTORY = "check: a directory with two names fails";
+        CHECK_ROOT = "check: a name of the root fails";
+        CHECK_FREE = "check: a name of a free object fails";
+        CHECK_EQUAL = "check: two equal names of one file in one directory fail";
+        CHECK_APART = "check: equal names of one file in two directories";
+        CHECK_PARENTS = "check: a ring of directories with linked files in it fails";
+        DOT_DOT = "check: .. of a directory is its parent, with linked files around it";
+        // Old images.
+        CONVERT_TWO = "convert: a file with two names, 1";
+        CONVERT_16 = "convert: a file with 16 names, 1";
+        CONVERT_LINKED = "convert: a converted file can be linked";
+        CONVERT_FIRST = "convert: no object free, the first file with two names, 1";
+        CONVERT_MIDDLE = "convert: no object free, a middle file with two names, 1";
+        CONVERT_LAST = "convert: no object free, the last object with two names, 1";
+        CONVERT_EITHER = "convert: no object free, either of the two names alone, 0";
+        // Numbers.
+        LINKMAX = "PATHCONF: linkmax 16";
+        PROPERTIES = "FSINFO: properties 0x19";
+    }
+
+    /// What can be wrong with a LINK, in the order of its tests.
+    #[derive(Clone, Copy, PartialEq, Eq, PartialOrd, Ord, Debug)]
+    pub enum Fault {
+        BadFile,
+        StaleFile,
+        Directory,
+        BadDirectory,
+        StaleDirectory,
+        NotDirectory,
+        Empty,
+        TooLong,
+        BadByte,
+        Dots,
+        Exists,
+        Many,
+        NoName,
+    }
+
+    impl Fault {
+        const ALL: [(Fault, &'static str); 13] = [
+            (Fault::BadFile, "file's BADHANDLE"),
+            (Fault::StaleFile, "file's STALE"),
+            (Fault::Directory, "INVAL"),
+            (Fault::BadDirectory, "directory's BADHANDLE"),
+            (Fault::StaleDirectory, "directory's STALE"),
+            (Fault::NotDirectory, "NOTDIR"),
+            (Fault::Empty, "ACCES of an empty name"),
+            (Fault::TooLong, "NAMETOOLONG"),
+            (Fault::BadByte, "ACCES of a byte"),
+            (Fault::Dots, "EXIST of dots"),
+            (Fault::Exists, "EXIST"),
+            (Fault::Many, "MLINK"),
+            (Fault::NoName, "NOSPC"),
+        ];
+
+        fn name(self) -> &'static str {
+            Fault::ALL[self as usize].1
+        }
+
+        /// Which argument the fault is in: the file, the directory, the name;
+        /// the room is in none.
+        fn part(self) -> u32 {
+            match self {
+                Fault::BadFile | Fault::StaleFile | Fault::Directory | Fault::Many => 0,
+                Fault::BadDirectory | Fault::StaleDirectory | Fault::NotDirectory => 1,
+                Fault::Empty | Fault::TooLong | Fault::BadByte | Fault::Dots | Fault::Exists => 2,
+                Fault::NoName => 3,
+            }
+        }
+
+        /// Whether a call can have both faults.
+        fn goes_with(self, later: Fault) -> bool {
+            let in_directory = later == Fault::Exists && self.part() == 1;
+            self.part() != later.part() && !in_directory
+                || self == Fault::TooLong && later == Fault::BadByte
+        }
+    }
+
+    /// The label for a fault alone.
+    pub fn alone(fault: Fault) -> String {
+        format!("link: {}", fault.name())
+    }
+
+    /// The label for a fault that decides before another one.
+    pub fn before(first: Fault, later: Fault) -> Option<String> {
+        (first < later && first.goes_with(later))
+            .then(|| format!("link: {} before {}", first.name(), later.name()))
+    }
+
+    /// The label for a failure body, by the handles that are live.
+    pub fn body(file: bool, directory: bool) -> String {
+        let present = |live: bool| if live { "there" } else { "absent" };
+        format!(
+            "link: failure body, file's attributes {}, directory's {}",
+            present(file),
+            present(directory)
+        )
+    }
+
+    /// The label for a failure body whose handles are of these objects.
+    pub const BODY_SAME_FILE: &str = "link: failure body, one file's handle twice";
+    pub const BODY_SAME_DIRECTORY: &str = "link: failure body, one directory's handle twice";
+    pub const BODY_EXCHANGED: &str = "link: failure body, a directory's and a file's handle";
+
+    /// Every label.
+    pub fn all() -> Vec<String> {
+        let mut labels: Vec<String> = LABELS.iter().map(|&label| label.to_owned()).collect();
+        for (first, _) in Fault::ALL {
+            labels.push(alone(first));
+            labels.extend(
+                Fault::ALL
+                    .iter()
+                    .filter_map(|(later, _)| before(first, *later)),
+            );
+        }
+        for file in [false, true] {
+            labels.extend([false, true].map(|directory| body(file, directory)));
+        }
+        labels.extend([BODY_SAME_FILE, BODY_SAME_DIRECTORY, BODY_EXCHANGED].map(str::to_owned));
+        labels
+    }
 }
 
 /// The rules of request E5, which the file of mounts must show.
@@ -371,6 +559,12 @@ pub mod mount {
         FILE_DOT_DOT = "MNT: \"/file/..\", NOTDIR";
         FILE_NAME = "MNT: \"/file/x\", NOTDIR";
         FILE_LONG = "MNT: a file before a name of 33 bytes or with a zero byte, NOTDIR";
+        // Files with several names.
+        LINKED_END = "MNT: a path that ends in a file with several names, by each of them, NOTDIR";
+        LINKED_INSIDE = "MNT: a file with several names before the end, NOTDIR";
+        LINKED_THROUGH = "MNT: through directories that hold names of one file";
+        LINKED_REMOVED = "MNT: after REMOVE of one of several names, NOENT by it, NOTDIR by the others";
+        LINKED_REPLACED = "MNT: after RENAME of a directory to a name that a file had";
         // The first failing component decides.
         MISSING_FIRST = "MNT: NOENT before a later NAMETOOLONG, ACCES or NOENT";
         LONG_FIRST = "MNT: NAMETOOLONG before a later ACCES or NOENT";
@@ -632,7 +826,7 @@ pub mod place {
     );
 
     /// The forms of the served NFS procedures.
-    pub const NFS_FORMS: [Form; 19] = [
+    pub const NFS_FORMS: [Form; 20] = [
         form("NULL", procedure::NULL, &[]),
         form("GETATTR", procedure::GETATTR, OBJECT),
         form(
@@ -692,6 +886,15 @@ pub mod place {
                 ("first name", Sort::Text),
                 ("second handle", Sort::Handle),
                 ("second name", Sort::Text),
+            ],
+        ),
+        form(
+            "LINK",
+            procedure::LINK,
+            &[
+                ("file's handle", Sort::Handle),
+                ("directory's handle", Sort::Handle),
+                ("name", Sort::Text),
             ],
         ),
         form(
@@ -859,12 +1062,11 @@ pub mod place {
         format!("0: {name} NOTSUPP, whatever follows")
     }
 
-    /// The five procedures that are not served.
-    pub const UNSERVED: [u32; 5] = [
+    /// The four procedures that are not served.
+    pub const UNSERVED: [u32; 4] = [
         procedure::READLINK,
         procedure::SYMLINK,
         procedure::MKNOD,
-        procedure::LINK,
         procedure::READDIRPLUS,
     ];
 

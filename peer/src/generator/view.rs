@@ -101,6 +101,12 @@ impl View {
             .find(|named| named.name == name && self.handle(named.directory) == Some(directory))
     }
 
+    /// How many names an object has.
+    pub fn links(&self, object: usize) -> usize {
+        let names = self.names.iter();
+        names.filter(|named| named.child == object).count()
+    }
+
     /// Whether the object holds a name.
     pub fn is_occupied(&self, object: usize) -> bool {
         self.names.iter().any(|named| named.directory == object)

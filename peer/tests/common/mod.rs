@@ -3,7 +3,7 @@
 #![allow(dead_code)]
 
 pub mod plain;
-pub mod plain_rename;
+pub mod plain_names;
 
 use peer::generator::encode::{handle, Attributes, How, Request};
 use peer::layout::Shape;
@@ -428,6 +428,14 @@ pub fn rename(from: &[u8], from_name: &[u8], to: &[u8], to_name: &[u8]) -> Reque
     }
 }
 
+pub fn link(file: &[u8], directory: &[u8], name: &[u8]) -> Request {
+    Request::Link {
+        file: file.to_vec(),
+        directory: directory.to_vec(),
+        name: name.to_vec(),
+    }
+}
+
 pub fn readdir(directory: &[u8], cookie: u64, count: u32) -> Request {
     Request::Readdir {
         directory: directory.to_vec(),
@@ -437,7 +445,7 @@ pub fn readdir(directory: &[u8], cookie: u64, count: u32) -> Request {
     }
 }
 
-/// Every status number used by document 01.
+/// Every status number used by documents 01 and 02.
 pub mod status {
     pub const OK: u32 = 0;
     pub const NOENT: u32 = 2;
@@ -447,6 +455,7 @@ pub mod status {
     pub const INVAL: u32 = 22;
     pub const FBIG: u32 = 27;
     pub const NOSPC: u32 = 28;
+    pub const MLINK: u32 = 31;
     pub const NAMETOOLONG: u32 = 63;
     pub const NOTEMPTY: u32 = 66;
     pub const STALE: u32 = 70;

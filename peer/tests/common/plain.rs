@@ -2,18 +2,18 @@
 
 /// The check of a store, without regard to speed.
 pub fn plain_check(store: &[u8]) -> bool {
-    sound_image(store, 92)
+    sound_image(store, 92, 16)
 }
 
 /// The check of an image in the layout of document 01.
 pub fn plain_old_check(image: &[u8]) -> bool {
-    sound_image(image, 80)
+    sound_image(image, 80, 1)
 }
 
 /// What documents 01 and 02 demand of an image whose object records have this
 /// length. A verifier and a flag follow the 80 bytes of a record where it is
-/// longer.
-fn sound_image(store: &[u8], record_bytes: usize) -> bool {
+/// longer. A file has at most so many names.
+fn sound_image(store: &[u8], record_bytes: usize, most_names: usize) -> bool {
     let get = |at: usize| -> Option<u32> {
         store
             .get(at..at + 4)
@@ -155,11 +155,15 @@ fn sound_image(store: &[u8], record_bytes: usize) -> bool {
         parent[child as usize] = directory as usize;
     }
     for (index, &times) in times_named.iter().enumerate() {
-        let wanted = usize::from(index > 0 && kind(index as u32) != 0);
-        if times != wanted {
+        let wanted = match kind(index as u32) {
+            1 => 1..=most_names,
+            2 if index > 0 => 1..=1,
+            _ => 0..=0,
+        };
+        if !wanted.contains(&times) {
             return false;
         }
-        if wanted == 1 {
+        if times > 0 {
             let mut at = index;
             for _ in 0..objects {
                 at = parent[at];

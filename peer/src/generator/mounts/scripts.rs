@@ -24,6 +24,7 @@ pub fn all(runs: &mut Runs<'_>) {
     paddings(runs);
     components(runs);
     files(runs);
+    linked_files(runs);
     deep(runs);
     pairs(runs);
     full(runs);
@@ -518,6 +519,77 @@ fn files(runs: &mut Runs<'_>) {
         gate.rule(label);
     }
     assert_eq!(gate.used(), 0);
+}
+
+/// Files with several names on the path, at its end and beside it.
+fn linked_files(runs: &mut Runs<'_>) {
+    let mut gate = Gateway::new(runs.open("linked files on the path", (6, 24, 0)));
+    let root = gate.lane.root();
+    let outer = gate.lane.mkdir(&root, b"outer");
+    let file = gate.lane.create(&root, b"file", 0);
+    let inner = gate.lane.mkdir(&outer, b"inner");
+    // Names before and after those of the directories, up to 16.
+    for (directory, name) in [(&root, &b"link"[..]), (&outer, b"file"), (&inner, b"file")] {
+        gate.lane.done(&link(&file, directory, name));
+    }
+    let empty = gate.lane.mkdir(&inner, b"empty");
+    for number in 0..12 {
+        let directory = [&root, &outer, &inner][number % 3];
+        let name = format!("link {number}");
+        gate.lane.done(&link(&file, directory, name.as_bytes()));
+    }
+    let more = link(&file, &root, b"more");
+    assert_eq!(gate.lane.status(&more), Some(Status::MLINK.0));
+    let names = [
+        &b"/file"[..],
+        b"/link",
+        b"/outer/file",
+        b"/outer/inner/file",
+        b"/link 0",
+        b"/outer/link 1",
+        b"/outer/inner/link 11",
+    ];
+    for name in names {
+        gate.mnt(name, Status::NOTDIR);
+        gate.rule(rule::LINKED_END);
+        for end in [&b"/"[..], b"/.", b"/..", b"/x", b"/file"] {
+            gate.mnt(&[name, end].concat(), Status::NOTDIR);
+        }
+        gate.rule(rule::LINKED_INSIDE);
+    }
+    assert_eq!(gate.used(), 0);
+    for (path, directory) in [
+        (&b"/"[..], &root),
+        (b"/outer", &outer),
+        (b"/outer/inner", &inner),
+        (b"/outer/inner/empty", &empty),
+        (b"/outer/inner/empty/..", &inner),
+        (b"/outer/inner/..", &outer),
+        (b"/outer/inner/../..", &root),
+        (b"/outer/inner/../../outer/./inner", &inner),
+    ] {
+        gate.mnt_to(path, directory);
+    }
+    gate.rule(rule::LINKED_THROUGH);
+    for (directory, name, path) in [
+        (&root, &b"file"[..], names[0]),
+        (&inner, b"file", names[3]),
+        (&root, b"link", names[1]),
+    ] {
+        gate.lane.done(&remove(directory, name));
+        gate.mnt(path, Status::NOENT);
+        gate.mnt(&[path, b"/x"].concat(), Status::NOENT);
+        gate.mnt(names[2], Status::NOTDIR);
+        gate.mnt(names[6], Status::NOTDIR);
+    }
+    gate.rule(rule::LINKED_REMOVED);
+    gate.lane.done(&rename(&outer, b"inner", &root, b"link"));
+    gate.mnt_to(b"/link", &inner);
+    gate.mnt_to(b"/link/..", &root);
+    gate.mnt(b"/link/link 2", Status::NOTDIR);
+    gate.mnt(b"/outer/inner", Status::NOENT);
+    gate.rule(rule::LINKED_REPLACED);
+    gate.plain(mount_procedure::DUMP);
 }
 
 /// All objects in one path.

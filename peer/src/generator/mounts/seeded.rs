@@ -220,10 +220,18 @@ impl MountRun<'_> {
     }
 
     /// The components of a live object's path.
-    fn components(&self, object: usize) -> Vec<Vec<u8>> {
+    fn components(&mut self, object: usize) -> Vec<Vec<u8>> {
         let mut components = Vec::new();
         let mut below = object;
-        while let Some(named) = self.view.names.iter().find(|named| named.child == below) {
+        loop {
+            let names = self.view.names.iter();
+            let named: Vec<_> = names.filter(|named| named.child == below).collect();
+            // Only a file may have several names.
+            let named = match &named[..] {
+                [] => break,
+                [only] => only,
+                several => self.random.pick(several),
+            };
             components.push(named.name.clone());
             below = named.directory;
         }
@@ -243,7 +251,8 @@ impl MountRun<'_> {
         if !object.directory && !self.random.once_in(4) {
             object = &self.view.live[0];
         }
-        let mut components = self.components(object.object);
+        let object = object.object;
+        let mut components = self.components(object);
         let random = &mut self.random;
         if random.once_in(5) {
             let at = random.below(components.len() + 1);
@@ -316,10 +325,18 @@ impl MountRun<'_> {
         Some((directory, name, self.view.is_directory(named.child)))
     }
 
-    /// A request that makes a directory, or seldom a file.
+    /// A request that makes a directory, or seldom a file or another name of
+    /// one.
     fn making(&mut self) -> Request {
         let directory = self.directory();
         let name = self.random.pick(&NAMES);
+        if self.random.once_in(10) {
+            let files = self.view.live.iter().filter(|seen| !seen.directory);
+            let files: Vec<&[u8]> = files.map(|seen| &seen.handle[..]).collect();
+            if !files.is_empty() {
+                return link(self.random.pick(&files), &directory, name);
+            }
+        }
         if self.random.once_in(5) {
             guarded(&directory, name, Attributes::default())
         } else {

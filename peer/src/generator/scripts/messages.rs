@@ -292,7 +292,7 @@ pub(super) fn headers(runs: &mut Runs<'_>) {
             24,
         );
     }
-    for number in [5, 10, 11, 15, 17] {
+    for number in [5, 10, 11, 17] {
         for arguments in [
             vec![],
             vec![0],

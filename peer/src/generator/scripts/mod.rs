@@ -1,13 +1,15 @@
 //! Runs written out by hand: the examples of document 01, every refusal and
 //! RPC outcome, every status of every procedure, full stores, spent
 //! generations, damaged stores, the rules of EXCLUSIVE CREATE, conversions, pad
-//! bytes that are not zero, RENAME over names that exist and calls that are
-//! broken at every place.
+//! bytes that are not zero, RENAME over names that exist, files with several
+//! names and calls that are broken at every place.
 
 mod conversions;
 mod damage;
 mod exclusive;
+mod image;
 mod limits;
+mod links;
 mod messages;
 mod padding;
 pub mod places;
@@ -110,6 +112,17 @@ pub fn all(runs: &mut Runs<'_>) {
     rename::old_handles(runs);
     rename::spent_generations(runs);
     rename::clocks(runs);
+    links::names(runs);
+    links::sixteen(runs);
+    links::removing(runs);
+    links::renaming(runs);
+    links::verifiers(runs);
+    links::order(runs);
+    links::room(runs);
+    links::clocks(runs);
+    links::full_store(runs);
+    links::damaged(runs);
+    links::conversions(runs);
     places::headers(runs);
     places::arguments(runs);
     places::bad_handles(runs);
@@ -144,6 +157,7 @@ fn full_requests(file: &[u8], root: &[u8]) -> Vec<Request> {
         remove(root, b"n"),
         rmdir(root, b"nn"),
         rename(root, b"nnn", root, b"to"),
+        link(file, root, b"link"),
         readdir(root, 0, 0, 4096),
         fsstat(file),
         fsinfo(file),

@@ -225,7 +225,7 @@ pub(super) fn names(runs: &mut Runs<'_>) {
     let pads = &mut Pads::new();
     let root = lane.root();
     let full = lane.mkdir(&root, b"full");
-    lane.create(&full, b"inside", 0);
+    let inside = lane.create(&full, b"inside", 0);
     for length in 1..=3 {
         let [first, second, third, directory, other] =
             [b'a', b'b', b'c', b'd', b'o'].map(|byte| vec![byte; length]);
@@ -258,6 +258,7 @@ pub(super) fn names(runs: &mut Runs<'_>) {
             (remove(&root, &other), Status::NOENT),
             (rmdir(&root, &first), Status::NOTDIR),
             (rename(&root, &other, &full, &first), Status::NOENT),
+            (link(&inside, &root, &first), Status::EXIST),
         ] {
             let call = padded(&mut lane, &request);
             for place in call.padded() {
@@ -265,6 +266,8 @@ pub(super) fn names(runs: &mut Runs<'_>) {
             }
         }
         for request in [
+            link(&inside, &full, &other),
+            remove(&full, &other),
             rename(&root, &first, &root, &other),
             rename(&root, &directory, &full, &first),
             rename(&full, &first, &root, &directory),
@@ -505,7 +508,6 @@ pub(super) fn unread(runs: &mut Runs<'_>) {
         (5, 100_003, 3, rules::PADS_UNREAD, message::SUCCESS),
         (10, 100_003, 3, rules::PADS_UNREAD, message::SUCCESS),
         (11, 100_003, 3, rules::PADS_UNREAD, message::SUCCESS),
-        (15, 100_003, 3, rules::PADS_UNREAD, message::SUCCESS),
         (17, 100_003, 3, rules::PADS_UNREAD, message::SUCCESS),
     ] {
         let header = Header {
@@ -553,6 +555,7 @@ pub(super) fn later_faults(runs: &mut Runs<'_>) {
         (remove(&root, b"na"), 3),
         (rmdir(&root, b"nam"), 4),
         (rename(&root, b"name", &root, b"n"), 1),
+        (link(&file, &root, b"li"), 3),
         (write(&file, 0, b"da"), 4),
         (write(&file, 0, b"dat"), 2),
         (guarded(&root, b"new", Attributes::default()), 4),
@@ -575,11 +578,16 @@ pub(super) fn later_faults(runs: &mut Runs<'_>) {
         (procedure::ACCESS, vec![handled(10)]),
         (
             procedure::RENAME,
-            vec![handled(12), text(b"n"), too_long, text(b"n")],
+            vec![handled(12), text(b"n"), too_long.clone(), text(b"n")],
         ),
         (
             procedure::RENAME,
             vec![handled(11), text(b"na"), handled(9), past.clone()],
+        ),
+        (procedure::LINK, vec![handled(11), handled(9), past.clone()]),
+        (
+            procedure::LINK,
+            vec![handled(10), too_long.clone(), text(b"n")],
         ),
         (procedure::SETATTR, vec![handled(9), Field::Word(2)]),
         (

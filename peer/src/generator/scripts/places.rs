@@ -60,6 +60,7 @@ fn requests(file: &[u8], directory: &[u8], name: &[u8], data: &[u8]) -> Vec<Requ
         remove(directory, name),
         rmdir(directory, name),
         rename(directory, name, directory, name),
+        link(file, directory, name),
         readdir(directory, 0, 0, 4096),
         fsstat(file),
         fsinfo(file),
@@ -100,6 +101,8 @@ pub(super) fn arguments(runs: &mut Runs<'_>) {
         guarded(&root, b"", server),
         mkdir(&root, b"d", none),
         lookup(&root, b""),
+        link(&file, &root, b""),
+        link(b"", &[1; 64], b"longer-name"),
         write(&file, 0, b""),
         getattr(b""),
         getattr(&[1; 64]),
@@ -200,9 +203,17 @@ pub(super) fn bad_handles(runs: &mut Runs<'_>) {
     // A bad handle first, and a second one that is too long.
     let long = Field::Handle(vec![7; 65]);
     let text = Field::Text(b"name".to_vec());
-    let fields = [Field::Handle(stale), text.clone(), long, text];
+    let fields = [
+        Field::Handle(stale.clone()),
+        text.clone(),
+        long.clone(),
+        text.clone(),
+    ];
     let call = Header::new(7, 14).call(&encode(&fields));
     script.see(&call, (0, 64));
+    let fields = [Field::Handle(stale), long, text];
+    let call = Header::new(7, 15).call(&encode(&fields));
+    script.see(&call, (0, 56));
 }
 
 /// Answers with offset 0: procedures that are not served, statuses, the other

@@ -1,168 +1,20 @@
 //! RENAME over names that exist, rule by rule.
 
+use super::image::{clock_of, Image, Place};
 use super::*;
 use crate::generator::encode::{handle, Attributes};
 use crate::generator::lane::*;
 use crate::generator::rules;
-use crate::generator::view::View;
 use crate::layout::*;
 use crate::numbers::Status;
-
-/// A directory's handle and a name in it.
-type Place<'a> = (&'a [u8], &'a [u8]);
-
-/// The bytes of a store, to work out what a RENAME leaves and answers.
-#[derive(Clone)]
-struct Image {
-    shape: Shape,
-    bytes: Vec<u8>,
-}
-
-impl Image {
-    fn of(lane: &Lane<'_>) -> Image {
-        Image {
-            shape: lane.shape,
-            bytes: lane.driver.store().to_vec(),
-        }
-    }
-
-    fn view(&self) -> View {
-        View::of(&self.bytes).expect("a valid store")
-    }
-
-    /// The name record and the object of a name.
-    fn find(&self, (directory, name): Place<'_>) -> (usize, usize) {
-        let view = self.view();
-        let found = view.find(directory, name).expect("a name that exists");
-        (found.record, found.child)
-    }
-
-    fn object(&mut self, object: usize) -> &mut [u8] {
-        let at = self.shape.object_at(Object(object));
-        &mut self.bytes[at..at + OBJECT_BYTES]
-    }
-
-    fn name(&mut self, record: usize) -> &mut [u8] {
-        let at = self.shape.name_at(NameRecord(record));
-        &mut self.bytes[at..at + NAME_BYTES]
-    }
-
-    fn block(&mut self, block: usize) -> &mut [u8] {
-        let at = self.shape.block_at(Block(block));
-        &mut self.bytes[at..at + BLOCK_BYTES]
-    }
-
-    fn field(&self, object: usize, field: usize) -> u32 {
-        word(&self.bytes, self.shape.object_at(Object(object)) + field)
-    }
-
-    /// The blocks of a live object.
-    fn blocks(&self, object: usize) -> Vec<usize> {
-        let at = self.shape.object_at(Object(object)) + object_field::BLOCKS;
-        self.bytes[at..at + 2 * PLACES]
-            .chunks(2)
-            .map(|number| usize::from(number[0]) << 8 | usize::from(number[1]))
-            .filter(|&number| number != 65535)
-            .collect()
-    }
-
-    /// The attributes of a live object as they are sent.
-    fn attributes(&self, object: usize) -> Vec<u8> {
-        let view = self.view();
-        let kind = self.field(object, object_field::TYPE);
-        let (links, size, used) = if kind == DIRECTORY {
-            let inside = view.names.iter().filter(|named| named.directory == object);
-            let inner = inside.filter(|named| view.is_directory(named.child));
-            (2 + inner.count() as u32, 512, 0)
-        } else {
-            let used = 512 * self.blocks(object).len() as u32;
-            (1, self.field(object, object_field::SIZE), used)
-        };
-        let words = [
-            kind,
-            self.field(object, object_field::MODE),
-            links,
-            self.field(object, object_field::UID),
-            self.field(object, object_field::GID),
-            0,
-            size,
-            0,
-            used,
-            0,
-            0,
-            0,
-            view.stamp,
-            0,
-            object as u32 + 1,
-        ];
-        let mut bytes: Vec<u8> = words.iter().flat_map(|word| word.to_be_bytes()).collect();
-        let at = self.shape.object_at(Object(object));
-        bytes.extend(&self.bytes[at + object_field::ATIME..at + object_field::BLOCKS]);
-        bytes
-    }
-
-    /// What a reply says of a handle before and after a call.
-    fn change(&self, after: &Image, handle: &[u8]) -> Vec<u8> {
-        if !self.view().is_live(handle) {
-            return vec![0; 8];
-        }
-        let object = word(handle, 4) as usize;
-        let attributes = self.attributes(object);
-        // The size, and the last two times.
-        let mut bytes = 1u32.to_be_bytes().to_vec();
-        bytes.extend(&attributes[20..28]);
-        bytes.extend(&attributes[68..84]);
-        bytes.extend(1u32.to_be_bytes());
-        bytes.extend(after.attributes(object));
-        bytes
-    }
-
-    /// The result of RENAME: a status and both directories.
-    fn result(&self, after: &Image, status: Status, from: Place<'_>, to: Place<'_>) -> Vec<u8> {
-        let mut bytes = status.0.to_be_bytes().to_vec();
-        bytes.extend(self.change(after, from.0));
-        bytes.extend(self.change(after, to.0));
-        bytes
-    }
-}
 
 /// Renames over a name that exists. Every byte of the store and of the reply
 /// is the one that the rules give.
 pub(super) fn replaced(lane: &mut Lane<'_>, from: Place<'_>, to: Place<'_>, rules: &[&str]) {
     let before = Image::of(lane);
-    let (record, moved) = before.find(from);
-    let (freed, target) = before.find(to);
     let outcome = lane.done(&rename(from.0, from.1, to.0, to.1));
     let mut wanted = before.clone();
-    for block in before.blocks(target) {
-        wanted.block(block).fill(0);
-    }
-    let generation = before.field(target, object_field::GENERATION) + 1;
-    wanted.object(target).fill(0);
-    put_word(wanted.object(target), object_field::GENERATION, generation);
-    wanted.name(freed).fill(0);
-    let name = wanted.name(record);
-    name.fill(0);
-    put_word(name, name_field::DIRECTORY, word(to.0, 4));
-    put_word(name, name_field::CHILD, moved as u32);
-    put_word(name, name_field::LENGTH, to.1.len() as u32);
-    name[name_field::TEXT..][..to.1.len()].copy_from_slice(to.1);
-    for (object, fields) in [
-        (moved, &[object_field::CTIME][..]),
-        (
-            word(from.0, 4) as usize,
-            &[object_field::MTIME, object_field::CTIME],
-        ),
-        (
-            word(to.0, 4) as usize,
-            &[object_field::MTIME, object_field::CTIME],
-        ),
-    ] {
-        for &field in fields {
-            put_word(wanted.object(object), field, lane.seconds);
-            put_word(wanted.object(object), field + 4, lane.nanoseconds);
-        }
-    }
+    wanted.rename(from, to, clock_of(lane));
     assert!(lane.driver.store() == wanted.bytes);
     let result = before.result(&wanted, Status::OK, from, to);
     assert_eq!(outcome.reply[24..], result);
@@ -928,6 +780,9 @@ pub(super) fn old_handles(runs: &mut Runs<'_>) {
             rename(&target, b"to", &root, b"new"),
             rename(&root, b"to", &target, b"to"),
             rename(&target, b"to", &target, b"to"),
+            link(&target, &root, b"new"),
+            link(&target, &third, b"new"),
+            link(&target, &target, b"new"),
             readdir(&target, 0, 0, 4096),
             fsstat(&target),
             fsinfo(&target),

@@ -45,6 +45,8 @@ pub(super) fn handles_and_names(runs: &mut Runs<'_>) {
         requests.push(rename(bytes, b"f", &root, b"g"));
         requests.push(rename(bytes, b"f", &file, b"g"));
         requests.push(rename(&root, b"f", bytes, b"g"));
+        requests.push(link(bytes, &file, b""));
+        requests.push(link(&file, bytes, b""));
         for request in requests {
             let name = PROCEDURE_NAMES[request.procedure() as usize];
             lane.expect(&format!("{name} {label}"), &request, status);
@@ -65,6 +67,7 @@ pub(super) fn handles_and_names(runs: &mut Runs<'_>) {
         rmdir(&file, b""),
         rename(&file, b"", &root, b""),
         rename(&root, b"", &file, b""),
+        link(&file, &file, b""),
         readdir(&file, 0, 1, 0),
     ] {
         let name = PROCEDURE_NAMES[request.procedure() as usize];
@@ -80,6 +83,8 @@ pub(super) fn handles_and_names(runs: &mut Runs<'_>) {
         write_as(&root, 0, 7, 0, b"abc"),
         commit(&root, 0, 0),
         setattr(&root, Attributes::size(0), None),
+        link(&root, &root, b""),
+        link(&root, &file, b""),
     ] {
         let name = PROCEDURE_NAMES[request.procedure() as usize];
         lane.expect(
@@ -112,6 +117,7 @@ pub(super) fn handles_and_names(runs: &mut Runs<'_>) {
             rename(&root, name, &root, b"."),
             rename(&root, b".", &root, name),
             rename(&root, b"..", &root, name),
+            link(&file, &root, name),
         ] {
             let procedure = PROCEDURE_NAMES[request.procedure() as usize];
             lane.expect(&format!("{procedure} {label}"), &request, status);

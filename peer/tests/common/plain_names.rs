@@ -1,5 +1,5 @@
-//! RENAME a second time, plain and slow: what a well-formed call makes of a
-//! valid store, and the result that it answers.
+//! REMOVE, RENAME and LINK a second time, plain and slow: what a well-formed
+//! call makes of a valid store, and the result that it answers.
 
 /// A directory's handle and a name in it, as a call gives them.
 struct Place {
@@ -99,6 +99,13 @@ impl Store {
         get(&self.names[record], 4) as usize
     }
 
+    /// How many names an object has.
+    fn names_of(&self, object: usize) -> usize {
+        let used = self.used();
+        used.filter(|(number, _)| self.child(*number) == object)
+            .count()
+    }
+
     /// Whether an object is the given one or has it somewhere above.
     fn is_within(&self, object: usize, top: usize) -> bool {
         object == top
@@ -117,7 +124,8 @@ impl Store {
             (2 + inner.count() as u32, 512, 0)
         } else {
             let size = get(record, 20);
-            (1, size, size.div_ceil(512) * 512)
+            let names = self.names_of(object) as u32;
+            (names, size, size.div_ceil(512) * 512)
         };
         let mut bytes = record[..4].to_vec();
         bytes.extend(&record[8..12]);
@@ -147,29 +155,96 @@ impl Store {
         bytes
     }
 
+    /// The directory of a handle.
+    fn directory(&self, handle: &[u8]) -> Result<usize, u32> {
+        let directory = self.resolve(handle)?;
+        if self.is_directory(directory) {
+            Ok(directory)
+        } else {
+            Err(20)
+        }
+    }
+
+    fn set_name(&mut self, record: usize, directory: usize, child: usize, text: &[u8]) {
+        let name = &mut self.names[record];
+        name.fill(0);
+        put(name, 0, directory as u32);
+        put(name, 4, child as u32);
+        put(name, 8, text.len() as u32);
+        name[12..12 + text.len()].copy_from_slice(text);
+    }
+
+    /// Sets mtime and ctime of directories.
+    fn touch(&mut self, directories: &[usize], clock: &[u8]) {
+        for &directory in directories {
+            self.objects[directory][32..40].copy_from_slice(clock);
+            self.objects[directory][40..48].copy_from_slice(clock);
+        }
+    }
+
+    /// Takes a name away; with its last name the object goes too.
+    fn unname(&mut self, record: usize, clock: &[u8]) {
+        let object = self.child(record);
+        self.names[record].fill(0);
+        if self.names_of(object) > 0 {
+            self.objects[object][40..48].copy_from_slice(clock);
+            return;
+        }
+        let generation = get(&self.objects[object], 4) + 1;
+        let blocks = get(&self.objects[object], 20).div_ceil(512) as usize;
+        for place in 0..blocks {
+            let at = 48 + 2 * place;
+            let number = &self.objects[object][at..at + 2];
+            let number = usize::from(number[0]) * 256 + usize::from(number[1]);
+            self.blocks[number].fill(0);
+        }
+        self.objects[object].fill(0);
+        put(&mut self.objects[object], 4, generation);
+    }
+
+    fn remove(&mut self, place: &Place, clock: &[u8]) -> Result<(), u32> {
+        let directory = self.directory(&place.handle)?;
+        sound_name(&place.name)?;
+        if dots(&place.name) {
+            return Err(13);
+        }
+        let record = self.find(directory, &place.name).ok_or(2u32)?;
+        if self.is_directory(self.child(record)) {
+            return Err(13);
+        }
+        self.unname(record, clock);
+        self.touch(&[directory], clock);
+        Ok(())
+    }
+
+    fn link(&mut self, file: &[u8], to: &Place, clock: &[u8]) -> Result<(), u32> {
+        let file = self.resolve(file)?;
+        if self.is_directory(file) {
+            return Err(22);
+        }
+        let directory = self.directory(&to.handle)?;
+        sound_name(&to.name)?;
+        if dots(&to.name) || self.find(directory, &to.name).is_some() {
+            return Err(17);
+        }
+        if self.names_of(file) == 16 {
+            return Err(31);
+        }
+        let free = self.names.iter().position(|record| get(record, 8) == 0);
+        self.set_name(free.ok_or(28u32)?, directory, file, &to.name);
+        self.objects[file][40..48].copy_from_slice(clock);
+        self.touch(&[directory], clock);
+        Ok(())
+    }
+
     fn rename(&mut self, from: &Place, to: &Place, clock: &[u8]) -> Result<(), u32> {
         let mut directories = [0; 2];
         for (directory, place) in directories.iter_mut().zip([from, to]) {
-            *directory = self.resolve(&place.handle)?;
-            if !self.is_directory(*directory) {
-                return Err(20);
-            }
+            *directory = self.directory(&place.handle)?;
         }
-        for name in [&from.name, &to.name] {
-            if name.is_empty() {
-                return Err(13);
-            }
-            if name.len() > 32 {
-                return Err(63);
-            }
-            if name.contains(&0) || name.contains(&b'/') {
-                return Err(13);
-            }
-        }
-        if [&from.name, &to.name]
-            .iter()
-            .any(|name| matches!(&name[..], b"." | b".."))
-        {
+        sound_name(&from.name)?;
+        sound_name(&to.name)?;
+        if dots(&from.name) || dots(&to.name) {
             return Err(22);
         }
         let record = self.find(directories[0], &from.name).ok_or(2u32)?;
@@ -188,42 +263,42 @@ impl Store {
             if self.is_directory(moved) != self.is_directory(target) || !empty {
                 return Err(17);
             }
-            let generation = get(&self.objects[target], 4) + 1;
-            let blocks = get(&self.objects[target], 20).div_ceil(512) as usize;
-            for place in 0..blocks {
-                let at = 48 + 2 * place;
-                let number = &self.objects[target][at..at + 2];
-                let number = usize::from(number[0]) * 256 + usize::from(number[1]);
-                self.blocks[number].fill(0);
-            }
-            self.objects[target].fill(0);
-            put(&mut self.objects[target], 4, generation);
-            self.names[freed].fill(0);
+            self.unname(freed, clock);
         }
-        let name = &mut self.names[record];
-        name.fill(0);
-        put(name, 0, directories[1] as u32);
-        put(name, 4, moved as u32);
-        put(name, 8, to.name.len() as u32);
-        name[12..12 + to.name.len()].copy_from_slice(&to.name);
+        self.set_name(record, directories[1], moved, &to.name);
         self.objects[moved][40..48].copy_from_slice(clock);
-        for directory in directories {
-            self.objects[directory][32..40].copy_from_slice(clock);
-            self.objects[directory][40..48].copy_from_slice(clock);
-        }
+        self.touch(&directories, clock);
         Ok(())
     }
 }
 
-/// The store after a RENAME, and the reply from its status on. `None` for
-/// another procedure.
-pub fn plain_rename(
+fn sound_name(name: &[u8]) -> Result<(), u32> {
+    if name.is_empty() {
+        return Err(13);
+    }
+    if name.len() > 32 {
+        return Err(63);
+    }
+    if name.contains(&0) || name.contains(&b'/') {
+        return Err(13);
+    }
+    Ok(())
+}
+
+fn dots(name: &[u8]) -> bool {
+    matches!(name, b"." | b"..")
+}
+
+/// The store after a REMOVE, RENAME or LINK, and the reply from its status on.
+/// `None` for another procedure.
+pub fn plain_names(
     store: &[u8],
     call: &[u8],
     seconds: u32,
     nanoseconds: u32,
 ) -> Option<(Vec<u8>, Vec<u8>)> {
-    if get(call, 20) != 14 {
+    let procedure = get(call, 20);
+    if ![12, 14, 15].contains(&procedure) {
         return None;
     }
     let mut left = &call[24..];
@@ -231,17 +306,36 @@ pub fn plain_rename(
         left = &left[4..];
         opaque(&mut left);
     }
-    let [from, to] = [(); 2].map(|()| Place {
-        handle: opaque(&mut left),
-        name: opaque(&mut left),
-    });
-    assert!(left.is_empty());
+    let file = (procedure == 15).then(|| opaque(&mut left));
+    let mut places = Vec::new();
+    while !left.is_empty() {
+        places.push(Place {
+            handle: opaque(&mut left),
+            name: opaque(&mut left),
+        });
+    }
     let clock = [seconds.to_be_bytes(), nanoseconds.to_be_bytes()].concat();
     let before = Store::read(store);
     let mut after = before.clone();
-    let status = after.rename(&from, &to, &clock).err().unwrap_or(0);
+    let outcome = match (&file, &places[..]) {
+        (None, [place]) => after.remove(place, &clock),
+        (None, [from, to]) => after.rename(from, to, &clock),
+        (Some(file), [to]) => after.link(file, to, &clock),
+        _ => panic!("not the arguments of procedure {procedure}"),
+    };
+    let status = outcome.err().unwrap_or(0);
     let mut result = status.to_be_bytes().to_vec();
-    result.extend(before.change(&after, &from.handle));
-    result.extend(before.change(&after, &to.handle));
+    if let Some(file) = file {
+        match before.resolve(&file) {
+            Ok(object) => {
+                result.extend([0, 0, 0, 1]);
+                result.extend(after.attributes(object));
+            }
+            Err(_) => result.extend([0; 4]),
+        }
+    }
+    for place in &places {
+        result.extend(before.change(&after, &place.handle));
+    }
     Some((after.bytes(), result))
 }
