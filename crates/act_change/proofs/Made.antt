@@ -13,10 +13,11 @@ use Rattle.spec.specs.Image.{Store, blocks, objectAt}
 use Rattle.spec.specs.Procedures.Attributes.{resizeTo}
 use Rattle.spec.specs.Procedures.Names.{newEdit, existingEdit}
 use Rattle.spec.specs.Room.{uses, sizeOf, freeBlockCount}
-use Rattle.laws.proofs.CreateObject.{newName, create-object, create-object-uses}
+use Rattle.laws.proofs.CreateObject.{create-object, create-object-uses}
 use Rattle.laws.proofs.GoodRecords.{GoodRecords, StillGood, GoodClock, still-refl, still-trans, free-size, set-attributes-still}
 use Rattle.laws.proofs.GoodRecords.{resize-still, create-object-still}
 use Rattle.laws.proofs.Kept.{BothSet}
+use Rattle.laws.proofs.PutName.{newName}
 use Rattle.laws.proofs.Range.{Below}
 use Rattle.laws.proofs.SameReads.{isFreeBlock-reads, freeBlockCount-reads}
 use Rattle.laws.proofs.SetAttributes.{mtime-and-ctime-fits, mtime-and-ctime-allowed}

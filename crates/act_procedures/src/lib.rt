@@ -9,6 +9,7 @@ use act_change::attributes::setattr;
 use act_change::data::write;
 use act_change::names::create;
 use act_change::names::mkdir;
+use act_link::link;
 use act_list::readdir;
 use act_read::data::commit;
 use act_read::data::read;
@@ -55,6 +56,7 @@ pub fn run(
         Arguments::Remove(p) => remove(store, context, call, p),
         Arguments::Rmdir(p) => rmdir(store, context, call, p),
         Arguments::Rename(p, q) => rename(store, context, call, p, q),
+        Arguments::Link(h, p) => link(store, context, call, h, p),
         Arguments::Readdir(h, cookie, verifier, count) => {
             readdir(store, call, h, cookie, verifier, count)
         }

@@ -1,4 +1,4 @@
--- What passed checks give to the edits, and the results that are made after them. Assumes nothing.
+-- What passed checks give to the edits. Assumes nothing.
 use Prim.Native.Nat.{ℕ, _+_, _≤_, _<_}
 use mathlib.Core.Path.{_≡_, sym, ap, _∙_}
 use mathlib.Core.List.{List}
@@ -7,13 +7,11 @@ use lib.ListN.{length}
 use Rattle.kinds.specs.Numbers.{mostNameBytes}
 use Rattle.kinds.specs.declared.numbers.NameNumber.{NameNumber}
 use Rattle.kinds.specs.declared.numbers.ObjectNumber.{ObjectNumber}
-use Rattle.kinds.specs.declared.object.Before.{Before}
 use Rattle.kinds.specs.declared.object.Context.{Context}
 use Rattle.kinds.specs.declared.call.NameIn.{NameIn}
 use Rattle.kinds.specs.declared.call.Arguments.the-variants as Arguments
 use Rattle.spec.specs.Checked.{passed}
-use Rattle.spec.specs.Edits.{removeObject}
-use Rattle.spec.specs.Handles.{before, change}
+use Rattle.spec.specs.Edits.{removeName}
 use Rattle.spec.specs.Image.{Store, objects}
 use Rattle.spec.specs.Procedures.{cut, act}
 use Rattle.spec.specs.Procedures.Names.{touchDirectory}
@@ -25,8 +23,6 @@ use Rattle.laws.proofs.GoodRecords.{GoodRecords, StillGood, GoodClock}
 use Rattle.laws.proofs.Passed.{EntryPassed, remove-passed, rmdir-passed, RenamePassed, rename-passed, found-record}
 use Rattle.laws.proofs.Range.{Below}
 use Rattle.laws.proofs.Valid.{Valid}
-use Rattle.results.specs.Meaning.{changeIn}
-use Rattle.results.specs.Writable.{Showable}
 use Rattle.edit_entries.specs.Records.{RemovableAt, RenamableAt}
 use Rattle.check_remove.specs.Meaning.{removableOf}
 use Rattle.check_rename.specs.Meaning.{ontoOf, renamableOf}
@@ -36,26 +32,15 @@ use Rattle.check_rename.specs.declared.Onto as check-rename
 use Rattle.check_rename.specs.declared.Renamable.{Renamable}
 use Rattle.check_rename.specs.declared.Renamable.the-variants as Renamable
 
--- ---- after an edit
--- the store u is t, which came from s
-pub still-showable : (s t u : Store) (d : ℕ) → StillGood s t → d < objects s → u ≡ t → Showable u d
-still-showable s t u d a l e = rw e (record { good = a .good; object = omega (arith, a .shape .objects) })
-
--- a change is made of what was read before, and of the store that is left
-pub change-made : (s t u : Store) (d : ObjectNumber) (b : Before) → b ≡ before s (d .0) → u ≡ t → changeIn u (record { before = b; object = d })
-    ≡ change s t (d .0)
-unfolding change
-change-made s t u d b e g = rw (e, g)
-
 -- ---- what the checks give
 pub record Removing (s : Store) (c : Context) (d n : ℕ) : Type 0 where
   pub at : RemovableAt s d n
-  pub still : StillGood s (touchDirectory (removeObject s n) c d)
+  pub still : StillGood s (touchDirectory (removeName s (c .clock) n) c d)
 
 pub record Renaming (s : Store) (c : Context) (d e n size : ℕ) (t : Onto) (title : List ℕ) : Type 0 where
   pub directory : d < objects s
   pub target : e < objects s
-  pub at : RenamableAt s d e n t
+  pub at : RenamableAt s (c .clock) d e n t
   pub short : size ≤ mostNameBytes
   pub still : StillGood s (renameEdit s c d e n t title)
 
@@ -81,7 +66,7 @@ module _ (s : Store) (c : Context) (v : Valid s) (g : GoodRecords s) (k : GoodCl
         still = rw e at (act-good s c v (g .sound .bytes) k call (Arguments.Rmdir p) w tt);
       }
 
-  renamable-at : (h text j title : List ℕ) (d e n : ℕ) (t : Onto) → RenamePassed s h text j title d e n t → RenamableAt s d e n t
+  renamable-at : (h text j title : List ℕ) (d e n : ℕ) (t : Onto) → RenamePassed s h text j title d e n t → RenamableAt s (c .clock) d e n t
   renamable-at h text j title d e n newName y = movable s c v (g .sound .bytes) k h text j title d e n newName y
   renamable-at h text j title d e n sameObject y = tt
   renamable-at h text j title d e n (replacing m) y =

@@ -3,7 +3,7 @@ ghost use mathlib.Core.Path.{_≡_};
 ghost use Prim.Native.Nat.{_+_, _<_, _≤_};
 ghost use lib.ListN.{length};
 ghost use Rattle.kinds.specs.Numbers.{mostNameBytes};
-ghost use Rattle.spec.specs.Edits.{removeObject};
+ghost use Rattle.spec.specs.Edits.{removeName};
 ghost use Rattle.spec.specs.Image.{objects};
 ghost use Rattle.spec.specs.Procedures.{cut};
 ghost use Rattle.spec.specs.Procedures.Attributes.{edited};
@@ -41,8 +41,8 @@ use store_attributes::before;
 fn remove_entry(store: &mut [u8], context: Context, d: ObjectNumber, n: NameNumber) -> Reply
     requires { ⌜ GoodRecords (now store) ⌝ }
     requires { ⌜ RemovableAt (now store) (d .0) (n .0) ⌝ }
-    requires { ⌜ StillGood (now store) (touchDirectory (removeObject (now store) (n .0)) context (d .0)) ⌝ }
-    ensures { λ r. ⌜ Does (edited (now (store .entry)) (d .0) (touchDirectory (removeObject (now (store .entry)) (n .0)) context (d .0))) r (now (store .exit)) ⌝ }
+    requires { ⌜ StillGood (now store) (touchDirectory (removeName (now store) (context .clock) (n .0)) context (d .0)) ⌝ }
+    ensures { λ r. ⌜ Does (edited (now (store .entry)) (d .0) (touchDirectory (removeName (now (store .entry)) (context .clock) (n .0)) context (d .0))) r (now (store .exit)) ⌝ }
 {
     let earlier = before(store, d);
     remove_edit(store, context, d, n);
@@ -118,7 +118,7 @@ fn rename_entry(
     requires { ⌜ GoodRecords (now store) ⌝ }
     requires { ⌜ d .0 < objects (now store) ⌝ }
     requires { ⌜ e .0 < objects (now store) ⌝ }
-    requires { ⌜ RenamableAt (now store) (d .0) (e .0) (n .0) (ontoOf onto) ⌝ }
+    requires { ⌜ RenamableAt (now store) (context .clock) (d .0) (e .0) (n .0) (ontoOf onto) ⌝ }
     requires { ⌜ name .length ≤ mostNameBytes ⌝ }
     requires { ⌜ name .start + name .length ≤ length (now call) ⌝ }
     requires { ⌜ StillGood (now store) (renameEdit (now store) context (d .0) (e .0) (n .0) (ontoOf onto) (cut (now call) name)) ⌝ }

@@ -53,6 +53,7 @@ fn first_of(procedure: u32) -> First
         Procedure::REMOVE => First::Name,
         Procedure::RMDIR => First::Name,
         Procedure::RENAME => First::Name,
+        Procedure::LINK => First::Handle,
         Procedure::READDIR => First::Handle,
         Procedure::FSSTAT => First::Handle,
         Procedure::FSINFO => First::Handle,

@@ -15,23 +15,24 @@ refused unread h s at q e = absurd h
 
 -- none of the others
 abbrev pub Left : ℕ → Type 0
-Left p = ((((((((Unit {0} × (p ≡ 1 → ⊥)) × (p ≡ 2 → ⊥)) × (p ≡ 4 → ⊥)) × (p ≡ 6 → ⊥)) × (p ≡ 7 → ⊥)) × (p ≡ 16 → ⊥))
+Left p = (((((((((Unit {0} × (p ≡ 1 → ⊥)) × (p ≡ 2 → ⊥)) × (p ≡ 4 → ⊥)) × (p ≡ 6 → ⊥)) × (p ≡ 7 → ⊥)) × (p ≡ 15 → ⊥)) × (p ≡ 16 → ⊥))
     × (p ≡ 18 → ⊥)) × (p ≡ 19 → ⊥)) × (p ≡ 20 → ⊥)
 
 pub last : (p : ℕ) → HandleFirst p → Left p → form p ≡ handleThen commitArguments
 last = by-procedure (λ p f. ByHandle f → Left p → f ≡ handleThen commitArguments) (record {
   null = λ h n. absurd h;
-  getattr = λ h n. absurd (n .0 .0 .0 .0 .0 .0 .0 .0 .1 refl);
-  setattr = λ h n. absurd (n .0 .0 .0 .0 .0 .0 .0 .1 refl);
+  getattr = λ h n. absurd (n .0 .0 .0 .0 .0 .0 .0 .0 .0 .1 refl);
+  setattr = λ h n. absurd (n .0 .0 .0 .0 .0 .0 .0 .0 .1 refl);
   lookup = λ h n. absurd h;
-  access = λ h n. absurd (n .0 .0 .0 .0 .0 .0 .1 refl);
-  read = λ h n. absurd (n .0 .0 .0 .0 .0 .1 refl);
-  write = λ h n. absurd (n .0 .0 .0 .0 .1 refl);
+  access = λ h n. absurd (n .0 .0 .0 .0 .0 .0 .0 .1 refl);
+  read = λ h n. absurd (n .0 .0 .0 .0 .0 .0 .1 refl);
+  write = λ h n. absurd (n .0 .0 .0 .0 .0 .1 refl);
   create = λ h n. absurd h;
   mkdir = λ h n. absurd h;
   remove = λ h n. absurd h;
   rmdir = λ h n. absurd h;
   rename = λ h n. absurd h;
+  link = λ h n. absurd (n .0 .0 .0 .0 .1 refl);
   readdir = λ h n. absurd (n .0 .0 .0 .1 refl);
   fsstat = λ h n. absurd (n .0 .0 .1 refl);
   fsinfo = λ h n. absurd (n .0 .1 refl);

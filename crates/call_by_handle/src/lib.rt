@@ -1,14 +1,16 @@
 // The arguments of the procedures whose first argument is a handle.
 ghost use mathlib.Core.Path.{_≡_};
-ghost use Rattle.spec.specs.Arguments.{setattrArguments, accessArguments, readArguments, writeArguments, readdirArguments, commitArguments, whole, arguments};
+ghost use Rattle.spec.specs.Arguments.{setattrArguments, accessArguments, readArguments, writeArguments, linkArguments, readdirArguments, commitArguments, whole, arguments};
 ghost use Rattle.call_end.specs.Reading.{argumentsOf};
 ghost use Rattle.call_by_handle.specs.First.{HandleFirst};
 use call_end::finish;
 use call_end::reading::ArgumentsRead;
 use call_types::reading::GuardRead;
+use call_types::reading::NameInRead;
 use call_types::reading::SettableRead;
 use call_types::types::guard;
 use call_types::types::handle;
+use call_types::types::name_in;
 use call_types::types::settable;
 use call_types::types::unbounded;
 use kinds::call::Arguments;
@@ -86,6 +88,17 @@ fn write(s: &[u8], c: Cursor, file: Part) -> ArgumentsRead
     finish(s, c4, Arguments::Write(file, offset, count, bytes))
 }
 
+// LINK3args after the handle.
+fn link(s: &[u8], c: Cursor, file: Part) -> ArgumentsRead
+    ensures { λ r. ⌜ argumentsOf r ≡ whole (linkArguments file) (now (s .entry)) (c .at) ⌝ }
+{
+    let answer = name_in(s, c);
+    let NameInRead::Got(place, c1) = answer else {
+        return ArgumentsRead::Bad(answer.place());
+    };
+    finish(s, c1, Arguments::Link(file, place))
+}
+
 // READDIR3args after the handle.
 fn readdir(s: &[u8], c: Cursor, directory: Part) -> ArgumentsRead
     ensures { λ r. ⌜ argumentsOf r ≡ whole (readdirArguments directory) (now (s .entry)) (c .at) ⌝ }
@@ -124,7 +137,7 @@ fn commit(s: &[u8], c: Cursor, file: Part) -> ArgumentsRead
     finish(s, c2, Arguments::Commit(file))
 }
 
-// The arguments of GETATTR, SETATTR, ACCESS, READ, WRITE, READDIR, FSSTAT, FSINFO, PATHCONF or COMMIT, which end the call.
+// The arguments of GETATTR, SETATTR, ACCESS, READ, WRITE, LINK, READDIR, FSSTAT, FSINFO, PATHCONF or COMMIT, which end the call.
 pub fn of_handle(s: &[u8], c: Cursor, procedure: u32) -> ArgumentsRead
     requires { ⌜ HandleFirst procedure ⌝ }
     ensures { λ r. ⌜ argumentsOf r ≡ arguments procedure (now (s .entry)) (c .at) ⌝ }
@@ -139,6 +152,7 @@ pub fn of_handle(s: &[u8], c: Cursor, procedure: u32) -> ArgumentsRead
         Procedure::ACCESS => access(s, c1, object),
         Procedure::READ => read(s, c1, object),
         Procedure::WRITE => write(s, c1, object),
+        Procedure::LINK => link(s, c1, object),
         Procedure::READDIR => readdir(s, c1, object),
         Procedure::FSSTAT => finish(s, c1, Arguments::Fsstat(object)),
         Procedure::FSINFO => finish(s, c1, Arguments::Fsinfo(object)),

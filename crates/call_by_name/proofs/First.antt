@@ -31,6 +31,7 @@ last = by-procedure (λ p f. ByName f → Left p → f ≡ nameThen renameArgume
   remove = λ h n. absurd (n .0 .1 refl);
   rmdir = λ h n. absurd (n .1 refl);
   rename = λ h n. refl;
+  link = λ h n. absurd h;
   readdir = λ h n. absurd h;
   fsstat = λ h n. absurd h;
   fsinfo = λ h n. absurd h;

@@ -1,21 +1,28 @@
 -- The image that an old one becomes, up to its blocks, made in a part of the room. Assumes nothing.
 use mathlib.Core.Path.{_≡_, sym, ap, _∙_}
+use mathlib.Core.Bool.{true, false, _&&_}
 use mathlib.Core.List.{List}
-use Prim.Native.Nat.{ℕ, _+_, _*_, _-_, _≤_}
+use Prim.Native.Nat.{ℕ, _+_, _*_, _-_, _≤_, _<_}
 use native.Mathlib.Omega.{arith}
+use lib.Dec.{leb}
 use lib.ListN.{length}
 use lib.Seq.{take-at}
 use borrow.Rule.Slice.PartMut.{midOf, postOf, putMid, mid-len}
 use Rattle.kinds.specs.Layout.{blocksHead, objectLength, nameRecordLength}
 use Rattle.spec.specs.Bytes.{part}
+use Rattle.spec.specs.Count.{every}
 use Rattle.spec.specs.Image.{Store, objects, names, blocks}
+use Rattle.spec.specs.Room.{namings}
 use Rattle.spec.specs.Check.{recordsPass, passes}
-use Rattle.spec.specs.Convert.{oldNames, oldBlocks, converted}
+use Rattle.spec.specs.Convert.{oldNames, oldBlocks, converted, isNamedOnce}
 use Rattle.laws.proofs.Bytes.{part-length}
 use Rattle.laws.proofs.Converted.{OldShaped, keeps, converted-shaped}
-use Rattle.laws.proofs.RecordsOnly.{recordsEnd, front-same, objects-kept, names-kept, blocks-kept, framed-kept, front-passes}
+use Rattle.laws.proofs.Count.{every-ext}
+use Rattle.laws.proofs.RecordsOnly.{recordsEnd, front-same, objects-kept, names-kept, blocks-kept, framed-kept, front-passes, front-namings}
 use Rattle.laws.proofs.Valid.{Framed, shaped-framed}
+use Rattle.fsck_names.specs.Named.{LinkedBy}
 use Rattle.convert.specs.Room.{mostRecords}
+use Rattle.convert.specs.Links.{hasOneName}
 
 -- x has p objects, q name records and r blocks, and its records pass the check where the image does that the old one becomes
 pub record Front (old : List ℕ) (p q r : ℕ) (x : Store) : Type 0 where
@@ -24,6 +31,7 @@ pub record Front (old : List ℕ) (p q r : ℕ) (x : Store) : Type 0 where
   pub names : q ≡ names x
   pub blocks : r ≡ blocks x
   pub passing : recordsPass x ≡ passes (converted old)
+  pub namings : recordsPass x ≡ true → (o : ℕ) → namings x o ≡ namings (converted old) o
 
 module _ (old : List ℕ) (p q r : ℕ) (t : OldShaped old) (a : p ≡ objects old) (b : q ≡ oldNames old) (c : r ≡ oldBlocks old) where
   front-is : Front old p q r (part (converted old) 0 (recordsEnd (converted old)))
@@ -39,6 +47,7 @@ module _ (old : List ℕ) (p q r : ℕ) (t : OldShaped old) (a : p ≡ objects o
         names = b ∙ sym (names-kept s x f ∙ k .same-names);
         blocks = c ∙ sym (blocks-kept s x f ∙ k .same-blocks);
         passing = front-passes s w;
+        namings = front-namings s (shaped-framed s w);
       }
 
   -- the part that it was made in, read again
@@ -56,3 +65,16 @@ module _ (old : List ℕ) (p q r : ℕ) (t : OldShaped old) (a : p ≡ objects o
       let x : midOf 0 (n - 0) (putMid 0 (n - 0) room made) ≡ part s 0 (recordsEnd s) =
       (rw z (take-at made (postOf 0 n room) n long)) ∙ m ∙ ap (part s 0) end in
       rw x front-is
+
+-- ---- the answer, from the records and the map of links
+pub front-fails : (old : List ℕ) (p q r : ℕ) (x : Store) → Front old p q r x → recordsPass x ≡ false
+    → false ≡ (passes (converted old) && every (objects old) (isNamedOnce (converted old)))
+front-fails old p q r x f e = rw (sym (f .passing) ∙ e)
+
+pub front-answers : (old : List ℕ) (p q r : ℕ) (x : Store) (links : List ℕ) → Front old p q r x → p ≡ objects old → recordsPass x ≡ true
+    → LinkedBy x (names x) links → every p (hasOneName links) ≡ (passes (converted old) && every (objects old) (isNamedOnce (converted old)))
+unfolding isNamedOnce namings
+front-answers old p q r x links f a e m =
+    let same : (o : ℕ) → o < p → hasOneName links o ≡ isNamedOnce (converted old) o
+    = λ o l. ap (λ (k : ℕ). leb k 1) (m .counts o (omega (arith, f .objects)) ∙ f .namings e o) in
+    rw (sym (f .passing) ∙ e, ← a) (every-ext (hasOneName links) (isNamedOnce (converted old)) p same)

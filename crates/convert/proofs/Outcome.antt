@@ -1,15 +1,16 @@
 -- From what was found of an old image to the converter's answer. Assumes nothing.
 use mathlib.Core.Path.{_≡_, refl, sym, ap, _∙_}
-use mathlib.Core.Bool.{true, false, and-false}
+use mathlib.Core.Bool.{true, false, _&&_}
 use mathlib.Core.List.{List}
 use Prim.Native.Nat.{ℕ, _+_, _-_, _*_}
 use native.Mathlib.Omega.{arith}
 use lib.ListN.{length}
 use Rattle.kinds.specs.Layout.{objectLength, oldObjectLength}
 use Rattle.spec.specs.Bytes.{part}
+use Rattle.spec.specs.Count.{every}
 use Rattle.spec.specs.Image.{Store, objects}
 use Rattle.spec.specs.Check.{passes}
-use Rattle.spec.specs.Convert.{oldNames, oldBlocks, oldShape, converted, goodOld}
+use Rattle.spec.specs.Convert.{oldNames, oldBlocks, oldShape, converted, isNamedOnce, goodOld}
 use Rattle.spec.specs.Serve.{Written, convert}
 use Rattle.laws.proofs.Bytes.{part-whole}
 use Rattle.laws.proofs.Converted.{OldShaped, newLength, keeps, old-shaped, converts}
@@ -56,17 +57,18 @@ module _ (old : List ℕ) (s : Store) where
   unfolding goodOld
   leaves-bad-shape e = leaves-by (convert old s) 1 s (converts old s .bad (rw e))
 
-  pub leaves-bad : false ≡ passes (converted old) → Leaves (convert old s) 1 s
+  pub leaves-bad : oldShape old ≡ true → false ≡ (passes (converted old) && every (objects old) (isNamedOnce (converted old)))
+      → Leaves (convert old s) 1 s
   unfolding goodOld
-  leaves-bad e = leaves-by (convert old s) 1 s (converts old s .bad (rw (← e) (and-false (oldShape old))))
+  leaves-bad g e = leaves-by (convert old s) 1 s (converts old s .bad (rw g (sym e)))
 
-  module _ (k : Counts) (g : GoodShape old k) (h : true ≡ passes (converted old)) where
+  module _ (k : Counts) (g : GoodShape old k) (h : true ≡ (passes (converted old) && every (objects old) (isNamedOnce (converted old)))) where
     long : length old + (objectLength - oldObjectLength) * k .objects ≡ newLength old
     long = new-length old (k .objects) (g .shaped) (g .objects)
 
     good : goodOld old ≡ true
     unfolding goodOld
-    good = rw (g .passes, ← h)
+    good = rw (g .passes) (sym h)
 
     pub leaves-other : (length s ≡ length old + (objectLength - oldObjectLength) * k .objects → ⊥) → Leaves (convert old s) 6 s
     leaves-other f = leaves-by (convert old s) 6 s (converts old s .other-length good (λ e. f (e ∙ sym long)))

@@ -1,16 +1,20 @@
 // The converter from the layout of document 01, in which an object record has 80 bytes.
 ghost use mathlib.Core.Path.{_≡_};
+ghost use mathlib.Core.Bool.{_&&_};
 ghost use Prim.Native.Nat.{_+_, _*_, _≤_};
 ghost use lib.ListN.{length};
 ghost use Rattle.kinds.specs.Layout.{objectLength, oldObjectLength};
+ghost use Rattle.kinds.specs.Numbers.{mostObjects};
 ghost use Rattle.spec.specs.Bytes.{part};
+ghost use Rattle.spec.specs.Count.{every};
 ghost use Rattle.spec.specs.Image.{objects, objectStart};
 ghost use Rattle.spec.specs.Check.{passes};
-ghost use Rattle.spec.specs.Convert.{oldStart, oldNames, oldBlocks, converted};
+ghost use Rattle.spec.specs.Convert.{oldStart, oldNames, oldBlocks, converted, isNamedOnce};
 ghost use Rattle.spec.specs.Serve.{convert};
 ghost use Rattle.laws.proofs.Converted.{OldShaped};
 ghost use Rattle.fsck.specs.Format.{Leaves};
 ghost use Rattle.convert.specs.Room.{mostRecords};
+ghost use Rattle.convert.specs.Links.{hasOneName};
 use fsck::check::records_pass;
 use fsck::shape::Found;
 use fsck::shape::shape;
@@ -51,21 +55,40 @@ fn lengthen(old: &[u8], p: usize, store: &mut [u8])
     wire::copy_bytes(store, behind, old, from, length - behind);
 }
 
-// Whether the image that an old one of p objects, q name records and r blocks becomes passes the check. That reads no block: `room` is for the bytes
-// before them.
+// Whether none of the first p objects has more than one name, by the map of links.
+fn named_once(p: usize, links: &[u8; Limit::MOST_OBJECTS]) -> bool
+    requires { ⌜ p ≤ mostObjects ⌝ }
+    ensures { λ r. ⌜ r ≡ every p (hasOneName (now (links .entry))) ⌝ }
+{
+    let mut o = 0;
+    while o < p {
+        if links[o] > 1 {
+            return false;
+        }
+        o += 1;
+    }
+    true
+}
+
+// Whether the image that an old one of p objects, q name records and r blocks becomes passes the check, with one name for each object. That reads no
+// block: `room` is for the bytes before them.
 fn becomes_good(old: &[u8], p: usize, q: usize, r: usize, room: &mut [u8]) -> bool
     requires { ⌜ OldShaped (now old) ⌝ }
     requires { ⌜ p ≡ objects (now old) ⌝ }
     requires { ⌜ q ≡ oldNames (now old) ⌝ }
     requires { ⌜ r ≡ oldBlocks (now old) ⌝ }
     requires { ⌜ length (now room) ≡ mostRecords ⌝ }
-    ensures { λ t. ⌜ t ≡ passes (converted (now (old .entry))) ⌝ }
+    ensures { λ t. ⌜ t ≡ (passes (converted (now (old .entry))) && every (objects (now (old .entry))) (isNamedOnce (converted (now (old .entry))))) ⌝ }
 {
     let end = Image::BLOCKS_HEAD + ObjectRecord::BYTES * p + NameRecord::BYTES * q;
     lengthen(old, p, &mut room[0..end]);
     let mut used = [0u8; Limit::MOST_BLOCKS];
     let mut parents = [0u8; Limit::MOST_OBJECTS];
-    records_pass(&room[0..end], p, q, r, &mut used, &mut parents)
+    let mut links = [0u8; Limit::MOST_OBJECTS];
+    if !records_pass(&room[0..end], p, q, r, &mut used, &mut parents, &mut links) {
+        return false;
+    }
+    named_once(p, &links)
 }
 
 // Converts an old image: 1 for one that fails the check of document 01, then 6 for a target of another length, then 0; 1 and 6 change nothing.

@@ -1,18 +1,21 @@
-// What REMOVE, RMDIR and RENAME do to the store: an entry of a directory is removed, moved or put in the place of another, and times are set.
+// What REMOVE, RMDIR, RENAME and LINK do to the store: an entry of a directory is removed, moved, put in the place of another or added, and times
+// are set.
 ghost use mathlib.Core.Path.{_≡_};
-ghost use Prim.Native.Nat.{_+_, _≤_};
+ghost use Prim.Native.Nat.{_+_, _<_, _≤_};
 ghost use lib.ListN.{length};
 ghost use Rattle.kinds.specs.Layout.{objectLength};
 ghost use Rattle.kinds.specs.Numbers.{mostNameBytes};
-ghost use Rattle.spec.specs.Edits.{setAttributes, mtimeAndCtime, removeObject};
-ghost use Rattle.spec.specs.Image.{objectStart};
+ghost use Rattle.spec.specs.Edits.{setAttributes, mtimeAndCtime, removeName};
+ghost use Rattle.spec.specs.Image.{objectStart, names};
 ghost use Rattle.spec.specs.Procedures.{cut};
+ghost use Rattle.spec.specs.Procedures.Link.{linkEdit};
 ghost use Rattle.spec.specs.Procedures.Names.{touchDirectory};
 ghost use Rattle.spec.specs.Procedures.Removal.{moveEdit, renameEdit};
 ghost use Rattle.laws.proofs.ActGood.{Movable};
 ghost use Rattle.laws.proofs.GoodRecords.{GoodRecords};
+ghost use Rattle.laws.proofs.Valid.{Used};
 ghost use Rattle.check_rename.specs.Meaning.{ontoOf};
-ghost use Rattle.edit_entries.specs.Records.{RemovableAt, RenamableAt};
+ghost use Rattle.edit_entries.specs.Records.{RemovableAt, RenamableAt, LinkableAt};
 use check_rename::Onto;
 use check_settable::only_ctime;
 use edit_attributes::set_attributes;
@@ -24,7 +27,10 @@ use kinds::numbers::NameNumber;
 use kinds::numbers::ObjectNumber;
 use kinds::object::Context;
 use kinds::object::Time;
+use store_records::name::clear_name;
 use store_records::name::name_child;
+use store_records::name::save_name;
+use store_search::name::naming_count;
 
 // Sets a directory's mtime and ctime.
 fn touch_directory(store: &mut [u8], clock: Time, d: ObjectNumber)
@@ -34,14 +40,30 @@ fn touch_directory(store: &mut [u8], clock: Time, d: ObjectNumber)
     touch(store, clock, d);
 }
 
-// An object and its name are removed, and the directory's times are set.
+// A name is removed. An object with other names keeps them, and its ctime is set; with its last name it is removed.
+fn remove_name(store: &mut [u8], clock: Time, n: NameNumber)
+    requires { ⌜ GoodRecords (now store) ⌝ }
+    requires { ⌜ n .0 < names (now store) ⌝ }
+    requires { ⌜ Used (now store) (n .0) ⌝ }
+    ensures { λ _. ⌜ now (store .exit) ≡ removeName (now (store .entry)) clock (n .0) ⌝ }
+{
+    let o = name_child(store, n);
+    if naming_count(store, o) > 1 {
+        set_attributes(store, clock, o, only_ctime());
+        clear_name(store, n);
+    } else {
+        remove_object(store, n);
+    }
+}
+
+// A name is removed, and the directory's times are set.
 pub fn remove_edit(store: &mut [u8], context: Context, d: ObjectNumber, n: NameNumber)
     requires { ⌜ GoodRecords (now store) ⌝ }
     requires { ⌜ RemovableAt (now store) (d .0) (n .0) ⌝ }
-    ensures { λ _. ⌜ now (store .exit) ≡ touchDirectory (removeObject (now (store .entry)) (n .0)) context (d .0) ⌝ }
+    ensures { λ _. ⌜ now (store .exit) ≡ touchDirectory (removeName (now (store .entry)) (context .clock) (n .0)) context (d .0) ⌝ }
 {
     let clock = context.clock;
-    remove_object(store, n);
+    remove_name(store, clock, n);
     touch_directory(store, clock, d);
 }
 
@@ -69,7 +91,7 @@ fn move_edit(
     touch_directory(store, clock, target);
 }
 
-// An object that is replaced is removed first; where the new name is one of the same object's, nothing is done.
+// A name that is replaced is removed first; where the new name is one of the same object's, nothing is done.
 pub fn rename_edit(
     store: &mut [u8],
     context: Context,
@@ -81,7 +103,7 @@ pub fn rename_edit(
     name: Part,
 )
     requires { ⌜ GoodRecords (now store) ⌝ }
-    requires { ⌜ RenamableAt (now store) (source .0) (target .0) (n .0) (ontoOf onto) ⌝ }
+    requires { ⌜ RenamableAt (now store) (context .clock) (source .0) (target .0) (n .0) (ontoOf onto) ⌝ }
     requires { ⌜ name .length ≤ mostNameBytes ⌝ }
     requires { ⌜ name .start + name .length ≤ length (now call) ⌝ }
     ensures { λ _. ⌜ now (store .exit) ≡ renameEdit (now (store .entry)) context (source .0) (target .0) (n .0) (ontoOf onto) (cut (now (call .entry)) name) ⌝ }
@@ -90,8 +112,30 @@ pub fn rename_edit(
         Onto::NewName => move_edit(store, context, source, target, n, call, name),
         Onto::SameObject => {}
         Onto::Replacing(m) => {
-            remove_object(store, m);
+            remove_name(store, context.clock, m);
             move_edit(store, context, source, target, n, call, name);
         }
     }
+}
+
+// A name is added; the file's ctime and the directory's times are set.
+pub fn link_edit(
+    store: &mut [u8],
+    context: Context,
+    o: ObjectNumber,
+    d: ObjectNumber,
+    n: NameNumber,
+    call: &[u8],
+    name: Part,
+)
+    requires { ⌜ GoodRecords (now store) ⌝ }
+    requires { ⌜ LinkableAt (now store) (o .0) (d .0) (n .0) ⌝ }
+    requires { ⌜ name .length ≤ mostNameBytes ⌝ }
+    requires { ⌜ name .start + name .length ≤ length (now call) ⌝ }
+    ensures { λ _. ⌜ now (store .exit) ≡ linkEdit (now (store .entry)) context (o .0) (d .0) (n .0) (cut (now (call .entry)) name) ⌝ }
+{
+    let clock = context.clock;
+    set_attributes(store, clock, o, only_ctime());
+    save_name(store, n, d, o, call, name);
+    touch_directory(store, clock, d);
 }

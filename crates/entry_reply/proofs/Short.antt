@@ -12,17 +12,18 @@ use Rattle.spec.specs.Handles.{handleOf, attributes}
 use Rattle.spec.specs.Image.{Store}
 use Rattle.spec.specs.Count.{bit}
 use Rattle.spec.specs.Procedures.Listing.{entries, entriesAbove}
-use Rattle.spec.specs.Replies.{hyper, fattr3, postOp, preOp, wccData, wccOption, entriesBytes, resultBytes}
+use Rattle.spec.specs.Replies.{hyper, fattr3, postOp, postOpOption, preOp, wccData, wccOption, entriesBytes, resultBytes}
 use Rattle.spec.specs.Rpc.{SUCCESS, accepted}
 use Rattle.laws.proofs.FileBytes.{readFile-length}
 use Rattle.laws.proofs.Words.{words-length, opaque-length}
 use Rattle.rpc.proofs.Stopped.{accepted-length}
-use Rattle.results.specs.Meaning.{handleChangeIn, resultOf}
+use Rattle.results.specs.Meaning.{handleAttributesIn, handleChangeIn, resultOf}
 use Rattle.results.specs.Writable.{Writable}
 use Rattle.results.specs.declared.HandleChange.{HandleChange}
+use Rattle.results.specs.declared.HandleObject.{HandleObject}
 use Rattle.results.specs.declared.Reply.{Reply}
 use Rattle.results.specs.declared.Reply.the-variants as Reply
-use Rattle.reply_bodies.proofs.Sizes.{change-small}
+use Rattle.reply_bodies.proofs.Sizes.{change-small, object-small}
 use Rattle.reply_fields.proofs.ZeroWords.{zeroWords-small}
 
 -- ---- the results of a procedure, which fit into the least reply space after the head of the reply
@@ -34,6 +35,13 @@ renamed-short : (s : Store) (status : ℕ) (c d : HandleChange)
 renamed-short s status c d =
     let k = change-small s c in
     let l = change-small s d in
+    rw (words-length, length-append) (omega arith)
+
+linked-short : (s : Store) (status : ℕ) (o : HandleObject) (c : HandleChange)
+    → Short (words (status ∷ postOpOption (handleAttributesIn s o) ++ wccOption (handleChangeIn s c)))
+linked-short s status o c =
+    let k = object-small s o in
+    let l = change-small s c in
     rw (words-length, length-append) (omega arith)
 
 bytes-short : (ws bytes : List ℕ) → length ws ≡ 25 → length bytes ≤ mostTransferBytes → Short (words ws ++ opaqueBytes bytes)
@@ -52,6 +60,7 @@ module _ (s : Store) (p : ℕ) where
   body-short (Reply.Failed status o) w = lit≤ tt
   body-short (Reply.Changed status c) w = lit≤ tt
   body-short (Reply.Renamed status c d) w = renamed-short s (status .0) c d
+  body-short (Reply.Linked status o c) w = linked-short s (status .0) o c
   body-short (Reply.GotAttributes o) w = lit≤ tt
   body-short (Reply.Found o d) w = lit≤ tt
   body-short (Reply.Granted o bits) w = lit≤ tt

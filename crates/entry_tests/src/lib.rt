@@ -43,7 +43,8 @@ pub fn open(
         return Opened::Refused(Answer::CALL, 0);
     }
     let mut parents = [0u8; Limit::MOST_OBJECTS];
-    let found = check_store(store, used, &mut parents);
+    let mut links = [0u8; Limit::MOST_OBJECTS];
+    let found = check_store(store, used, &mut parents, &mut links);
     let Found::Good(_) = found else {
         return Opened::Refused(Answer::STORE, 0);
     };

@@ -37,10 +37,16 @@ pub shape-yes : (s : Store) (k : Counts) → shapeOf objectLength s ≡ Good k �
 shape-yes s k e = found-yes (goodShape s) (countsOf s) k (sym (shape-is s) ∙ e)
 
 -- ---- the names and the tree
-pub rest-by : (s : Store) (p : ℕ) (parents head next depths : List ℕ) → Framed s → p ≡ objects s → NamesPass s (names s) parents head next
-    → TreePasses s p p depths → NamesAndTreePass s
-rest-by s p parents head next depths t e a b =
-    record { good = a .good; distinct = distinct-all s t parents head next a; named = rw (← e) (b .named); leads = rw (← e) (b .leads) }
+pub rest-by : (s : Store) (p : ℕ) (parents links head next depths : List ℕ) → Framed s → p ≡ objects s → NamesPass s (names s) parents links head next
+    → TreePasses s p p depths → NamesAndTreePass s links
+rest-by s p parents links head next depths t e a b =
+    record {
+      good = a .good;
+      distinct = distinct-all s t parents links head next a;
+      named = rw (← e) (b .named);
+      leads = rw (← e) (b .leads);
+      linked = a .linked;
+    }
 
 -- ---- the records
 used-bit : (u : ℕ) → u ≤ 1 → u ≡ bit (not (eqb u 0))
@@ -51,17 +57,17 @@ used-map : (s : Store) (used : List ℕ) → UsedBy s (objects s) used → UsedM
 unfolding uses isFreeBlock
 used-map s used m = record { used = λ r l. let e = m .uses r l in let o = m .once r l in e ∙ used-bit (uses s r) (omega arith) }
 
-pub records-bad : (s : Store) (used : List ℕ) → recordsPass s ≡ false → RecordVerdict s false used
-records-bad s used e = record { is = sym e; map = λ t. true-false (sym t ∙ e) }
+pub records-bad : (s : Store) (used links : List ℕ) → recordsPass s ≡ false → RecordVerdict s false used links
+records-bad s used links e = record { is = sym e; map = λ t. true-false (sym t ∙ e); linked = λ t. true-false (sym t ∙ e) }
 
-pub root-bad : (s : Store) (used : List ℕ) → isDirectory s 0 ≡ false → RecordVerdict s false used
+pub root-bad : (s : Store) (used links : List ℕ) → isDirectory s 0 ≡ false → RecordVerdict s false used links
 unfolding goodRoot
-root-bad s used e = records-bad s used (fails-root s e)
+root-bad s used links e = records-bad s used links (fails-root s e)
 
-pub records-told : (s : Store) (used : List ℕ) (t : Bool) → isDirectory s 0 ≡ true → ObjectsPass s (objects s) used → Told t s (NamesAndTreePass s)
-    → RecordVerdict s t used
+pub records-told : (s : Store) (used links : List ℕ) (t : Bool) → isDirectory s 0 ≡ true → ObjectsPass s (objects s) used
+    → Told t s (NamesAndTreePass s links) → RecordVerdict s t used links
 unfolding goodRoot
-records-told s used true g a b =
+records-told s used links true g a b =
     let f = b .yes refl in
     let y = records-by s (record {
       root = g;
@@ -72,8 +78,8 @@ records-told s used true g a b =
       used-once = used-once s used (a .map);
       leads = f .leads;
     }) in
-    record { is = sym y; map = λ q. used-map s used (a .map) }
-records-told s used false g a b = records-bad s used (b .no refl)
+    record { is = sym y; map = λ q. used-map s used (a .map); linked = λ q. f .linked }
+records-told s used links false g a b = records-bad s used links (b .no refl)
 
 -- ---- the whole
 -- of a good shape, the store passes where the records do

@@ -7,7 +7,7 @@ use mathlib.Core.Bool.{true}
 use Rattle.kinds.specs.Numbers.{mostObjects}
 use Rattle.spec.specs.Image.{Store, objects}
 use Rattle.spec.specs.Count.{every}
-use Rattle.spec.specs.Check.{isNamedOnce, leadsToRoot}
+use Rattle.spec.specs.Check.{goodNamings, leadsToRoot}
 use Rattle.spec.specs.Room.{parent, above}
 
 -- the root lies d steps above object o, and no fewer
@@ -39,11 +39,11 @@ pub record Steps (s : Store) (p o r : ℕ) : Type 0 where
 -- object o is named as it must be, and its parents lead to the root
 pub record Leads (s : Store) (p o : ℕ) (depths : List ℕ) : Type 0 where
   pub known : Known s p depths
-  pub named : isNamedOnce s o ≡ true
+  pub named : goodNamings s o ≡ true
   pub leads : leadsToRoot s o ≡ true
 
 -- the objects below o are
 pub record TreePasses (s : Store) (p o : ℕ) (depths : List ℕ) : Type 0 where
   pub known : Known s p depths
-  pub named : every o (isNamedOnce s) ≡ true
+  pub named : every o (goodNamings s) ≡ true
   pub leads : every o (leadsToRoot s) ≡ true

@@ -29,24 +29,26 @@ fn inside_map() -> [u8; 64]
     inside
 }
 
-// Whether the name records pass, and the tree that they make. `parents` is a map of zeros.
+// Whether the name records pass, and the tree that they make, with maps of zeros. Where they do, leaves in `links` the number of names of each object.
 fn names_and_tree(
     store: &[u8],
     inside: &[u8; 64],
     p: usize,
     q: usize,
     parents: &mut [u8; Limit::MOST_OBJECTS],
+    links: &mut [u8; Limit::MOST_OBJECTS],
 ) -> bool
     requires { ⌜ Framed (now store) ⌝ }
     requires { ⌜ p ≡ objects (now store) ⌝ }
     requires { ⌜ q ≡ names (now store) ⌝ }
     requires { ⌜ Inside (now inside) ⌝ }
     requires { ⌜ Blank mostObjects (now parents) ⌝ }
-    ensures { λ r. ⌜ Told r (now (store .entry)) (NamesAndTreePass (now (store .entry))) ⌝ }
+    requires { ⌜ Blank mostObjects (now links) ⌝ }
+    ensures { λ r. ⌜ Told r (now (store .entry)) (NamesAndTreePass (now (store .entry)) (now (links .exit))) ⌝ }
 {
     let mut head = [0u8; 256];
     let mut next = [0u8; Limit::MOST_NAME_RECORDS];
-    if !names_pass(store, inside, p, q, parents, &mut head, &mut next) {
+    if !names_pass(store, inside, p, q, parents, links, &mut head, &mut next) {
         return false;
     }
     let mut depths = [0u8; Limit::MOST_OBJECTS];
@@ -54,7 +56,8 @@ fn names_and_tree(
 }
 
 // Checks the records of a store of p objects, q name records and r blocks, with maps of zeros: the bytes before the first block are enough. Where they
-// pass, leaves in `used` a byte for each block, 1 where it is used and else 0. `parents` is room to work in.
+// pass, leaves in `used` a byte for each block, 1 where it is used and else 0, and in `links` the number of names of each object. `parents` is room to
+// work in.
 pub fn records_pass(
     store: &[u8],
     p: usize,
@@ -62,6 +65,7 @@ pub fn records_pass(
     r: usize,
     used: &mut [u8; Limit::MOST_BLOCKS],
     parents: &mut [u8; Limit::MOST_OBJECTS],
+    links: &mut [u8; Limit::MOST_OBJECTS],
 ) -> bool
     requires { ⌜ Framed (now store) ⌝ }
     requires { ⌜ p ≡ objects (now store) ⌝ }
@@ -69,7 +73,8 @@ pub fn records_pass(
     requires { ⌜ r ≡ blocks (now store) ⌝ }
     requires { ⌜ Blank mostBlocks (now used) ⌝ }
     requires { ⌜ Blank mostObjects (now parents) ⌝ }
-    ensures { λ t. ⌜ RecordVerdict (now (store .entry)) t (now (used .exit)) ⌝ }
+    requires { ⌜ Blank mostObjects (now links) ⌝ }
+    ensures { λ t. ⌜ RecordVerdict (now (store .entry)) t (now (used .exit)) (now (links .exit)) ⌝ }
 {
     if !is_directory(store, ObjectNumber(0)) {
         return false;
@@ -78,7 +83,7 @@ pub fn records_pass(
     if !objects_pass(store, &inside, p, r, used) {
         return false;
     }
-    names_and_tree(store, &inside, p, q, parents)
+    names_and_tree(store, &inside, p, q, parents, links)
 }
 
 // Checks a store of any bytes, with maps of zeros. Of one that passes, gives its counts, and leaves the same in `used`. A local map in the place
@@ -87,9 +92,11 @@ pub fn check_store(
     store: &[u8],
     used: &mut [u8; Limit::MOST_BLOCKS],
     parents: &mut [u8; Limit::MOST_OBJECTS],
+    links: &mut [u8; Limit::MOST_OBJECTS],
 ) -> Found
     requires { ⌜ Blank mostBlocks (now used) ⌝ }
     requires { ⌜ Blank mostObjects (now parents) ⌝ }
+    requires { ⌜ Blank mostObjects (now links) ⌝ }
     ensures { λ r. ⌜ Verdict (now (store .entry)) r (now (used .exit)) ⌝ }
 {
     let found = shape(store, ObjectRecord::BYTES);
@@ -99,7 +106,7 @@ pub fn check_store(
     let p = counts.objects;
     let q = counts.names;
     let r = counts.blocks;
-    if !records_pass(store, p, q, r, used, parents) {
+    if !records_pass(store, p, q, r, used, parents, links) {
         return Found::Bad;
     }
     Found::Good(counts)

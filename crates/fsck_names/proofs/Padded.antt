@@ -17,7 +17,7 @@ use Rattle.spec.specs.Image.{Store}
 use Rattle.spec.specs.Names.{isDots, goodByte, goodBytes, goodName}
 use Rattle.spec.specs.Check.{isZero}
 use Rattle.laws.proofs.Bytes.{part-add, part-length, same-eq, same-yes}
-use Rattle.laws.proofs.Count.{by-bool, true-false}
+use Rattle.laws.proofs.Count.{by-bool, true-false, every-ext}
 use Rattle.laws.proofs.Range.{Below, bytes-kept}
 use Rattle.fsck_objects.specs.Objects.{Inside}
 use Rattle.laws.proofs.Zeros.{all-none, all-next, zero-add, zero-number}
@@ -26,11 +26,6 @@ use Rattle.fsck_names.specs.Record.{isText}
 use Rattle.fsck_names.proofs.NameLength.{name-is}
 
 -- ---- tests of the numbers below a bound
-every-ext : (p q : ℕ → Bool) (n : ℕ) → ((i : ℕ) → i < n → p i ≡ q i) → every n p ≡ every n q
-unfolding every
-every-ext p q zero f = refl
-every-ext p q (suc n) f = ap₂ (λ (t u : Bool). t && u) (every-ext p q n (λ i l. f i (omega arith))) (f n (omega arith))
-
 every-split : (p : ℕ → Bool) (m n : ℕ) → every (m + n) p ≡ every m p && every n (λ i. p (m + i))
 unfolding every
 every-split p m zero = rw add-zero (sym (and-true (every m p)))

@@ -19,46 +19,55 @@ use Rattle.laws.proofs.Count.{by-bool, true-false, count-one, every-at, every-a
 use Rattle.laws.proofs.Valid.{Framed, UsedName}
 use Rattle.fsck_objects.specs.Objects.{Blank}
 use Rattle.fsck_names.specs.Distinct.{isSame, Chains}
-use Rattle.fsck_names.specs.Named.{NamedBy}
+use Rattle.fsck_names.specs.Named.{NamedBy, LinkedBy}
 use Rattle.fsck_names.specs.Names.{NamesPass}
 use Rattle.fsck_names.proofs.Joins.{used-passes}
 use Rattle.fsck_names.proofs.Same.{alike, same-self, same-back}
 use Rattle.fsck_names.proofs.Chained.{chains-none, chains-free}
-use Rattle.fsck_names.proofs.Parents.{parents-none, parents-free}
+use Rattle.fsck_names.proofs.Parents.{parents-none, links-none, parents-free, links-free}
 
-pub names-none : (s : Store) (parents head next : List ℕ) → Blank mostObjects parents → Blank 256 head → Blank mostNameRecords next
-    → NamesPass s 0 parents head next
+pub names-none : (s : Store) (parents links head next : List ℕ) → Blank mostObjects parents → Blank mostObjects links → Blank 256 head
+    → Blank mostNameRecords next → NamesPass s 0 parents links head next
 unfolding every
-names-none s parents head next a b d =
-    record { good = refl; new = λ k m l. absurd (not-suc-le-zero l); chains = chains-none s head next b d; named = parents-none s parents a }
+names-none s parents links head next a e b d =
+    record {
+      good = refl;
+      new = λ k m l. absurd (not-suc-le-zero l);
+      chains = chains-none s head next b d;
+      named = parents-none s parents a;
+      linked = links-none s links e;
+    }
 
 -- a free record
-pub names-free : (s : Store) (n : ℕ) (parents head next : List ℕ) → NamesPass s n parents head next → goodNameRecord s n ≡ true → isUsedName s n ≡ false
-    → NamesPass s (n + 1) parents head next
-names-free s n parents head next a g u =
+pub names-free : (s : Store) (n : ℕ) (parents links head next : List ℕ) → NamesPass s n parents links head next → goodNameRecord s n ≡ true
+    → isUsedName s n ≡ false → NamesPass s (n + 1) parents links head next
+names-free s n parents links head next a g u =
     record {
       good = every-more (goodNameRecord s) n (a .good) g;
       new = λ k m l q v. by-cases (ℕ-discrete k n) (λ (e : k ≡ n). true-false (sym (rw e at v) ∙ u)) (λ (d : k ≢ n). a .new k m (omega arith) q v);
       chains = chains-free s n head next (a .chains) u;
       named = parents-free s n parents u (a .named);
+      linked = links-free s n links u (a .linked);
     }
 
 -- a used record whose name is new
-pub names-used : (s : Store) (n : ℕ) (parents head next parents′ head′ next′ : List ℕ) → NamesPass s n parents head next → goodNameRecord s n ≡ true
-    → ((m : ℕ) → m < n → isSame s n m ≡ false) → Chains s (n + 1) head′ next′ → NamedBy s (n + 1) parents′
-    → NamesPass s (n + 1) parents′ head′ next′
-names-used s n parents head next parents′ head′ next′ a g f b d =
+pub names-used : (s : Store) (n : ℕ) (parents links head next parents′ links′ head′ next′ : List ℕ) → NamesPass s n parents links head next
+    → goodNameRecord s n ≡ true → ((m : ℕ) → m < n → isSame s n m ≡ false) → Chains s (n + 1) head′ next′
+    → NamedBy s (n + 1) parents′ × LinkedBy s (n + 1) links′ → NamesPass s (n + 1) parents′ links′ head′ next′
+names-used s n parents links head next parents′ links′ head′ next′ a g f b d =
     record {
       good = every-more (goodNameRecord s) n (a .good) g;
       new = λ k m l q v. by-cases (ℕ-discrete k n) (λ (e : k ≡ n). rw e (f m (omega arith))) (λ (x : k ≢ n). a .new k m (omega arith) q v);
       chains = b;
-      named = d;
+      named = d .0;
+      linked = d .1;
     }
 
 -- ---- every name is distinct
-pub distinct-all : (s : Store) (t : Framed s) (parents head next : List ℕ) → NamesPass s (names s) parents head next → every (names s) (isDistinct s) ≡ true
+pub distinct-all : (s : Store) (t : Framed s) (parents links head next : List ℕ) → NamesPass s (names s) parents links head next
+    → every (names s) (isDistinct s) ≡ true
 unfolding isDistinct
-distinct-all s t parents head next a =
+distinct-all s t parents links head next a =
     every-all (isDistinct s) (names s) (λ n l. by-bool (isUsedName s n) (λ u. rw (u, one n l u)) (λ u. rw u))
   where
     well : (n : ℕ) → n < names s → isUsedName s n ≡ true → UsedName s n

@@ -4,7 +4,7 @@ use mathlib.Core.Bool.{Bool, true, false}
 use Prim.Native.Nat.{ℕ, _<_}
 use Rattle.spec.specs.Count.{every}
 use Rattle.spec.specs.Image.{Store, objects, names}
-use Rattle.spec.specs.Check.{goodRoot, goodObject, goodNameRecord, isDistinct, isNamedOnce, leadsToRoot, recordsPass}
+use Rattle.spec.specs.Check.{goodRoot, goodObject, goodNameRecord, isDistinct, goodNamings, leadsToRoot, recordsPass}
 use Rattle.fsck_objects.specs.Told.{Told}
 use Rattle.laws.proofs.Count.{by-bool, true-false, every-at}
 use Rattle.laws.proofs.Demands.{RecordDemands, record-demands}
@@ -30,8 +30,8 @@ module _ (s : Store) where
   pub fails-distinct : (n : ℕ) → n < names s → isDistinct s n ≡ false → recordsPass s ≡ false
   fails-distinct n h e = fails s (λ d. not-every (isDistinct s) (names s) n (d .distinct) h e)
 
-  pub fails-named : (o : ℕ) → o < objects s → isNamedOnce s o ≡ false → recordsPass s ≡ false
-  fails-named o h e = fails s (λ d. not-every (isNamedOnce s) (objects s) o (d .named) h e)
+  pub fails-named : (o : ℕ) → o < objects s → goodNamings s o ≡ false → recordsPass s ≡ false
+  fails-named o h e = fails s (λ d. not-every (goodNamings s) (objects s) o (d .named) h e)
 
   pub fails-leads : (o : ℕ) → o < objects s → leadsToRoot s o ≡ false → recordsPass s ≡ false
   fails-leads o h e = fails s (λ d. not-every (leadsToRoot s) (objects s) o (d .leads) h e)

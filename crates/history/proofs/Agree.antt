@@ -19,8 +19,8 @@ use Rattle.history.specs.Book.{handleUnder}
 use Rattle.history.proofs.Sum.{or-right, ind, ind-same, ind-yes, ind-no, ind-true}
 use Rattle.history.proofs.Lists.{same-true, All, without, without-same, without-other, all-times, times-without, times-without-other}
 use Rattle.history.proofs.View.{View, LiveIn, UsedIn, At, entriesAt, SameRecord, no-entry}
-use Rattle.history.proofs.Tree.{Tree, one-name, one-entry}
-use Rattle.history.proofs.Change.{Created, Removed, Moved}
+use Rattle.history.proofs.Tree.{Tree, one-entry}
+use Rattle.history.proofs.Change.{Named, Removed, Moved, named-gens, named-kinds, named-records, child-stays}
 use Rattle.history.proofs.Handles.{same-object}
 
 -- the handle of object i
@@ -93,19 +93,18 @@ agrees-same σ v w b o n A =
           cc;
     }
 
--- an object is created: its line is added
-module _ (P Q σ : ℕ) (v w : View) (o q k d : ℕ) (t : List ℕ) (T : Tree P Q v) (B : Created P Q v w o q k d t) (b : Book) (A : Agrees σ v b) where
+-- an object gets a name: its line is added
+module _ (P Q σ : ℕ) (v w : View) (o q k d : ℕ) (t : List ℕ) (T : Tree P Q v) (B : Named P Q v w o q k d t) (b : Book) (A : Agrees σ v b) where
   kept : (i : ℕ) → LiveIn v i → (w .kind i ≡ v .kind i) × (w .gen i ≡ v .gen i)
-  kept i l = B .obj .other i (λ e. omega (arith, B .was-free, ap (v .kind) e))
+  kept i l = (named-kinds P Q v w o q k d t B i l, named-gens P Q v w o q k d t B i)
 
   added-line : (p : ℕ) → UsedIn v p → lineOf σ v p ≡ lineOf σ w p
-  added-line p u = same-line σ v w p
-      (B .nam .other p (λ e. omega (arith, B .was-blank, ap (λ (x : ℕ). length (v .text x)) e)))
+  added-line p u = same-line σ v w p (named-records P Q v w o q k d t B p u)
       (kept (v .child p) (T .flat .ends p u)) (kept (v .dir p) (omega (arith, T .flat .dirs p u)) .1)
 
-  pub created-agrees : Agrees σ w (record { handle = handleIn σ v o; kind = k; standing = under (handleIn σ v d) t } ∷ b)
+  pub named-agrees : Agrees σ w (record { handle = handleIn σ v o; kind = k; standing = under (handleIn σ v d) t } ∷ b)
   unfolding times
-  created-agrees = record {
+  named-agrees = record {
     order = q ∷ A .order;
     each = λ p. by-cases (ℕ-discrete q p)
         (λ e. omega (
@@ -149,16 +148,14 @@ module _ (P Q σ : ℕ) (v : View) (T : Tree P Q v) (q : ℕ) (u : UsedIn v q) w
   pub not-root : rootLine σ v .standing ≡ under (handleIn σ v (v .dir q)) (v .text q) → ⊥
   not-root h = let z : _≡_ {A = ℕ} 0 1 = cc in omega arith
 
--- an object is removed: its line is struck
-module _ (P Q σ : ℕ) (v w : View) (o q d c : ℕ) (T : Tree P Q v) (G : Removed P Q v w o q d c) (b : Book) (A : Agrees σ v b) where
+-- a name is removed: its line is struck
+module _ (P Q σ : ℕ) (v w : View) (o q : ℕ) (T : Tree P Q v) (G : Removed Q v w o q) (b : Book) (A : Agrees σ v b) where
   D : List ℕ
   D = handleIn σ v (v .dir q)
 
   removed-line : (p : ℕ) → UsedIn v p → p ≢ q → lineOf σ v p ≡ lineOf σ w p
   removed-line p u n =
-      same-line σ v w p (G .nam .other p n)
-      (G .obj .other (v .child p) (λ e. n (one-name P Q v (T .flat) o p q (G .last) (u, e) (G .named))))
-      (G .obj .other (v .dir p) (G .empty p u) .1)
+      same-line σ v w p (G .nam .other p n) (child-stays P Q v w o q T G p u n) (G .other (v .dir p) (G .empty p u) .1)
 
   struck-one : (l : Line) (ls : Book) → l .standing ≡ under D (v .text q) → strikeLines D (v .text q) (l ∷ ls) ≡ strikeLines D (v .text q) ls
   unfolding strikeLines
@@ -177,7 +174,7 @@ module _ (P Q σ : ℕ) (v w : View) (o q d c : ℕ) (T : Tree P Q v) (G : Remov
   unfolding D without
   removed-lines [] h =
       struck-not (rootLine σ v) [] (not-root P Q σ v T q (G .named .0)) ∙ ap (λ (x : Book). rootLine σ v ∷ x) struck-nil
-      ∙ ap (λ (x : Line). x ∷ []) (same-root σ v w (G .obj .other 0 (λ e. G .not-root (sym e))))
+      ∙ ap (λ (x : Line). x ∷ []) (same-root σ v w (G .other 0 (λ e. G .not-root (sym e))))
   removed-lines (p ∷ ks) h =
       let r = removed-lines ks (h .1) in
       let s = map (lineOf σ v) ks ++ (rootLine σ v ∷ []) in

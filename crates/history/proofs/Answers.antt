@@ -14,14 +14,14 @@ use Rattle.kinds.specs.declared.call.Part.{Part}
 use Rattle.kinds.specs.declared.call.Arguments.the-variants as Call
 use Rattle.spec.specs.Bytes.{beAt, words}
 use Rattle.spec.specs.Checked.{Checked, refused, passed}
-use Rattle.spec.specs.Handles.{reach, attributes, sizeAttribute}
+use Rattle.spec.specs.Handles.{reach, attributes, sizeAttribute, linkCount}
 use Rattle.spec.specs.Image.{Store, stamp, objects, blocks, objectAt}
 use Rattle.spec.specs.Procedures.{cut, act}
 use Rattle.spec.specs.Procedures.Attributes.{getattr}
 use Rattle.spec.specs.Procedures.Volume.{roomResult, fsstat}
 use Rattle.spec.specs.Replies.{resultBytes, fattr3, postOp, hyper}
 use Rattle.spec.specs.Results.{Result, Done, dead, gotAttributes, settle, unchanged, failShowing}
-use Rattle.spec.specs.Room.{isLive, isDirectory, isFreeBlock, isAvailable, sizeOf, freeBlockCount, availableCount}
+use Rattle.spec.specs.Room.{isLive, isDirectory, isFreeBlock, isAvailable, sizeOf, freeBlockCount, availableCount, namings, subdirectories}
 use Rattle.spec.specs.Rpc.{accepted}
 use Rattle.laws.proofs.Count.{by-bool, count-bound}
 use Rattle.laws.proofs.Error.{statusOf}
@@ -31,9 +31,10 @@ use Rattle.laws.proofs.Valid.{true-live}
 use Rattle.history.specs.Book.{Ledger, handleBytes, isStatus, isOk}
 use Rattle.history.specs.Run.{Request, replyTo}
 use Rattle.history.specs.Statement as Shown
-use Rattle.history.specs.Statement.{HasLine, Names, Asks, objectIn, shownKind, shownTotal, shownFree, shownFreeAgain}
+use Rattle.history.specs.Statement.{HasLine, linesOf, Names, Asks, objectIn, shownKind, shownLinks, shownTotal, shownFree, shownFreeAgain}
 use Rattle.history.specs.Statement.{shownObjects, shownAvailable, shownAvailableAgain}
 use Rattle.history.proofs.View.{LiveIn}
+use Rattle.history.proofs.Agree.{handleIn}
 use Rattle.history.proofs.Handles.{handle-length, handle-stamp, handle-object, handle-generation}
 use Rattle.history.proofs.Replies.{BeginsReply, begins, word-of, long-of, ok-is, answered-is}
 use Rattle.history.proofs.Seen.{view, kind-at, gen-at, live-in}
@@ -42,6 +43,7 @@ use Rattle.history.proofs.Making.{handle-seen}
 use Rattle.laws.proofs.Handles.{reach-own}
 use Rattle.laws.proofs.FreeRoom.{good-size-small}
 use Rattle.history.proofs.Lines.{lined-current}
+use Rattle.history.proofs.Counts.{file-namings, file-lines}
 use Rattle.history.proofs.Later.{small-live}
 use Rattle.history.proofs.Noted.{dead-says}
 use Rattle.history.proofs.Next.{answer-to}
@@ -99,11 +101,11 @@ module _ (σ p q r : ℕ) (s : Store) (L : Ledger) (I : Inv σ p q r s L) where
 
   -- a handle with a line is reached
   pub reach-lined : (g : List ℕ) (kind : ℕ) → HasLine (L .book) g kind
-      → (o : ℕ) × (reach s g ≡ passed o) × LiveIn (view s) o × (view s .kind o ≡ kind) × (objectIn g ≡ o)
+      → (o : ℕ) × (reach s g ≡ passed o) × LiveIn (view s) o × (view s .kind o ≡ kind) × (objectIn g ≡ o) × (g ≡ handleIn σ (view s) o)
   reach-lined g kind x =
       let (o, v, e, f) = lined-current σ p q r s L I g kind x in
       let n = small-live σ p q r s L I o v in
-      (o, names-at g o (view s .gen o) kind v e refl f .reached, v, f, ap objectIn e ∙ handle-object σ o (view s .gen o) (n .0))
+      (o, names-at g o (view s .gen o) kind v e refl f .reached, v, f, ap objectIn e ∙ handle-object σ o (view s .gen o) (n .0), e)
 
   -- ---- GETATTR
   got-attributes : (x : Request) (h : Part) → Asks x (Call.Getattr h) → (o : ℕ) → reach s (cut (x .call) h) ≡ passed o
@@ -123,7 +125,7 @@ module _ (σ p q r : ℕ) (s : Store) (L : Ledger) (I : Inv σ p q r s L) where
       → (isOk (replyTo s x) ≡ true) × (shownKind (replyTo s x) ≡ kind)
   unfolding fattr3 attributes
   getattr-live x h kind k l =
-      let (o, e, v, f, i) = reach-lined (cut (x .call) h) kind l in
+      let (o, e, v, f, i, own) = reach-lined (cut (x .call) h) kind l in
       let (xid, b) = got-attributes x h k o e in
       let ws : List ℕ = 0 ∷ fattr3 (attributes s o) in
       let n = live-in s o v in (
@@ -135,13 +137,27 @@ module _ (σ p q r : ℕ) (s : Store) (L : Ledger) (I : Inv σ p q r s L) where
       → Shown.shownSize (replyTo s x) ≡ sizeOf s (objectIn (cut (x .call) h))
   unfolding fattr3 attributes sizeAttribute isDirectory
   getattr-size x h k l =
-      let (o, e, v, f, i) = reach-lined (cut (x .call) h) 1 l in
+      let (o, e, v, f, i, own) = reach-lined (cut (x .call) h) 1 l in
       let (xid, b) = got-attributes x h k o e in
       let ws : List ℕ = 0 ∷ fattr3 (attributes s o) in
       let n = live-in s o v in
       let z : sizeAttribute s o ≡ sizeOf s o = ap (λ (t : Bool). cond t 512 (sizeOf s o)) (ne-eqb (objectAt s o .kind) 2 (λ d. omega (arith, kind-at s o n))) in
       let small : sizeAttribute s o < 4294967296 = omega (arith, good-size-small s o (I .valid .good-objects o n)) in
       long-of (replyTo s x) xid ws [] b 6 (omega arith) (lit< tt) small ∙ omega (arith, z, ap (sizeOf s) i)
+
+  -- "A file's nlink counts its names"
+  pub getattr-links : (x : Request) (h : Part) → Asks x (Call.Getattr h) → HasLine (L .book) (cut (x .call) h) 1
+      → shownLinks (replyTo s x) ≡ linesOf (cut (x .call) h) (L .book)
+  unfolding fattr3 attributes linkCount isDirectory
+  getattr-links x h k l =
+      let (o, e, v, f, i, own) = reach-lined (cut (x .call) h) 1 l in
+      let (xid, b) = got-attributes x h k o e in
+      let ws : List ℕ = 0 ∷ fattr3 (attributes s o) in
+      let n = live-in s o v in
+      let z : linkCount s o ≡ namings s o =
+      ap (λ (t : Bool). cond t (2 + subdirectories s o) (namings s o)) (ne-eqb (objectAt s o .kind) 2 (λ d. omega (arith, kind-at s o n))) in
+      let lines = file-namings σ p q r s L I (cut (x .call) h) o own f in
+      word-of (replyTo s x) xid ws [] b 3 (omega arith) (omega (arith, z, lines, file-lines σ p q r s L I (cut (x .call) h) l)) ∙ z ∙ sym lines
 
   -- ---- a removed handle
   pub getattr-stale : (x : Request) (h : Part) → Asks x (Call.Getattr h) → (o g : ℕ) → o < p → g < 4294967296 → g < view s .gen o
@@ -186,7 +202,7 @@ module _ (σ p q r : ℕ) (s : Store) (L : Ledger) (I : Inv σ p q r s L) where
       × (shownAvailable (replyTo s x) ≡ availableCount s) × (shownAvailableAgain (replyTo s x) ≡ availableCount s)
   unfolding roomWords postOp fattr3 freeBlockCount availableCount
   fsstat-room x h kind k l =
-      let (o, e, v, f, i) = reach-lined (cut (x .call) h) kind l in
+      let (o, e, v, f, i, own) = reach-lined (cut (x .call) h) kind l in
       let (xid, b) = got-room x h k o e in
       let few : freeBlockCount s ≤ blocks s = count-bound (blocks s) (isFreeBlock s) in
       let some : availableCount s ≤ objects s = count-bound (objects s) (isAvailable s) in

@@ -1,10 +1,10 @@
--- That a request asks for room, in the words of the checks themselves. `Conditions` has that these are the words of the book. Assumes nothing.
+-- That a request asks for room, or for one name too many, in the words of the checks themselves. `Conditions` has that these are the words of the book. Assumes nothing.
 use mathlib.Core.Path.{_≡_}
 use mathlib.Core.Bool.{true, false, _&&_, _||_}
 use mathlib.Core.Option.{some, none}
 use Prim.Native.Nat.{ℕ, _+_, _≤_, _<_, min}
 use lib.ListN.{length}
-use Rattle.kinds.specs.Numbers.{mostTransferBytes, mostFileBytes}
+use Rattle.kinds.specs.Numbers.{mostTransferBytes, mostFileBytes, mostLinks}
 use Rattle.kinds.specs.declared.call.Part.{Part}
 use Rattle.kinds.specs.declared.call.NameIn.{NameIn}
 use Rattle.kinds.specs.declared.call.Settable.{Settable}
@@ -19,9 +19,10 @@ use Rattle.spec.specs.Procedures.{cut}
 use Rattle.spec.specs.Procedures.Attributes.{isGiven, sizeSet, badAttributes, differs}
 use Rattle.spec.specs.Procedures.Data.{reachRegular, grown}
 use Rattle.spec.specs.Procedures.Names.{settableIn, checkNew}
-use Rattle.spec.specs.Room.{isRegular, isDirectory, sizeOf, findName}
+use Rattle.spec.specs.Room.{isRegular, isDirectory, sizeOf, namings, findName}
 use Rattle.history.specs.Run.{Request}
-use Rattle.history.specs.Statement.{Asks, Room, growth, newObject}
+use Rattle.history.specs.Statement.{Asks, Room, growth, newObject, newName}
+use Rattle.history.proofs.Statuses.{MayAdd}
 
 -- the request passes the earlier checks of its procedure, and asks for this room
 pub data AsksStore (s : Store) (x : Request) : Room → Type 0 where
@@ -53,3 +54,15 @@ pub data AsksStore (s : Store) (x : Request) : Room → Type 0 where
       → checkNew (cut (x .call) (target .name)) (badAttributes a || isGiven (a .size)) ≡ passed tt
       → findName s d (cut (x .call) (target .name)) ≡ none
       → AsksStore s x (newObject 0)
+  -- LINK of a file that may have another name
+  byLink : (source : Part) (target : NameIn) (o d : ℕ) → Asks x (Call.Link source target)
+      → MayAdd s (cut (x .call) source) (cut (x .call) (target .directory)) (cut (x .call) (target .name)) o d
+      → namings s o < mostLinks
+      → AsksStore s x newName
+
+-- LINK of a file that has as many names as it may
+abbrev pub AsksMany : Store → Request → Type 0
+AsksMany s x =
+    (source : Part) × (target : NameIn) × (o : ℕ) × (d : ℕ) × Asks x (Call.Link source target)
+    × MayAdd s (cut (x .call) source) (cut (x .call) (target .directory)) (cut (x .call) (target .name)) o d
+    × (mostLinks ≤ namings s o)

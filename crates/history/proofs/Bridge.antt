@@ -9,6 +9,7 @@ use lib.ListN.{length, take, getD, length-take}
 use lib.Seq.{getD-take}
 use Rattle.kinds.specs.Layout.{blocksOffset}
 use Rattle.kinds.specs.Numbers.{fileBlocks}
+use Rattle.spec.specs.Check.{mostNames}
 use Rattle.spec.specs.Count.{times}
 use Rattle.spec.specs.Image.{Store, objects, names, blocks, objectAt, objectFrom, objectStart, nameAt}
 use Rattle.spec.specs.Room.{held, sizeOf, need}
@@ -19,9 +20,9 @@ use Rattle.laws.proofs.FreeRoom.{good-size-small}
 use Rattle.history.proofs.Sum.{ind, ind-yes}
 use Rattle.history.proofs.Lists.{All, all-times, times-all, times-place}
 use Rattle.history.proofs.View.{LiveIn, UsedIn, At, at?, entriesAt, entry-by}
-use Rattle.history.proofs.Tree.{Flat, Tree, lone, live-bound, path-short}
+use Rattle.history.proofs.Tree.{Flat, Tree}
 use Rattle.history.proofs.Room.{Room}
-use Rattle.history.proofs.Walk.{path-walk, walk-path}
+use Rattle.history.proofs.Walk.{live-walk, walk-path}
 use Rattle.history.proofs.Seen.{view, heldBy, kind-at, dir-at, child-at, text-at, held-at, live-in, used-in, held-in, uses-same, text-long}
 use Rattle.history.proofs.Seen.{namings-same, entries-same, above-same}
 
@@ -58,7 +59,7 @@ module _ (s : Store) (K : Valid s) where
         once = λ i n l.
             let k = live-in s i l in
             let x : 0 < objectAt s i .kind = omega (arith, kind-at s i k) in
-            (omega (arith, namings-same s (K .good-names) i, K .named .named i k n x), omega (arith, namings-same s (K .good-names) i, K .named .few i k n x));
+            (omega (arith, namings-same s (K .good-names) i, K .named .named i k n x), omega (arith, namings-same s (K .good-names) i, K .named .few i k n x, ap mostNames (kind-at s i k)));
         apart = λ d t. by-cases (decLt 0 (entriesAt (names s) (view s) d t))
             (λ h. let (n, l, x) = entry-by (names s) (view s) d t h in
             let u = used-name n (x .0) in
@@ -78,7 +79,7 @@ module _ (s : Store) (K : Valid s) where
         flat = flat-of;
         leads = λ i l.
             let k = live-in s i l in
-            walk-path (objects s) (names s) (view s) flat-of (objects s) i l (lone (objects s) (names s) (view s) flat-of i l)
+            walk-path (objects s) (names s) (view s) flat-of (objects s) i l
             (above-same s (K .good-names) (objects s) i ∙ K .leads i k (omega (arith, kind-at s i k)));
       }
 
@@ -144,13 +145,10 @@ valid-of s w g n T u =
           record {
             root = sym (namings-same s n 0) ∙ T .flat .never;
             named = λ o l z h. omega (arith, namings-same s n o, T .flat .once o z (omega (arith, kind-at s o l)));
-            few = λ o l z h. omega (arith, namings-same s n o, T .flat .once o z (omega (arith, kind-at s o l)));
+            few = λ o l z h. omega (arith, namings-same s n o, T .flat .once o z (omega (arith, kind-at s o l)), ap mostNames (kind-at s o l));
           };
       used-once = u;
       leads = λ o l h.
-          let x : LiveIn (view s) o = omega (arith, kind-at s o l) in
-          let r = T .leads o x in
           sym (above-same s n (objects s) o)
-          ∙ path-walk (objects s) (names s) (view s) (T .flat) (objects s) o (r .0) (lone (objects s) (names s) (view s) (T .flat) o x)
-          (omega (arith, path-short (objects s) (names s) (view s) T (r .0) o (r .1), live-bound (objects s) (view s))) (r .1);
+          ∙ live-walk (objects s) (names s) (view s) (T .flat) T o (omega (arith, kind-at s o l));
     }

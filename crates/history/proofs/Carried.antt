@@ -1,11 +1,12 @@
--- Every handle in an OK reply is a live object's after the call. Assumes nothing.
+-- Every handle in an OK reply is a live object's after the call, and that of a line which CREATE or MKDIR adds is new. Assumes nothing.
 use mathlib.Core.Path.{_≡_, refl, sym, ap, _∙_, subst}
 use mathlib.Core.Logic.{_⊎_}
 use mathlib.Core.Bool.{true}
 use mathlib.Core.Option.{Option, some, none}
-use mathlib.Core.List.{List}
+use mathlib.Core.List.{List, _∷_}
 use Prim.Native.Nat.{ℕ}
 use native.Mathlib.Omega.{arith}
+use lib.ListN.{length}
 use Rattle.kinds.specs.declared.call.NameIn.{NameIn}
 use Rattle.kinds.specs.declared.call.Settable.{Settable}
 use Rattle.kinds.specs.declared.call.How.{How}
@@ -19,14 +20,14 @@ use Rattle.spec.specs.Procedures.Names.{checkLookup}
 use Rattle.spec.specs.Procedures.Names as Spec
 use Rattle.spec.specs.Results.{unchanged, failShowing, settle, found}
 use Rattle.spec.specs.Room.{parent}
-use Rattle.laws.proofs.Count.{true-false, lowest-passes}
+use Rattle.laws.proofs.Count.{by-bool, true-false, lowest-passes}
 use Rattle.history.proofs.Sum.{holds, holds-true}
 use Rattle.laws.proofs.Error.{lookup-store}
 use Rattle.laws.proofs.Passed.{lookup-passed, look-found}
 use Rattle.laws.proofs.Valid.{passes-valid}
-use Rattle.history.specs.Book.{Ledger, asked, foundHandle, madeHandle, isOk, note}
+use Rattle.history.specs.Book.{Line, Ledger, asked, foundHandle, madeHandle, isOk, note}
 use Rattle.history.specs.Run.{Request, Lent, outcomeOf, replyTo}
-use Rattle.history.specs.Statement.{Asks, Carries, lookup, create, mkdir}
+use Rattle.history.specs.Statement.{In, Asks, Carries, lookup, create, mkdir, Makes, makesFile, makesDirectory}
 use Rattle.history.proofs.View.{LiveIn, names?}
 use Rattle.history.proofs.Tree.{Tree}
 use Rattle.history.proofs.Walk.{directoryAt, naming}
@@ -115,7 +116,7 @@ module _ (σ p q r : ℕ) (s : Store) (L : Ledger) (I : Inv σ p q r s L) where
 
     -- what an OK reply to CREATE and to MKDIR owes: their handle has a line
     pub file-made : (place : NameIn) (manner : How) → asked (x .call) ≡ some (Call.Create place manner)
-        → Made σ p q r s (act s (x .context) (x .call) (Call.Create place manner) .store) (note (x .call) (replyTo s x) L)
+        → Made σ p q r s (act s (x .context) (x .call) (Call.Create place manner) .store) L (note (x .call) (replyTo s x) L)
         (cut (x .call) (place .directory)) (cut (x .call) (place .name)) (replyTo s x)
     unfolding act
     file-made place manner e =
@@ -125,7 +126,7 @@ module _ (σ p q r : ℕ) (s : Store) (L : Ledger) (I : Inv σ p q r s L) where
         (asked-fits (x .call) (l .bytes) a e) (answer-to σ p q r s L I x a k)
 
     directory-made : (place : NameIn) (b : Settable) → asked (x .call) ≡ some (Call.Mkdir place b)
-        → Made σ p q r s (act s (x .context) (x .call) (Call.Mkdir place b) .store) (note (x .call) (replyTo s x) L)
+        → Made σ p q r s (act s (x .context) (x .call) (Call.Mkdir place b) .store) L (note (x .call) (replyTo s x) L)
         (cut (x .call) (place .directory)) (cut (x .call) (place .name)) (replyTo s x)
     unfolding act
     directory-made place b e =
@@ -134,7 +135,7 @@ module _ (σ p q r : ℕ) (s : Store) (L : Ledger) (I : Inv σ p q r s L) where
         mkdir-made σ p q r s L I (x .context) (clocked σ p q r s L I x a l k) (x .call) (replyTo s x) (l .bytes) place b
         (asked-fits (x .call) (l .bytes) a e) (answer-to σ p q r s L I x a k)
 
-    made-current : {u : Store} {M : Ledger} {d text : List ℕ} → Made σ p q r s u M d text (replyTo s x) → Current σ (view u) (madeHandle (replyTo s x))
+    made-current : {u : Store} {M : Ledger} {d text : List ℕ} → Made σ p q r s u L M d text (replyTo s x) → Current σ (view u) (madeHandle (replyTo s x))
     made-current {u} {M} made =
         let (line, m, e, _) = made .named t in
         let (o, v, g, _) = lined-current σ p q r u M (made .owes .inv) (madeHandle (replyTo s x)) (line .kind) (line, m, e, refl) in
@@ -149,3 +150,15 @@ module _ (σ p q r : ℕ) (s : Store) (L : Ledger) (I : Inv σ p q r s L) where
         (lookup-shown (x .call) (replyTo s x) place (answer-to σ p q r s L I x (Call.Lookup place) k) t))
     carried h (create place manner e) = carried-by (Call.Create place manner) (madeHandle (replyTo s x)) e (λ _. made-current (file-made place manner e))
     carried h (mkdir place a e) = carried-by (Call.Mkdir place a) (madeHandle (replyTo s x)) e (λ _. made-current (directory-made place a e))
+
+  -- "A line added by CREATE or MKDIR is a new object's, its handle never given out before"
+  pub added-fresh : (x : Request) → Lent x → Makes x → (l : Line) → note (x .call) (replyTo s x) L .book ≡ l ∷ L .book → In (l .handle) (L .given) → ⊥
+  unfolding note
+  added-fresh x lent makes l e m =
+      by-bool (isOk (replyTo s x))
+      (λ t. go t makes)
+      (λ t. let stays : note (x .call) (replyTo s x) L ≡ L = rw t in omega (arith, ap (λ (M : Ledger). length (M .book)) stays, ap length e))
+    where
+      go : isOk (replyTo s x) ≡ true → Makes x → ⊥
+      go t (makesFile place manner a) = file-made x lent t place manner a .fresh l e m
+      go t (makesDirectory place b a) = directory-made x lent t place b a .fresh l e m

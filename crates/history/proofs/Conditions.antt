@@ -18,30 +18,34 @@ use Rattle.kinds.specs.declared.call.Arguments.the-variants as Call
 use Rattle.spec.specs.Checked.{Checked, refused, passed, bind, refuseIf}
 use Rattle.spec.specs.Edits.{onlyCtime}
 use Rattle.spec.specs.Handles.{handleOf, reach, reachDirectory, checkName}
-use Rattle.spec.specs.Image.{Store, objects, objectAt, nameAt}
+use Rattle.spec.specs.Image.{Store, objects, blocks, objectAt, nameAt}
 use Rattle.spec.specs.Names.{isDots}
 use Rattle.spec.specs.Procedures.{cut}
 use Rattle.spec.specs.Procedures.Attributes.{isGiven, sizeSet, badAttributes, differs}
 use Rattle.spec.specs.Procedures.Data.{reachRegular}
 use Rattle.spec.specs.Procedures.Names.{settableIn, isMadeBy, checkNew}
-use Rattle.spec.specs.Room.{isDirectory, sizeOf, findName}
+use Rattle.spec.specs.Room.{isDirectory, sizeOf, namings, findName}
+use Rattle.laws.proofs.ActGood.{regular-of}
 use Rattle.laws.proofs.Count.{true-false}
+use Rattle.laws.proofs.GoodRecords.{live-at}
 use Rattle.laws.proofs.Passed.{Reached, reach-passed, directory-passed, regular-passed}
 use Rattle.laws.proofs.Range.{Below}
 use Rattle.laws.proofs.RecordRange.{cut-below}
 use Rattle.laws.proofs.Valid.{true-live, regular-true, true-regular, true-directory}
 use Rattle.history.specs.Book.{under, Line, Book, Ledger, isAt, someAt, isOk}
 use Rattle.history.specs.Run.{Request, Lent, outcomeOf, replyTo, State}
-use Rattle.history.specs.Statement.{In, HasLine, HasName, StandApart, Asks, objectIn, Room, growth, newObject}
-use Rattle.history.specs.Statement.{directoryIn, nameAsked, MayMake, AsksRoom}
+use Rattle.history.specs.Statement.{In, HasLine, HasName, linesOf, StandApart, Asks, objectIn, Room, growth, newObject}
+use Rattle.history.specs.Statement.{directoryIn, nameAsked, MayMake, MayLink, AsksRoom}
 use Rattle.history.proofs.Asking.{AsksStore}
 use Rattle.history.proofs.Sum.{or-right}
 use Rattle.history.proofs.Agree.{handleIn, at-yes}
 use Rattle.history.proofs.Seen.{view, kind-at, child-at, live-in}
-use Rattle.history.proofs.Inv.{Inv, tree}
+use Rattle.history.proofs.Inv.{Inv, tree, good}
 use Rattle.history.proofs.Checks.{handle-reached, found-name, no-name}
 use Rattle.history.proofs.Lines.{object-lines, found-line, lined-current, stand-apart}
-use Rattle.history.proofs.Making.{handle-seen, line-none, line-some, object-seen}
+use Rattle.history.proofs.Making.{reached-own, line-none, line-some, object-seen}
+use Rattle.history.proofs.Statuses.{MayAdd}
+use Rattle.history.proofs.Counts.{file-namings}
 use Rattle.history.proofs.Answers.{names-at}
 use Rattle.history.proofs.Nospc.{made-before}
 
@@ -104,11 +108,8 @@ module _ (σ P Q R : ℕ) (s : Store) (L : Ledger) (I : Inv σ P Q R s L) where
       (o, record { below = n .below; reached = n .reached; type = n .sameType; own = e; is-object = reach-passed s h o (n .reached) .is-object })
 
   -- a handle that is reached has a line
-  reached-line : (h : List ℕ) → Below 256 h → (o : ℕ) → Reached s h o → HasLine (L .book) h (objectAt s o .kind)
+  pub reached-line : (h : List ℕ) → Below 256 h → (o : ℕ) → Reached s h o → HasLine (L .book) h (objectAt s o .kind)
   reached-line h b o w = object-lines σ P Q R s L I h (objectAt s o .kind) .0 (o, w .below, true-live s o (w .live), sym (handle-reached s h o w b), refl)
-
-  reached-own : (h : List ℕ) → Below 256 h → (o : ℕ) → Reached s h o → h ≡ handleIn σ (view s) o
-  reached-own h b o w = handle-reached s h o w b ∙ handle-seen σ P Q R s L I o (w .below)
 
   pub directory-reached : (h : List ℕ) (o : ℕ) → Lined σ s h 2 o → reachDirectory s h ≡ passed o
   unfolding reachDirectory
@@ -127,7 +128,7 @@ module _ (σ P Q R : ℕ) (s : Store) (L : Ledger) (I : Inv σ P Q R s L) where
     seen-type = kind-at s d below ∙ type
 
     -- none is found where no line stands there
-    none-there : findName s d text ≡ none → someAt h text (L .book) ≡ false
+    pub none-there : findName s d text ≡ none → someAt h text (L .book) ≡ false
     none-there e = line-none σ P Q R s L I h text d seen-type own (no-name s (I .valid .good-names) d text e)
 
     there-none : someAt h text (L .book) ≡ false → findName s d text ≡ none
@@ -185,6 +186,24 @@ module _ (σ P Q R : ℕ) (s : Store) (L : Ledger) (I : Inv σ P Q R s L) where
       in-manner p (How.Guarded a) k m e = AsksRoom.byCreate p (How.Guarded a) a k (inr refl) m e
       in-manner p (How.Exclusive verifier) k m e = AsksRoom.byExclusive p verifier k m e
 
+      -- LINK
+      pub link-book : (f : Part) (p : NameIn) (o d : ℕ) → MayAdd s (cut (x .call) f) (directoryIn x p) (nameAsked x p) o d
+          → MayLink (L .book) x f p × (linesOf (cut (x .call) f) (L .book) ≡ namings s o)
+      link-book f p o d m =
+          let h = cut (x .call) f in
+          let w = reach-passed s h o (m .reached) in
+          let (v, y) = directory-passed s (directoryIn x p) d (m .directory) in
+          let live = live-at s (good σ P Q R s L I) o (w .below) (w .live) in
+          let kind = regular-of (blocks s) (objectAt s o) live (λ k. true-false (sym (true-directory s o k) ∙ m .file)) in (
+            record {
+              file = subst (HasLine (L .book) h) kind (reached-line h (part-below f) o w);
+              place = may-make p d false (v, y) (new-all (nameAsked x p) false (m .name) (m .no-dots) refl);
+              freeName = none-there (directoryIn x p) (nameAsked x p) d (v .below) y
+                  (reached-own σ P Q R s L I (directoryIn x p) (part-below (p .directory)) d v) (m .fresh);
+            },
+            file-namings σ P Q R s L I h o (reached-own σ P Q R s L I h (part-below f) o w) (kind-at s o (w .below) ∙ kind),
+          )
+
       pub by-book : {m : Room} → AsksStore s x m → AsksRoom state x m
       unfolding isDirectory
       by-book (AsksStore.bySetattr h a g o k e₁ e₂ e₃ e₄) =
@@ -200,10 +219,10 @@ module _ (σ P Q R : ℕ) (s : Store) (L : Ledger) (I : Inv σ P Q R s L) where
       by-book (AsksStore.byCreate p manner d k e₁ e₂ e₃) =
           let (w, y) = directory-passed s (directoryIn x p) d e₁ in
           in-manner p manner k (may-make p d (badAttributes (settableIn manner)) (w, y) e₂)
-          (none-there (directoryIn x p) (nameAsked x p) d (w .below) y (reached-own (directoryIn x p) (part-below (p .directory)) d w) e₃)
+          (none-there (directoryIn x p) (nameAsked x p) d (w .below) y (reached-own σ P Q R s L I (directoryIn x p) (part-below (p .directory)) d w) e₃)
       by-book (AsksStore.byRecreate p a d n k e₁ e₂ e₃ e₄) =
           let (w, y) = directory-passed s (directoryIn x p) d e₁ in
-          let own = reached-own (directoryIn x p) (part-below (p .directory)) d w in
+          let own = reached-own σ P Q R s L I (directoryIn x p) (part-below (p .directory)) d w in
           let o = nameAt s n .child in
           let below = found-below (directoryIn x p) (nameAsked x p) d (w .below) y own n e₃ in
           let kind = regular-true s o e₄ in
@@ -214,7 +233,8 @@ module _ (σ P Q R : ℕ) (s : Store) (L : Ledger) (I : Inv σ P Q R s L) where
       by-book (AsksStore.byMkdir p a d k e₁ e₂ e₃) =
           let (w, y) = directory-passed s (directoryIn x p) d e₁ in
           AsksRoom.byMkdir p a k (may-make p d (badAttributes a || isGiven (a .size)) (w, y) e₂)
-          (none-there (directoryIn x p) (nameAsked x p) d (w .below) y (reached-own (directoryIn x p) (part-below (p .directory)) d w) e₃)
+          (none-there (directoryIn x p) (nameAsked x p) d (w .below) y (reached-own σ P Q R s L I (directoryIn x p) (part-below (p .directory)) d w) e₃)
+      by-book (AsksStore.byLink f p o d k m few) = let (y, e) = link-book f p o d m in AsksRoom.byLink f p k y (omega (arith, e))
 
     -- by the book, so by the checks of the store
     new-checks : (p : NameIn) (invalid : Bool) → MayMake (L .book) x p invalid → checkNew (nameAsked x p) invalid ≡ passed tt
@@ -238,6 +258,26 @@ module _ (σ P Q R : ℕ) (s : Store) (L : Ledger) (I : Inv σ P Q R s L) where
         let (d, z) = lined (directoryIn x p) 2 (m .inDirectory) in
         AsksStore.byCreate p manner d k (directory-reached (directoryIn x p) d z) (new-checks p (badAttributes (settableIn manner)) m)
         (there-none (directoryIn x p) (nameAsked x p) d (z .below) (z .type) (z .own) e)
+
+    -- LINK
+    pub link-store : (f : Part) (p : NameIn) → MayLink (L .book) x f p
+        → (o : ℕ) × (d : ℕ) × MayAdd s (cut (x .call) f) (directoryIn x p) (nameAsked x p) o d × (linesOf (cut (x .call) f) (L .book) ≡ namings s o)
+    unfolding isDirectory
+    link-store f p m =
+        let (o, z) = lined (cut (x .call) f) 1 (m .file) in
+        let (d, y) = lined (directoryIn x p) 2 (m .place .inDirectory) in (
+          o,
+          d,
+          record {
+            reached = z .reached;
+            file = ap (λ (i : ℕ). eqb i 2) (z .type);
+            directory = directory-reached (directoryIn x p) d y;
+            name = m .place .goodName;
+            no-dots = m .place .noDots;
+            fresh = there-none (directoryIn x p) (nameAsked x p) d (y .below) (y .type) (y .own) (m .freeName);
+          },
+          file-namings σ P Q R s L I (cut (x .call) f) o (z .own) (kind-at s o (z .below) ∙ z .type),
+        )
 
     pub by-store : {m : Room} → AsksRoom state x m → AsksStore s x m
     unfolding isDirectory badAttributes
@@ -266,3 +306,4 @@ module _ (σ P Q R : ℕ) (s : Store) (L : Ledger) (I : Inv σ P Q R s L) where
         let (d, z) = lined (directoryIn x p) 2 (m .inDirectory) in
         AsksStore.byMkdir p a d k (directory-reached (directoryIn x p) d z) (new-checks p (badAttributes a || isGiven (a .size)) m)
         (there-none (directoryIn x p) (nameAsked x p) d (z .below) (z .type) (z .own) e)
+    by-store (AsksRoom.byLink f p k m few) = let (o, d, y, e) = link-store f p m in AsksStore.byLink f p o d k y (omega (arith, e))

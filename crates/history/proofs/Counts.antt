@@ -1,6 +1,6 @@
 -- What the invariant says of the counts: lines, places, free names and available objects. Assumes nothing.
 use mathlib.Core.Path.{_≡_, refl, sym, ap, ap₂, _∙_, subst}
-use mathlib.Core.Logic.{_↔_, _⊎_, inl, inr, by-cases, ⊎-elim}
+use mathlib.Core.Logic.{_≢_, _↔_, _⊎_, inl, inr, by-cases, ⊎-elim}
 use mathlib.Core.Bool.{Bool, true, false, _&&_, not}
 use mathlib.Core.List.{List, [], _∷_, map, List·Memᴰ, List·Memᴰ·head, List·Memᴰ·tail, List·Memᴰ·cases-cons, List·Memᴰ·not-nil}
 use Prim.Native.Nat.{ℕ, _+_, _*_, _≤_, _<_}
@@ -10,33 +10,34 @@ use native.Mathlib.Omega.{arith}
 use lib.Dec.{eqb, ltb}
 use lib.ListN.{length, getD}
 use lib.Seq.{getD-take}
-use borrow.Author.Tests.{eq-eqb, eqb-true, lt-ltb, le-ltb}
-use Rattle.kinds.specs.Numbers.{mostFileBytes, spentGeneration}
+use borrow.Author.Tests.{eq-eqb, ne-eqb, eqb-true, lt-ltb, le-ltb}
+use Rattle.kinds.specs.Numbers.{mostFileBytes, spentGeneration, mostLinks}
 use Rattle.kinds.specs.declared.object.Object.{Object}
 use Rattle.spec.specs.Bytes.{sameBytes}
+use Rattle.spec.specs.Check.{mostNames}
 use Rattle.spec.specs.Count.{bit, sum, count, times}
 use Rattle.spec.specs.Image.{Store, objects, names, blocks, objectAt}
-use Rattle.spec.specs.Room.{isLive, isAvailable, isUsedName, sizeOf, need, held, freeBlockCount, availableCount, freeNameCount}
-use Rattle.laws.proofs.Bytes.{same-yes}
+use Rattle.spec.specs.Room.{isLive, isRegular, isAvailable, isUsedName, namings, sizeOf, need, held, freeBlockCount, availableCount, freeNameCount}
+use Rattle.laws.proofs.Bytes.{same-yes, same-no}
 use Rattle.laws.proofs.Count.{sum-ext, sum-add, by-bool, true-false, and-both}
 use Rattle.laws.proofs.FreeRoom.{free-room}
 use Rattle.laws.proofs.Tests.{and-true, or-one}
-use Rattle.laws.proofs.Valid.{GoodObject, live-true, true-live, false-live}
+use Rattle.laws.proofs.Valid.{GoodObject, live-true, true-live, false-live, regular-true, true-regular}
 use Rattle.history.specs.Book.{Line, Book, Ledger, handleBytes}
-use Rattle.history.specs.Statement.{In, HasLine, liveObjects, objectIn, someLine, isLinedObject, isLinedFile, linedObjects, placesIn}
+use Rattle.history.specs.Statement.{In, HasLine, linesOf, liveObjects, objectIn, someLine, isLinedObject, isLinedFile, linedObjects, placesIn}
 use Rattle.history.specs.Statement.{hasName, namedLines, isAmong, isLined, lastHandle, spentRecords}
 use Rattle.history.proofs.Sum.{or-left, or-right, ind, ind-yes, ind-no, holds-same, sum-const}
 use Rattle.history.proofs.Lists.{same-true, All, all-times}
-use Rattle.history.proofs.View.{LiveIn, UsedIn}
-use Rattle.history.proofs.Tree.{Tree, live?, living}
+use Rattle.history.proofs.View.{LiveIn, UsedIn, names?, namingsIn}
+use Rattle.history.proofs.Tree.{Tree, single, live?, living}
 use Rattle.history.proofs.Handles.{same-object, same-generation, handle-object}
-use Rattle.history.proofs.Agree.{lineOf, rootLine, used?}
+use Rattle.history.proofs.Agree.{handleIn, lineOf, rootLine, used?}
 use Rattle.history.proofs.Issue.{issued, issued-small}
 use Rattle.history.proofs.Room.{one-place}
-use Rattle.history.proofs.Seen.{view, heldBy, kind-at, gen-at, held-at, used-of, of-used}
+use Rattle.history.proofs.Seen.{view, heldBy, kind-at, gen-at, held-at, live-in, used-of, of-used, namings-same}
 use Rattle.history.proofs.Bridge.{held-long, room-of}
 use Rattle.history.proofs.Inv.{Inv, tree, good}
-use Rattle.history.proofs.Lines.{total, total-append, total-map, total-times, current-lined, lined-current, factor-yes}
+use Rattle.history.proofs.Lines.{total, total-append, total-map, total-times, current-lined, lined-current, same-live, factor-no, factor-yes}
 
 is-false : (t : Bool) → (t ≡ true → ⊥) → t ≡ false
 is-false t f = by-bool t (λ e. absurd (f e)) (λ e. e)
@@ -84,6 +85,11 @@ named-total : (b : Book) → namedLines b ≡ total (λ l. bit (hasName (l .stan
 unfolding namedLines total
 named-total [] = refl
 named-total (l ∷ ls) = omega (arith, named-total ls)
+
+lines-total : (h : List ℕ) (b : Book) → linesOf h b ≡ total (λ l. bit (sameBytes (l .handle) h)) b
+unfolding linesOf total
+lines-total h [] = refl
+lines-total h (l ∷ ls) = omega (arith, lines-total h ls)
 
 -- a file of size 0 has no places
 no-need : (k size : ℕ) → size ≡ 0 → k * need size ≡ need size
@@ -137,29 +143,104 @@ module _ (σ p q r : ℕ) (s : Store) (L : Ledger) (I : Inv σ p q r s L) where
   pub line-count : linedObjects p (L .book) ≡ liveObjects s
   line-count = line-living ∙ living-count
 
-  -- ---- a line for each used name, and the root's
-  pub name-line-count : namedLines (L .book) ≡ count (names s) (isUsedName s)
+  -- ---- a sum over the lines: one for each used name, and the root's
+  book-total : (N : Line → ℕ) → total N (L .book) ≡ sum q (λ n. ind (used? (view s) n) * N (lineOf σ (view s) n)) + N (rootLine σ (view s))
   unfolding total T
-  name-line-count =
+  book-total N =
       let v = view s in
       let A = I .agrees in
-      let N : Line → ℕ = λ l. bit (hasName (l .standing)) in
       let below : All (λ n. n < q) (A .order) = all-times (A .order) (λ n h. T .flat .rows n (used-order n h)) in
-      named-total (L .book) ∙ ap (total N) (A .lines) ∙ total-append N (map (lineOf σ v) (A .order)) (rootLine σ v ∷ [])
+      ap (total N) (A .lines) ∙ total-append N (map (lineOf σ v) (A .order)) (rootLine σ v ∷ [])
       ∙ omega (
         arith,
         total-map N (lineOf σ v) (A .order),
-        total-times q (λ _. 1) (A .order) below,
-        sum-ext q (λ n. times n (A .order) * 1) (λ n. bit (isUsedName s n))
-            (λ n l. mul-one (times n (A .order)) ∙ A .each n ∙ used-bit n (omega (arith, I .nams))),
-        ap (λ (k : ℕ). count k (isUsedName s)) (I .nams),
+        total-times q (λ n. N (lineOf σ v n)) (A .order) below,
+        sum-ext q (λ n. times n (A .order) * N (lineOf σ v n)) (λ n. ind (used? v n) * N (lineOf σ v n))
+            (λ n l. ap (λ (k : ℕ). k * N (lineOf σ v n)) (A .each n)),
       )
     where
       used-order : (n : ℕ) → 0 < times n (I .agrees .order) → UsedIn (view s) n
       used-order n h = by-cases (used? (view s) n) (λ u. u) (λ u. absurd (omega (arith, I .agrees .each n, ind-no (used? (view s) n) u)))
 
+  pub name-line-count : namedLines (L .book) ≡ count (names s) (isUsedName s)
+  name-line-count =
+      named-total (L .book) ∙ book-total (λ l. bit (hasName (l .standing)))
+      ∙ omega (
+        arith,
+        sum-ext q (λ n. ind (used? (view s) n) * 1) (λ n. bit (isUsedName s n)) (λ n l. mul-one (ind (used? (view s) n)) ∙ used-bit n (omega (arith, I .nams))),
+        ap (λ (k : ℕ). count k (isUsedName s)) (I .nams),
+      )
+    where
       used-bit : (n : ℕ) → n < names s → ind (used? (view s) n) ≡ bit (isUsedName s n)
       used-bit n l = ap bit (holds-same (used? (view s) n) (isUsedName s n) (used-of s (I .valid .good-names) n l) (of-used s (I .valid .good-names) n l))
+
+  -- a live object has a line for each of its names, and the root its own
+  line-namings : (o : ℕ) → LiveIn (view s) o → linesOf (handleIn σ (view s) o) (L .book) ≡ namings s o + bit (eqb o 0)
+  unfolding T
+  line-namings o v =
+      let h = handleIn σ (view s) o in
+      lines-total h (L .book) ∙ book-total (λ l. bit (sameBytes (l .handle) h))
+      ∙ omega (
+        arith,
+        root-term,
+        sum-ext q (λ n. ind (used? (view s) n) * bit (sameBytes (handleIn σ (view s) (view s .child n)) h)) (λ n. ind (names? (view s) n o)) (λ n l. term n),
+        ap (λ (k : ℕ). namingsIn k (view s) o) (I .nams),
+        namings-same s (I .valid .good-names) o,
+      )
+    where
+      root-term : bit (sameBytes (handleIn σ (view s) 0) (handleIn σ (view s) o)) ≡ bit (eqb o 0)
+      root-term = by-cases (ℕ-discrete o 0)
+          (λ e. ap bit (same-yes (handleIn σ (view s) 0) (handleIn σ (view s) o) (ap (handleIn σ (view s)) (sym e)) ∙ sym (eq-eqb o 0 e)))
+          (λ d. ap bit (same-no (handleIn σ (view s) 0) (handleIn σ (view s) o)
+          (λ e. d (sym (same-live σ p q r s L I 0 o (omega (arith, T .flat .root)) v e))) ∙ sym (ne-eqb o 0 d)))
+
+      term : (n : ℕ) → ind (used? (view s) n) * bit (sameBytes (handleIn σ (view s) (view s .child n)) (handleIn σ (view s) o)) ≡ ind (names? (view s) n o)
+      term n =
+          let h = handleIn σ (view s) o in
+          let g = handleIn σ (view s) (view s .child n) in
+          by-cases (used? (view s) n)
+          (λ u. factor-yes (ind (used? (view s) n)) (bit (sameBytes g h)) (ind-yes (used? (view s) n) u)
+          ∙ by-cases (ℕ-discrete (view s .child n) o)
+          (λ e. ap bit (same-yes g h (ap (handleIn σ (view s)) e)) ∙ sym (ind-yes (names? (view s) n o) (u, e)))
+          (λ d. ap bit (same-no g h (λ e. d (same-live σ p q r s L I (view s .child n) o (T .flat .ends n u) v e)))
+          ∙ sym (ind-no (names? (view s) n o) (λ x. d (x .1)))))
+          (λ u. factor-no (ind (used? (view s) n)) (bit (sameBytes g h)) (ind-no (used? (view s) n) u) ∙ sym (ind-no (names? (view s) n o) (λ x. u (x .0))))
+
+  -- so a file has as many lines as names
+  pub file-namings : (h : List ℕ) (o : ℕ) → h ≡ handleIn σ (view s) o → view s .kind o ≡ 1 → linesOf h (L .book) ≡ namings s o
+  unfolding T
+  file-namings h o e k = omega (
+    arith,
+    ap (λ (x : List ℕ). linesOf x (L .book)) e,
+    line-namings o (omega arith),
+    ap bit (ne-eqb o 0 (λ z. omega (arith, T .flat .root, ap (view s .kind) z))),
+  )
+
+  -- and a directory has one line
+  pub directory-line : (h : List ℕ) → HasLine (L .book) h 2 → linesOf h (L .book) ≡ 1
+  unfolding T
+  directory-line h x =
+      let (o, v, e, k) = lined-current σ p q r s L I h 2 x in
+      let lines = ap (λ (y : List ℕ). linesOf y (L .book)) e ∙ line-namings o v in
+      let seen = sym (namings-same s (I .valid .good-names) o) ∙ ap (λ (n : ℕ). namingsIn n (view s) o) (I .nams) in
+      by-cases (ℕ-discrete o 0)
+      (λ z. omega (arith, lines, seen, ap bit (eq-eqb o 0 z), T .flat .never, ap (namingsIn q (view s)) z))
+      (λ z. omega (arith, lines, seen, ap bit (ne-eqb o 0 z), T .flat .once o z v, single p q (view s) (T .flat) o k))
+
+  -- "one to sixteen names"
+  pub file-names : (o : ℕ) → o < objects s → isRegular s o ≡ true → (1 ≤ namings s o) × (namings s o ≤ mostLinks)
+  file-names o l t =
+      let k = regular-true s o t in
+      let z : o ≢ 0 = λ e. omega (arith, I .valid .root, ap (λ (i : ℕ). objectAt s i .kind) e) in
+      (I .valid .named .named o l z (omega arith), omega (arith, I .valid .named .few o l z (omega arith), ap mostNames k))
+
+  pub file-lines : (h : List ℕ) → HasLine (L .book) h 1 → (1 ≤ linesOf h (L .book)) × (linesOf h (L .book) ≤ mostLinks)
+  file-lines h x =
+      let (o, v, e, f) = lined-current σ p q r s L I h 1 x in
+      let l = live-in s o v in
+      let n = file-names o l (true-regular s o (sym (kind-at s o l) ∙ f)) in
+      let a = file-namings h o e f in
+      (omega arith, omega arith)
 
   -- "free names Q less the lines with a name"
   pub free-names : freeNameCount s + namedLines (L .book) ≡ q

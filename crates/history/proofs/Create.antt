@@ -3,9 +3,10 @@ use mathlib.Core.Logic.{_⊎_}
 use mathlib.Core.Path.{_≡_, refl, sym, ap, _∙_, subst}
 use mathlib.Core.Bool.{true}
 use mathlib.Core.Option.{some, none}
-use mathlib.Core.List.{List, List·Memᴰ·head}
+use mathlib.Core.List.{List, _∷_, List·Memᴰ·head}
 use Prim.Native.Nat.{ℕ, _<_}
 use native.Mathlib.Omega.{arith}
+use lib.ListN.{length}
 use Rattle.kinds.specs.declared.object.Context.{Context}
 use Rattle.kinds.specs.declared.call.NameIn.{NameIn}
 use Rattle.kinds.specs.declared.call.Settable.{Settable}
@@ -14,7 +15,7 @@ use Rattle.kinds.specs.declared.call.Arguments.{Arguments}
 use Rattle.kinds.specs.declared.call.Arguments.the-variants as Call
 use Rattle.spec.specs.Checked.{Checked, refused, passed}
 use Rattle.spec.specs.Handles.{handleOf, attributes, change}
-use Rattle.spec.specs.Image.{Store, stamp, objectAt, nameAt}
+use Rattle.spec.specs.Image.{Store, stamp, objects, objectAt, nameAt}
 use Rattle.spec.specs.Procedures.{cut}
 use Rattle.spec.specs.Procedures.Attributes.{sizeSet}
 use Rattle.spec.specs.Procedures.Names.{newObject, newEdit, createdIn, Target, new, existing, settableIn, checkCreate, existingEdit, newFile, createEdit}
@@ -32,10 +33,11 @@ use Rattle.laws.proofs.Range.{Below}
 use Rattle.laws.proofs.RecordRange.{cut-below}
 use Rattle.laws.proofs.SetAttributes.{FitsSettable, Allowed}
 use Rattle.laws.proofs.Valid.{GoodName}
-use Rattle.history.specs.Book.{under, Ledger, handleBytes, madeHandle, isOk, add, noted, note}
-use Rattle.history.specs.Statement.{HasName}
+use Rattle.history.specs.Book.{under, Line, Ledger, handleBytes, madeHandle, isOk, add, noted, note}
+use Rattle.history.specs.Statement.{In, HasName}
 use Rattle.history.proofs.View.{LiveIn}
 use Rattle.history.proofs.Agree.{handleIn}
+use Rattle.history.proofs.Issue.{fresh}
 use Rattle.history.proofs.Seen.{view, kind-at, child-at, live-in}
 use Rattle.history.proofs.Inv.{Inv, Owes, keeps-refl, tree}
 use Rattle.history.proofs.Checks.{found-name, no-name}
@@ -45,10 +47,12 @@ use Rattle.history.proofs.Making.{handle-seen, withLine, new-made, dire
 use Rattle.history.proofs.Lines.{found-line}
 use Rattle.history.proofs.Statuses.{sure-create, sure-mkdir}
 
--- what CREATE and MKDIR owe: the invariant, and that the handle in an OK reply has the line of their directory handle and name
-pub record Made (σ p q r : ℕ) (s t : Store) (L : Ledger) (h text reply : List ℕ) : Type 0 where
-  pub owes : Owes σ p q r s t L
-  pub named : isOk reply ≡ true → HasName (L .book) h (madeHandle reply) text
+-- what CREATE and MKDIR owe: the invariant, that the handle in an OK reply has the line of their directory handle and name, and that the handle of a
+-- line that they add was never given out
+pub record Made (σ p q r : ℕ) (s t : Store) (L M : Ledger) (h text reply : List ℕ) : Type 0 where
+  pub owes : Owes σ p q r s t M
+  pub named : isOk reply ≡ true → HasName (M .book) h (madeHandle reply) text
+  pub fresh : (l : Line) → M .book ≡ l ∷ L .book → In (l .handle) (L .given) → ⊥
 
 module _ (σ p q r : ℕ) (s : Store) (L : Ledger) (I : Inv σ p q r s L) (c : Context) (clock : GoodClock (c .clock)) (call reply : List ℕ)
     (bytes : Below 256 call) where
@@ -69,13 +73,28 @@ module _ (σ p q r : ℕ) (s : Store) (L : Ledger) (I : Inv σ p q r s L) (c : C
     ap (λ (x : List ℕ). under x text) (sym own),
   )
 
+  -- whose handle was never given out
+  line-fresh : (o kind d : ℕ) (text : List ℕ) (M : Ledger) → withLine σ s L o kind d text ≡ M → o < objects s → objectAt s o .kind ≡ 0
+      → (l : Line) → M .book ≡ l ∷ L .book → In (l .handle) (L .given) → ⊥
+  line-fresh o kind d text M e k z l f m =
+      let b : withLine σ s L o kind d text .book ≡ l ∷ L .book = ap (λ (K : Ledger). K .book) e ∙ f in
+      let x : handleIn σ (view s) o ≡ l .handle = cc in
+      fresh p σ (view s) (L .given) (I .issues) o (omega (arith, I .objs)) (kind-at s o k ∙ z)
+      (subst (λ (g : List ℕ). In g (L .given)) (sym x) m)
+
+  -- no line is added
+  none-added : (M : Ledger) → L ≡ M → (l : Line) → M .book ≡ l ∷ L .book → In (l .handle) (L .given) → ⊥
+  none-added M e l f m = omega (arith, ap (λ (K : Ledger). length (K .book)) e, ap length f)
+
   -- a refusal
   failed-made : (a : Arguments) (h text : List ℕ) (n : ℕ) → 0 < n → n < 4294967296 → Answer call reply a (failChanging s h n)
-      → Made σ p q r s s (note call reply L) h text reply
+      → Made σ p q r s s L (note call reply L) h text reply
   failed-made a h text n l m A =
+      let stays = sym (note-failed call reply a _ A n (changing-says s h n) l m L) in
       record {
-        owes = subst (Owes σ p q r s s) (sym (note-failed call reply a _ A n (changing-says s h n) l m L)) (keeps-refl σ p q r s L I .owes);
+        owes = subst (Owes σ p q r s s) stays (keeps-refl σ p q r s L I .owes);
         named = λ t. true-false (sym t ∙ not-ok call reply a _ A n (changing-says s h n) l m);
+        fresh = none-added (note call reply L) stays;
       }
 
   -- ---- CREATE
@@ -100,7 +119,7 @@ module _ (σ p q r : ℕ) (s : Store) (L : Ledger) (I : Inv σ p q r s L) (c : C
     -- of a new file, and of one that is there
     made-new : (d o n : ℕ) → Reached s h d → objectAt s d .kind ≡ 2 → GoodName text → Allowed (settableIn manner) → findName s d text ≡ none
         → NewRoom s (sizeSet (settableIn manner .size) 0) o n → Answer call reply (Call.Create place manner) (createEdit s c d text manner (new o n) .result)
-        → Made σ p q r s (createEdit s c d text manner (new o n) .store) (note call reply L) h text reply
+        → Made σ p q r s (createEdit s c d text manner (new o n) .store) L (note call reply L) h text reply
     unfolding h text Named
     made-new d o n w dk good ok z room A =
         let v = newFile (c .clock) manner in
@@ -117,11 +136,12 @@ module _ (σ p q r : ℕ) (s : Store) (L : Ledger) (I : Inv σ p q r s L) (c : C
           named = λ _. subst Named book
               (line-named h text o 1 d (directory-handle σ p q r s L I c clock h text d w dk b)
               (made-handle (Call.Create place manner) u o d A ∙ facts .handle));
+          fresh = line-fresh o 1 d text (note call reply L) book (room .object-below) (room .object-free);
         }
 
     made-there : (d o m : ℕ) → Reached s h d → objectAt s d .kind ≡ 2 → Allowed (settableIn manner) → findName s d text ≡ some m
         → nameAt s m .child ≡ o → ExistingPassed s manner o → Answer call reply (Call.Create place manner) (createEdit s c d text manner (existing o) .result)
-        → Made σ p q r s (createEdit s c d text manner (existing o) .store) (note call reply L) h text reply
+        → Made σ p q r s (createEdit s c d text manner (existing o) .store) L (note call reply L) h text reply
     unfolding h text Named
     made-there d o m w dk ok z is x A =
         let size = settableIn manner .size in
@@ -140,23 +160,24 @@ module _ (σ p q r : ℕ) (s : Store) (L : Ledger) (I : Inv σ p q r s L) (c : C
           owes = subst (Owes σ p q r s u) book (step .owes);
           named = λ _. subst Named book (subst (λ (g : List ℕ). HasName (L .book) h g text) shown
               (found-line σ p q r s L I h text d (w .below) (directory-handle σ p q r s L I c clock h text d w dk b) m z));
+          fresh = none-added (note call reply L) book;
         }
 
     pub create-made : Answer call reply (Call.Create place manner) (create s c (cut call (place .directory)) (cut call (place .name)) manner .result)
-        → Made σ p q r s (create s c (cut call (place .directory)) (cut call (place .name)) manner .store) (note call reply L)
+        → Made σ p q r s (create s c (cut call (place .directory)) (cut call (place .name)) manner .store) L (note call reply L)
         (cut call (place .directory)) (cut call (place .name)) reply
     unfolding create h text
     create-made A = go (checkCreate s h text manner) refl A
       where
         target : (d : ℕ) (t : Target) → CreatePassed s h text manner d t
             → Answer call reply (Call.Create place manner) (createEdit s c d text manner t .result)
-            → Made σ p q r s (createEdit s c d text manner t .store) (note call reply L) h text reply
+            → Made σ p q r s (createEdit s c d text manner t .store) L (note call reply L) h text reply
         target d (new o n) k A = let (z, room) = k .target in made-new d o n (k .reached) (k .directory) (k .good) (k .allowed) z room A
         target d (existing o) k A = let (m, z, is, x) = k .target in made-there d o m (k .reached) (k .directory) (k .allowed) z is x A
 
         go : (x : Checked (ℕ × Target)) → checkCreate s h text manner ≡ x
             → Answer call reply (Call.Create place manner) (settle s (failChanging s h) x (λ p. createEdit s c (p .0) text manner (p .1)) .result)
-            → Made σ p q r s (settle s (failChanging s h) x (λ p. createEdit s c (p .0) text manner (p .1)) .store) (note call reply L) h text reply
+            → Made σ p q r s (settle s (failChanging s h) x (λ p. createEdit s c (p .0) text manner (p .1)) .store) L (note call reply L) h text reply
         go (refused n) e A =
             let b = sure-create s h text manner n e in
             failed-made (Call.Create place manner) h text n (b .0) (b .1) A
@@ -172,7 +193,7 @@ module _ (σ p q r : ℕ) (s : Store) (L : Ledger) (I : Inv σ p q r s L) (c : C
 
     mkdir-new : (d o n : ℕ) → MkdirPassed s g name a d o n
         → Answer call reply (Call.Mkdir place a) (createdIn s (newEdit s c (newObject (c .clock) 2 a) (a .size) o n d name) d o .result)
-        → Made σ p q r s (newEdit s c (newObject (c .clock) 2 a) (a .size) o n d name) (note call reply L) g name reply
+        → Made σ p q r s (newEdit s c (newObject (c .clock) 2 a) (a .size) o n d name) L (note call reply L) g name reply
     unfolding g name noted statusOf
     mkdir-new d o n w A =
         let v = newObject (c .clock) 2 a in
@@ -191,10 +212,11 @@ module _ (σ p q r : ℕ) (s : Store) (L : Ledger) (I : Inv σ p q r s L) (c : C
           owes = subst (Owes σ p q r s u) book (facts .keeps .owes);
           named = λ _. subst (λ (M : Ledger). HasName (M .book) g (madeHandle reply) name) book
               (line-named g name o 2 d (directory-handle σ p q r s L I c clock g name d (w .reached) (w .directory) b) shown);
+          fresh = line-fresh o 2 d name (note call reply L) book (room .object-below) (room .object-free);
         }
 
     pub mkdir-made : Answer call reply (Call.Mkdir place a) (mkdir s c (cut call (place .directory)) (cut call (place .name)) a .result)
-        → Made σ p q r s (mkdir s c (cut call (place .directory)) (cut call (place .name)) a .store) (note call reply L)
+        → Made σ p q r s (mkdir s c (cut call (place .directory)) (cut call (place .name)) a .store) L (note call reply L)
         (cut call (place .directory)) (cut call (place .name)) reply
     unfolding mkdir g name
     mkdir-made A = go (checkMkdir s g name a) refl A
@@ -203,7 +225,7 @@ module _ (σ p q r : ℕ) (s : Store) (L : Ledger) (I : Inv σ p q r s L) (c : C
         made p = createdIn s (newEdit s c (newObject (c .clock) 2 a) (a .size) (p .1) (p .2) (p .0) name) (p .0) (p .1)
 
         go : (x : Checked (ℕ × ℕ × ℕ)) → checkMkdir s g name a ≡ x → Answer call reply (Call.Mkdir place a) (settle s (failChanging s g) x made .result)
-            → Made σ p q r s (settle s (failChanging s g) x made .store) (note call reply L) g name reply
+            → Made σ p q r s (settle s (failChanging s g) x made .store) L (note call reply L) g name reply
         go (refused n) e A =
             let b = sure-mkdir s g name a n e in
             failed-made (Call.Mkdir place a) g name n (b .0) (b .1) A

@@ -26,16 +26,18 @@ use Rattle.history.proofs.Seen.{view}
 use Rattle.history.proofs.Inv.{Inv, Owes}
 use Rattle.history.proofs.Next.{next, run-owes, format-inv}
 use Rattle.history.proofs.Lines.{object-lines, name-lines, current-lined, lined-current, stand-apart}
-use Rattle.history.proofs.Counts.{line-count, name-line-count, line-given, free-blocks, free-names, available-objects, one-block}
-use Rattle.history.proofs.Paths.{stored-path, book-path}
-use Rattle.history.proofs.Later.{removed-old, added-fresh, given-stays, removed-stays, same-between}
-use Rattle.history.proofs.Answers.{names-at, getattr-live, getattr-size, getattr-stale, fsstat-room}
-use Rattle.history.proofs.Carried.{carried}
-use Rattle.history.proofs.Nospc.{blocks-left, names-left, objects-left, write-nothing, room}
-use Rattle.history.proofs.Only.{only-room}
-use Rattle.history.proofs.Conditions.{by-book, by-store, line-regular, line-made}
+use Rattle.history.proofs.Counts.{line-count, name-line-count, line-given, directory-line, file-names, file-lines, free-blocks, free-names, available-objects, one-block}
+use Rattle.history.proofs.Paths.{stored-path, book-path, name-path, line-path}
+use Rattle.history.proofs.Later.{removed-old, given-stays, removed-stays, same-between}
+use Rattle.history.proofs.Answers.{names-at, getattr-live, getattr-size, getattr-links, getattr-stale, fsstat-room}
+use Rattle.history.proofs.Carried.{carried, added-fresh}
+use Rattle.history.proofs.Nospc.{blocks-left, names-left, objects-left, write-nothing, many-names, room}
+use Rattle.history.proofs.Only.{only-room, only-many}
+use Rattle.history.proofs.Conditions.{by-book, by-store, link-book, link-store, line-regular, line-made}
 use Rattle.history.proofs.Again.{found-again, sent-twice}
-use Rattle.history.proofs.Onto.{onto-itself, over-removed}
+use Rattle.history.proofs.Linked.{linked-line}
+use Rattle.history.proofs.Losing.{remove-loses, rename-loses}
+use Rattle.history.proofs.Onto.{onto-itself}
 
 -- the statement holds of every state that the invariant holds of
 pub kept : (σ p q r : ℕ) (w : State) → Inv σ p q r (w .store) (w .ledger) → Kept σ p q r w
@@ -57,7 +59,9 @@ kept σ p q r w I =
       lineCount = line-count σ p q r s L I;
       nameLineCount = name-line-count σ p q r s L I;
       lineGiven = line-given σ p q r s L I;
-      addedLine = λ x l. added-fresh σ p q r s (step w x .store) L (step w x .ledger) I (after x l .inv) (after x l .grew);
+      addedLine = added-fresh σ p q r s L I;
+      linkedLine = linked-line σ p q r s L I;
+      removedName = λ x l a h e m t. remove-loses σ p q r s L I x t a h e m;
       handleLined = λ x l h t c.
           let (o, v, e) = carried σ p q r s L I x l t h c in
           let u = step w x .store in
@@ -65,6 +69,12 @@ kept σ p q r w I =
           (view u .kind o, subst (λ (g : List ℕ). HasLine (M .book) g (view u .kind o)) (sym e) (current-lined σ p q r u M (after x l .inv) o v));
       storedPath = stored-path σ p q r s L I;
       bookPath = book-path σ p q r s L I;
+      directoryLine = directory-line σ p q r s L I;
+      fileNames = file-names σ p q r s L I;
+      fileLines = file-lines σ p q r s L I;
+      namePath = name-path σ p q r s L I;
+      linePath = line-path σ p q r s L I;
+      links = getattr-links σ p q r s L I;
       onePlace = λ i j k l a b _ _ m n e. one-block σ p q r s L I i j k l a b m n e;
       sizes = getattr-size σ p q r s L I;
       totals = λ x h kind k l. let (a, b, c, d, e, f, g) = fsstat-room σ p q r s L I x h kind k l in (a, b, e);
@@ -104,6 +114,14 @@ kept σ p q r w I =
       neverAgain = λ g d xs l. removed-stays σ p q r s (run w xs .store) L (run w xs .ledger) I (later xs l .inv) (later xs l .grew) g d;
       room = λ x m a. room σ p q r s L I x (by-store σ p q r s L I x a);
       onlyRoom = λ x l e. let (m, a, b) = only-room σ p q r s L I x e in (m, by-book σ p q r s L I x l a, b);
+      manyNames = λ x h a k m.
+          let (o, d, y, e) = link-store σ p q r s L I x h a m in
+          let z = many-names σ p q r s L I x h a o d k y in
+          ((λ t. omega (arith, z .0 t, e, file-lines σ p q r s L I (cut (x .call) h) (m .file))), (λ t. z .1 (omega (arith, e))));
+      onlyManyNames = λ x l t.
+          let (h, a, o, d, k, y, n) = only-many σ p q r s L I x t in
+          let (m, e) = link-book σ p q r s L I x l h a o d y in
+          (h, a, k, m, omega (arith, e, file-lines σ p q r s L I (cut (x .call) h) (m .file)));
       writeNothing = λ x h offset bytes k y e. write-nothing σ p q r s L I x h offset bytes _ k (line-regular σ p q r s L I (cut (x .call) h) y .1) e;
       lineFound = λ x l a manner h e y t. found-again σ p q r s L I x l a manner h e y t;
       madeBefore = λ x l a verifier h k m y t.
@@ -116,7 +134,7 @@ kept σ p q r w I =
       ontoItself = λ x l a b h k m n.
           let (ok, store, ledger) = onto-itself σ p q r s L I x l a b k h m n in
           (ok, λ i. record { store = store i; ledger = ledger i });
-      replaced = λ x l a b h g k m n two t. over-removed σ p q r s L I x l a b k h g m n two t;
+      replaced = λ x l a b h g k m n two t. rename-loses σ p q r s L I x t a b h g (k .reads) m n two;
     }
 
 -- what a successful format was asked for, and what it made

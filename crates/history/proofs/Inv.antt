@@ -1,46 +1,54 @@
 -- What holds of the store and the book after any list of requests, and what the edits keep of it. Assumes nothing.
 use mathlib.Core.Path.{_≡_, refl, sym, ap, _∙_, subst}
-use mathlib.Core.Logic.{_≢_, by-cases}
+use mathlib.Core.Logic.{_≢_, _⊎_, inl, inr, by-cases, ⊎-elim}
 use mathlib.Core.List.{List, _∷_}
-use Prim.Native.Nat.{ℕ, _+_, _-_, _^_, _≤_, _<_}
+use Prim.Native.Nat.{ℕ, suc, _+_, _-_, _^_, _≤_, _<_}
 use native.Mathlib.Decide.{ℕ-discrete}
 use native.Mathlib.Omega.{arith}
+use lib.Dec.{eqb, ltb, lit<}
 use lib.ListN.{length}
-use Rattle.kinds.specs.Numbers.{mostFileBytes, spentGeneration}
+use borrow.Author.Tests.{ltb-true, ltb-false}
+use Rattle.kinds.specs.Numbers.{mostFileBytes, spentGeneration, mostLinks}
 use Rattle.kinds.specs.declared.object.Time.{Time}
 use Rattle.kinds.specs.declared.object.Object.{Object}
 use Rattle.kinds.specs.declared.call.Settable.{Settable}
-use Rattle.spec.specs.Edits.{setAttributes, forgetVerifier, resize, withGeneration, createObject, removeObject, moveName, writeFile}
+use Rattle.spec.specs.Check.{mostNames}
+use Rattle.spec.specs.Edits.{withAttributes, setAttributes, forgetVerifier, resize, withGeneration, addName, createObject, removeName, moveName, writeFile}
 use Rattle.spec.specs.Image.{Store, stamp, objects, names, blocks, objectAt, nameAt, nameLength, freeName}
-use Rattle.spec.specs.Room.{sizeOf, need, freeBlockCount}
-use Rattle.kinds.specs.Objects.{freeObject}
+use Rattle.spec.specs.Room.{namings, sizeOf, need, freeBlockCount}
 use Rattle.laws.proofs.BlockLists.{held-range}
 use Rattle.laws.proofs.BlockWrites.{write-file}
-use Rattle.laws.proofs.CreateObject.{newName, create-object}
+use Rattle.laws.proofs.Count.{by-bool}
+use Rattle.laws.proofs.CreateObject.{create-object}
 use Rattle.laws.proofs.GoodRecords.{GoodRecords, GoodClock, clock-fits, valid-records, live-at, set-attributes-still, forget-verifier-still, resize-still}
-use Rattle.laws.proofs.GoodRecords.{write-file-still, create-object-still, remove-object-still, move-name-still}
+use Rattle.laws.proofs.GoodRecords.{write-file-still, add-name-still, create-object-still, move-name-still}
 use Rattle.laws.proofs.Kept.{NameSet, BothSet}
-use Rattle.laws.proofs.MoveName.{movedName, move-name}
+use Rattle.laws.proofs.PutName.{newName, movedName, add-name, move-name}
 use Rattle.laws.proofs.Range.{Below}
 use Rattle.laws.proofs.Records.{FitsObject}
+use Rattle.laws.proofs.RemoveName.{remove-one, remove-last, drop-set, remove-name-still}
 use Rattle.laws.proofs.RemoveObject.{remove-object}
 use Rattle.laws.proofs.SetAttributes.{FitsSettable, Allowed, set-attributes-structure, forget-verifier-structure}
 use Rattle.laws.proofs.Shape.{SameShape}
 use Rattle.laws.proofs.Structure.{SameTree, kept-structure, tree-distinct, tree-named, tree-leads}
 use Rattle.laws.proofs.Resize.{resize-tree}
-use Rattle.laws.proofs.Valid.{LiveObject, GoodName, Valid, live-kind}
+use Rattle.laws.proofs.Valid.{LiveObject, GoodName, Used, Valid, live-kind}
 use Rattle.history.specs.Book.{Ledger, under, strikeLines, moveLines}
 use Rattle.history.proofs.View.{View, LiveIn, UsedIn, entriesAt, namingsIn, Path, Avoids, SameRecord, not-named}
-use Rattle.history.proofs.Tree.{Tree, lone, one-name}
-use Rattle.history.proofs.Change.{Created, Removed, Moved}
-use Rattle.history.proofs.Created.{created-tree}
+use Rattle.history.proofs.Tree.{Tree, no-name}
+use Rattle.history.proofs.Change.{Named, Removed, Moved, named-gens, named-kinds}
+use Rattle.history.proofs.Named.{named-tree}
 use Rattle.history.proofs.Removed.{removed-tree}
 use Rattle.history.proofs.Moved.{moved-tree}
-use Rattle.history.proofs.Agree.{Agrees, handleIn, agrees-same, created-agrees, removed-agrees, moved-agrees}
-use Rattle.history.proofs.Issue.{Issues, issues-same, live-same, created-issues, removed-issues, moved-issues}
-use Rattle.history.proofs.Seen.{view, kind-at, gen-at, dir-at, child-at, text-at, live-in, used-in, text-long}
+use Rattle.history.proofs.Agree.{Agrees, handleIn, agrees-same, named-agrees, removed-agrees, moved-agrees}
+use Rattle.history.proofs.Issue.{Issues, kept-issues, created-issues, removed-issues}
+use Rattle.history.proofs.Seen.{view, kind-at, gen-at, dir-at, child-at, text-at, live-in, used-in, text-long, namings-same}
 use Rattle.history.proofs.Bridge.{tree-of, valid-of}
 use Rattle.history.proofs.Frames.{kind-same, gen-same, name-same, set-obj, set-name}
+
+-- a live object may have a name
+some-names : (kind : ℕ) → 0 < mostNames kind
+some-names kind = by-bool (eqb kind 1) (λ t. rw t (lit< tt)) (λ t. rw t (lit< tt))
 
 pub record Inv (σ p q r : ℕ) (s : Store) (L : Ledger) : Type 0 where
   pub valid : Valid s
@@ -98,7 +106,7 @@ seen-inv σ p q r s t L I e K b o n =
       objs = e .objects ∙ I .objs;
       nams = e .names ∙ I .nams;
       blks = e .blocks ∙ I .blks;
-      issues = issues-same p σ (view s) (view t) (L .given) (λ i. omega (arith, o i .1, live-same (view s) (view t) i (o i .0))) (I .issues);
+      issues = kept-issues p σ (view s) (view t) (L .given) o (I .issues);
       agrees = agrees-same σ (view s) (view t) (L .book) o n (I .agrees);
     }
 
@@ -197,7 +205,12 @@ write-inv σ p q r s L I o offset xs l b n =
     same-keeps s t (kept-structure s t (write-file s o offset xs (g .sound) (live-at s g o k v) b n) .tree)
     (write-file-still s g o offset xs k v b n .good) σ p q r L I
 
--- ---- the fourth edit: an object and its name
+-- a new name keeps what later stores keep of earlier ones
+pub named-grew : (P Q : ℕ) (v w : View) (o n k d : ℕ) (t : List ℕ) → Named P Q v w o n k d t → Grew v w
+named-grew P Q v w o n k d t B =
+    record { older = λ i. omega (arith, named-gens P Q v w o n k d t B i); stays = λ i l x. named-kinds P Q v w o n k d t B i l }
+
+-- ---- the fifth edit: an object and its first name
 module _ (σ p q r : ℕ) (s : Store) (L : Ledger) (I : Inv σ p q r s L) (o n : ℕ) (v : Object) (d : ℕ) (text : List ℕ)
     (in-objs : o < objects s) (in-names : n < names s) (was-free : objectAt s o .kind ≡ 0) (low : objectAt s o .generation < spentGeneration)
     (was-blank : nameLength s n ≡ 0) (fits : FitsObject v) (live : LiveObject (blocks s) v) (empty : v .size ≡ 0) (name : GoodName text)
@@ -219,7 +232,10 @@ module _ (σ p q r : ℕ) (s : Store) (L : Ledger) (I : Inv σ p q r s L) (o n :
   unfolding t
   frame = create-object s o n v d text (g .sound) in-objs in-names fits (omega (arith, dl, I .valid .shaped .few-objects)) (name .short) below
 
-  pub created-of : Created p q (view s) (view (createObject s o n v d text)) o n (v .kind) d text
+  free : view s .kind o ≡ 0
+  free = kind-at s o in-objs ∙ was-free
+
+  pub created-of : Named p q (view s) (view (createObject s o n v d text)) o n (v .kind) d text
   unfolding t withGeneration
   created-of =
       let w = set-obj s t (frame .shape) o (withGeneration (objectAt s o .generation) v) in-objs (frame .object) (frame .other-objects) in
@@ -228,7 +244,9 @@ module _ (σ p q r : ℕ) (s : Store) (L : Ledger) (I : Inv σ p q r s L) (o n :
         nam = set-name s t (frame .shape) n (newName o d text) in-names (frame .name) (frame .other-names);
         in-objs = omega (arith, I .objs);
         in-names = omega (arith, I .nams);
-        was-free = kind-at s o in-objs ∙ was-free;
+        not-root = λ e. omega (arith, free, tree σ p q r s L I .flat .root, ap (view s .kind) e);
+        same-type = λ l. absurd (omega (arith, free));
+        few = omega (arith, no-name p q (view s) (tree σ p q r s L I .flat) o free, some-names (v .kind));
         was-blank = ap length (text-at s n in-names) ∙ text-long s (I .valid .good-names) n in-names ∙ was-blank;
         live = live-kind (blocks s) v live;
         some = name .some-byte;
@@ -251,20 +269,16 @@ module _ (σ p q r : ℕ) (s : Store) (L : Ledger) (I : Inv σ p q r s L) (o n :
             record {
               valid = valid-by p q t
                   (create-object-still s g o n v d text in-objs was-free low in-names fits live empty dl dk name below .good)
-                  (e .objects ∙ I .objs) (e .names ∙ I .nams) (created-tree p q (view s) (view t) o n (v .kind) d text T created-of);
+                  (e .objects ∙ I .objs) (e .names ∙ I .nams) (named-tree p q (view s) (view t) o n (v .kind) d text T created-of);
               bytes = frame .sound .bytes;
               mark = e .stamp ∙ I .mark;
               objs = e .objects ∙ I .objs;
               nams = e .names ∙ I .nams;
               blks = e .blocks ∙ I .blks;
-              issues = created-issues p q σ (view s) (view t) o n (v .kind) d text (L .given) created-of (omega (arith, gen-at s o in-objs)) (I .issues);
-              agrees = created-agrees p q σ (view s) (view t) o n (v .kind) d text T created-of (L .book) (I .agrees);
+              issues = created-issues p q σ (view s) (view t) o n (v .kind) d text (L .given) created-of free (omega (arith, gen-at s o in-objs)) (I .issues);
+              agrees = named-agrees p q σ (view s) (view t) o n (v .kind) d text T created-of (L .book) (I .agrees);
             };
-        grew = record {
-          older = λ i. by-cases (ℕ-discrete i o) (λ x. rw x (omega (arith, created-of .obj .gen))) (λ x. omega (arith, created-of .obj .other i x .1));
-          stays = λ i l x. by-cases (ℕ-discrete i o) (λ y. absurd (omega (arith, ap (view s .kind) y, created-of .was-free)))
-              (λ y. created-of .obj .other i y .0);
-        };
+        grew = named-grew p q (view s) (view t) o n (v .kind) d text created-of;
       }
 
   pub create-keeps : Keeps σ p q r s (createObject s o n v d text)
@@ -276,12 +290,87 @@ module _ (σ p q r : ℕ) (s : Store) (L : Ledger) (I : Inv σ p q r s L) (o n :
   create-keeps =
       record {
         owes = create-inv;
-        kinds = λ i l. by-cases (ℕ-discrete i o) (λ y. absurd (omega (arith, ap (view s .kind) y, created-of .was-free))) (λ y. created-of .obj .other i y .0);
-        gens = λ i. by-cases (ℕ-discrete i o) (λ y. rw y (created-of .obj .gen)) (λ y. created-of .obj .other i y .1);
+        kinds = named-kinds p q (view s) (view (createObject s o n v d text)) o n (v .kind) d text created-of;
+        gens = named-gens p q (view s) (view (createObject s o n v d text)) o n (v .kind) d text created-of;
       }
 
--- ---- the fifth edit: an object and its name are removed
-module _ (σ p q r : ℕ) (s : Store) (L : Ledger) (I : Inv σ p q r s L) (n : ℕ) (used : UsedIn (view s) n)
+-- ---- the fourth edit: another name of a file
+module _ (σ p q r : ℕ) (s : Store) (L : Ledger) (I : Inv σ p q r s L) (o n d : ℕ) (text : List ℕ) (file : view s .kind o ≡ 1)
+    (few : namingsIn (names s) (view s) o < mostLinks) (in-names : n < names s) (was-blank : nameLength s n ≡ 0) (name : GoodName text)
+    (below : Below 256 text) (parent : view s .kind d ≡ 2) (absent : entriesAt (names s) (view s) d text ≡ 0) where
+  a : Store
+  a = addName s n o d text
+
+  ag : GoodRecords s
+  ag = good σ p q r s L I
+
+  ao : o < objects s
+  ao = live-in s o (omega arith)
+
+  ad : d < objects s
+  ad = live-in s d (omega arith)
+
+  added : NameSet s n (newName o d text) a
+  unfolding a
+  added = add-name s n d text (ag .sound) in-names (omega (arith, ad, I .valid .shaped .few-objects)) (name .short) below o
+      (omega (arith, ao, I .valid .shaped .few-objects))
+
+  kinds : (i : ℕ) → view a .kind i ≡ view s .kind i
+  kinds i = kind-same s a (added .shape) i (λ k. ap (λ (x : Object). x .kind) (added .each-object i k))
+
+  gens : (i : ℕ) → view a .gen i ≡ view s .gen i
+  gens i = gen-same s a (added .shape) i (λ k. ap (λ (x : Object). x .generation) (added .each-object i k))
+
+  linked-of : Named p q (view s) (view a) o n 1 d text
+  linked-of =
+      record {
+        obj = record { kind = kinds o ∙ file; gen = gens o; other = λ i _. (kinds i, gens i) };
+        nam = set-name s a (added .shape) n (newName o d text) in-names (added .name) (added .other-names);
+        in-objs = omega (arith, ao, I .objs);
+        in-names = omega (arith, I .nams);
+        was-blank = ap length (text-at s n in-names) ∙ text-long s (I .valid .good-names) n in-names ∙ was-blank;
+        not-root = λ e. omega (arith, file, tree σ p q r s L I .flat .root, ap (view s .kind) e);
+        live = omega arith;
+        same-type = λ l. file;
+        few = omega (arith, few, ap (λ (x : ℕ). namingsIn x (view s) o) (I .nams));
+        some = name .some-byte;
+        parent = parent;
+        absent = ap (λ (x : ℕ). entriesAt x (view s) d text) (sym (I .nams)) ∙ absent;
+      }
+
+  pub link-keeps : Keeps σ p q r s (addName s n o d text)
+      (record {
+        book = record { handle = handleIn σ (view s) o; kind = 1; standing = under (handleIn σ (view s) d) text } ∷ L .book;
+        given =
+            L .given;
+      })
+  unfolding a
+  link-keeps =
+      let T = tree σ p q r s L I in
+      let e = added .shape in
+      record {
+        owes = record {
+          inv =
+              record {
+                valid = valid-by p q a
+                    (add-name-still s ag n o d text in-names ao (live-seen σ p q r s L I o (omega arith)) ad (sym (kind-at s d ad) ∙ parent) name below .good)
+                    (e .objects ∙ I .objs) (e .names ∙ I .nams) (named-tree p q (view s) (view a) o n 1 d text T linked-of);
+                bytes = added .sound .bytes;
+                mark = e .stamp ∙ I .mark;
+                objs = e .objects ∙ I .objs;
+                nams = e .names ∙ I .nams;
+                blks = e .blocks ∙ I .blks;
+                issues = kept-issues p σ (view s) (view a) (L .given) (λ i. (kinds i, gens i)) (I .issues);
+                agrees = named-agrees p q σ (view s) (view a) o n 1 d text T linked-of (L .book) (I .agrees);
+              };
+          grew = named-grew p q (view s) (view a) o n 1 d text linked-of;
+        };
+        kinds = λ i l. kinds i;
+        gens = gens;
+      }
+
+-- ---- a name is removed, and with its last name the object
+module _ (σ p q r : ℕ) (s : Store) (L : Ledger) (I : Inv σ p q r s L) (clock : Time) (c : GoodClock clock) (n : ℕ) (used : UsedIn (view s) n)
     (empty : (m : ℕ) → UsedIn (view s) m → view s .dir m ≢ nameAt s n .child) where
   o : ℕ
   o = nameAt s n .child
@@ -299,67 +388,94 @@ module _ (σ p q r : ℕ) (s : Store) (L : Ledger) (I : Inv σ p q r s L) (n : �
   ol : o < objects s
   ol = live-in s o alive
 
-  rec : LiveObject (blocks s) (objectAt s o)
-  rec = live-at s (good σ p q r s L I) o ol (live-seen σ p q r s L I o alive)
+  rg : GoodRecords s
+  rg = good σ p q r s L I
 
-  used-record : 0 < nameLength s n
+  rec : LiveObject (blocks s) (objectAt s o)
+  rec = live-at s rg o ol (live-seen σ p q r s L I o alive)
+
+  used-record : Used s n
   used-record = omega (arith, ap length (text-at s n nl), text-long s (I .valid .good-names) n nl)
 
-  u : Store
-  u = removeObject s n
+  named-times : namingsIn q (view s) o ≡ namings s o
+  named-times = ap (λ (x : ℕ). namingsIn x (view s) o) (sym (I .nams)) ∙ namings-same s (I .valid .good-names) o
 
-  removal : BothSet s o (freeObject (objectAt s o .generation + 1)) n freeName u
-  unfolding u o
-  removal = remove-object s n o refl (good σ p q r s L I .sound) nl ol (rec .generation) (held-range s o rec)
+  -- the record that the object gets, and what becomes of it
+  module _ (u : Store) (v : Object) (set : BothSet s o v n freeName u)
+      (becomes : ((namings s o ≤ 1) × (v .kind ≡ 0) × (v .generation ≡ suc (objectAt s o .generation)))
+      ⊎ ((1 < namings s o) × (v .kind ≡ objectAt s o .kind) × (v .generation ≡ objectAt s o .generation))) where
+    removed-by : Removed q (view s) (view u) o n
+    unfolding o
+    removed-by =
+        let w = set-obj s u (set .shape) o v ol (set .object) (set .other-objects) in
+        let k = kind-at s o ol in
+        let g = gen-at s o ol in
+        record {
+          other = w .other;
+          object = ⊎-elim
+              (λ x. inl (omega (arith, x .0, named-times), w .kind ∙ x .1, omega (arith, w .gen, x .2)))
+              (λ x. inr (omega (arith, x .0, named-times), w .kind ∙ x .1 ∙ sym k, w .gen ∙ x .2 ∙ sym g))
+              becomes;
+          nam = set-name s u (set .shape) n freeName nl (set .name) (set .other-names);
+          not-root = λ z. not-named q (view s) 0 n (tree σ p q r s L I .flat .never) (omega (arith, nl, I .nams)) (used, child ∙ z);
+          named = (used, child);
+          empty = empty;
+        }
 
-  single : namingsIn q (view s) o ≤ 1
-  single = lone p q (view s) (tree σ p q r s L I .flat) o alive
+  -- how the edit sets both records
+  Set : Store → Type 0
+  Set u = (shape : SameShape s u) × (bytes : Below 256 u) × Removed q (view s) (view u) o n
 
-  pub removed-of : Removed p q (view s) (view (removeObject s n)) (nameAt s n .child) n 0 0
-  unfolding u o
-  removed-of =
-      let w = set-obj s u (removal .shape) o (freeObject (objectAt s o .generation + 1)) ol (removal .object) (removal .other-objects) in
-      record {
-        obj = record { kind = w .kind; gen = omega (arith, w .gen, gen-at s o ol); other = w .other };
-        nam = set-name s u (removal .shape) n freeName nl (removal .name) (removal .other-names);
-        not-root = λ z. not-named q (view s) 0 n (tree σ p q r s L I .flat .never) (omega (arith, nl, I .nams)) (used, child ∙ z);
-        named = (used, child);
-        last = single;
-        empty = empty;
-      }
+  set-both : Set (removeName s clock n)
+  unfolding Set o withAttributes
+  set-both = by-bool (ltb 1 (namings s o))
+      (λ t. let e = remove-one s rg clock n c nl used-record t in
+      let d = drop-set s rg clock n c nl used-record in
+      subst Set (sym e) (d .shape, d .sound .bytes, removed-by _ _ d (inr (ltb-true 1 (namings s o) t, refl, refl))))
+      (λ t. let e = remove-last s rg clock n c nl used-record t in
+      let d = remove-object s n o refl (rg .sound) nl ol (rec .generation) (held-range s o rec) in
+      subst Set (sym e) (d .shape, d .sound .bytes, removed-by _ _ d (inl (ltb-false 1 (namings s o) t, refl, omega arith))))
 
-  pub remove-inv : Owes σ p q r s (removeObject s n)
+  pub removed-of : Removed q (view s) (view (removeName s clock n)) (nameAt s n .child) n
+  unfolding o Set
+  removed-of = set-both .2
+
+  pub remove-inv : Owes σ p q r s (removeName s clock n)
       (record { book = strikeLines (handleIn σ (view s) (view s .dir n)) (view s .text n) (L .book); given = L .given })
-  unfolding u o
+  unfolding o Set
   remove-inv =
       let T = tree σ p q r s L I in
-      let e = removal .shape in
+      let (e, bytes, R) = set-both in
+      let u = removeName s clock n in
       record {
         inv =
             record {
               valid = valid-by p q u
-                  (remove-object-still s (good σ p q r s L I) n nl used-record
-                  (λ m l d x. let y : UsedIn (view s) m = omega (arith, ap length (text-at s m l), text-long s (I .valid .good-names) m l) in (
-                    (λ z. d (one-name p q (view s) (T .flat) o m n single (y, child-at s m l ∙ z) (used, child))),
-                    (λ z. empty m y (dir-at s m l ∙ z)),
-                  )) .good)
-                  (e .objects ∙ I .objs) (e .names ∙ I .nams) (removed-tree p q (view s) (view u) o n 0 0 T removed-of);
-              bytes = removal .sound .bytes;
+                  (remove-name-still s rg clock n c nl used-record
+                  (λ m l x z. empty m (omega (arith, ap length (text-at s m l), text-long s (I .valid .good-names) m l)) (dir-at s m l ∙ z)) .good)
+                  (e .objects ∙ I .objs) (e .names ∙ I .nams) (removed-tree p q (view s) (view u) o n T R);
+              bytes = bytes;
               mark = e .stamp ∙ I .mark;
               objs = e .objects ∙ I .objs;
               nams = e .names ∙ I .nams;
               blks = e .blocks ∙ I .blks;
-              issues = removed-issues p q σ (view s) (view u) o n 0 0 (L .given) T removed-of (I .issues);
-              agrees = removed-agrees p q σ (view s) (view u) o n 0 0 T removed-of (L .book) (I .agrees);
+              issues = removed-issues p q σ (view s) (view u) o n (L .given) T R (I .issues);
+              agrees = removed-agrees p q σ (view s) (view u) o n T R (L .book) (I .agrees);
             };
         grew = record {
-          older = λ i. by-cases (ℕ-discrete i o) (λ x. rw x (omega (arith, removed-of .obj .gen))) (λ x. omega (arith, removed-of .obj .other i x .1));
+          older = λ i. by-cases (ℕ-discrete i o)
+              (λ x. rw x (⊎-elim (λ y. omega (arith, y .2)) (λ y. omega (arith, y .2)) (R .object)))
+              (λ x. omega (arith, R .other i x .1));
           stays = λ i l x. by-cases (ℕ-discrete i o)
-              (λ y. absurd (omega (arith, ap (view s .gen) y, ap (view u .gen) y, removed-of .obj .gen))) (λ y. removed-of .obj .other i y .0);
+              (λ y. ⊎-elim
+              (λ z. absurd (omega (arith, ap (view s .gen) y, ap (view u .gen) y, z .2)))
+              (λ z. ap (view u .kind) y ∙ z .1 ∙ ap (view s .kind) (sym y))
+              (R .object))
+              (λ y. R .other i y .0);
         };
       }
 
--- ---- the sixth edit: a name is moved
+-- ---- the eighth edit: a name is moved
 module _ (σ p q r : ℕ) (s : Store) (L : Ledger) (I : Inv σ p q r s L) (n d : ℕ) (text : List ℕ) (used : UsedIn (view s) n)
     (name : GoodName text) (below : Below 256 text) (parent : view s .kind d ≡ 2) (absent : entriesAt (names s) (view s) d text ≡ 0)
     (clear : (qs : List ℕ) → Path (view s) d qs → Avoids (view s) (nameAt s n .child) d qs) where
@@ -415,7 +531,7 @@ module _ (σ p q r : ℕ) (s : Store) (L : Ledger) (I : Inv σ p q r s L) (n d :
               objs = e .objects ∙ I .objs;
               nams = e .names ∙ I .nams;
               blks = e .blocks ∙ I .blks;
-              issues = moved-issues p q σ (view s) (view m) n d text (L .given) moved-of (I .issues);
+              issues = kept-issues p σ (view s) (view m) (L .given) (λ i. (moved-of .kinds i, moved-of .gens i)) (I .issues);
               agrees = moved-agrees p q σ (view s) (view m) n d text T moved-of (L .book) (I .agrees);
             };
         grew = grew-same (view s) (view m) (λ i. (moved-of .kinds i, moved-of .gens i));

@@ -10,7 +10,7 @@ use Rattle.history.specs.Book.{handleBytes}
 use Rattle.history.proofs.Sum.{ind, ind-same, ind-yes, ind-no}
 use Rattle.history.proofs.View.{View, LiveIn}
 use Rattle.history.proofs.Tree.{Tree, live?}
-use Rattle.history.proofs.Change.{Created, Removed, Moved}
+use Rattle.history.proofs.Change.{Named, Removed}
 use Rattle.history.proofs.Handles.{same-object, same-generation}
 use Rattle.history.proofs.Agree.{handleIn}
 
@@ -48,19 +48,25 @@ issues-same P σ v w given s A =
 pub live-same : (v w : View) (i : ℕ) → w .kind i ≡ v .kind i → ind (live? w i) ≡ ind (live? v i)
 live-same v w i e = ind-same (live? w i) (live? v i) (λ h. omega arith) (λ h. omega arith)
 
-pub moved-issues : (P Q σ : ℕ) (v w : View) (q e : ℕ) (t : List ℕ) (given : List (List ℕ)) → Moved P Q v w q e t → Issues P σ v given → Issues P σ w given
-moved-issues P Q σ v w q e t given M = issues-same P σ v w given (λ i. omega (arith, M .gens i, live-same v w i (M .kinds i)))
-
-pub removed-issues : (P Q σ : ℕ) (v w : View) (o q d c : ℕ) (given : List (List ℕ)) → Tree P Q v → Removed P Q v w o q d c → Issues P σ v given
+-- types and generations stay
+pub kept-issues : (P σ : ℕ) (v w : View) (given : List (List ℕ)) → ((i : ℕ) → (w .kind i ≡ v .kind i) × (w .gen i ≡ v .gen i)) → Issues P σ v given
     → Issues P σ w given
-removed-issues P Q σ v w o q d c given T N = issues-same P σ v w given (λ i. by-cases (ℕ-discrete i o)
-    (λ e. rw e (omega (
+kept-issues P σ v w given k = issues-same P σ v w given (λ i. omega (arith, k i .1, live-same v w i (k i .0)))
+
+-- a name is removed
+pub removed-issues : (P Q σ : ℕ) (v w : View) (o q : ℕ) (given : List (List ℕ)) → Tree P Q v → Removed Q v w o q → Issues P σ v given
+    → Issues P σ w given
+removed-issues P Q σ v w o q given T N = issues-same P σ v w given (λ i. by-cases (ℕ-discrete i o)
+    (λ e. rw e (⊎-elim
+    (λ x. omega (
       arith,
-      N .obj .gen,
-      ind-no (live? w o) (λ l. omega (arith, N .obj .kind)),
+      x .2,
+      ind-no (live? w o) (λ l. omega (arith, x .1)),
       ind-yes (live? v o) (omega (arith, T .flat .ends q (N .named .0), ap (v .kind) (N .named .1))),
-    )))
-    (λ n. let x = N .obj .other i n in omega (arith, x .1, live-same v w i (x .0))))
+    ))
+    (λ x. omega (arith, x .2, live-same v w o (x .1)))
+    (N .object)))
+    (λ n. let x = N .other i n in omega (arith, x .1, live-same v w i (x .0))))
 
 -- the object of an issued handle is in range, and so is its generation
 pub issued-small : (P σ : ℕ) (v : View) (given : List (List ℕ)) → Issues P σ v given → (o g : ℕ) → g < issued v o
@@ -69,25 +75,26 @@ issued-small P σ v given A o g l =
     let k : o < P = by-cases (decLt o P) (λ x. x) (λ n. absurd (omega (arith, A .past o (omega arith)))) in
     (k, omega (arith, A .small), omega (arith, A .few o))
 
-module _ (P Q σ : ℕ) (v w : View) (o q k d : ℕ) (t : List ℕ) (given : List (List ℕ)) (B : Created P Q v w o q k d t) (low : v .gen o < spentGeneration)
-    (A : Issues P σ v given) where
+-- the handle that a free object gets was never given out
+pub fresh : (P σ : ℕ) (v : View) (given : List (List ℕ)) → Issues P σ v given → (o : ℕ) → o < P → v .kind o ≡ 0 → List·Memᴰ (handleIn σ v o) given → ⊥
+fresh P σ v given A o below z m =
+    let (i, g, e, l) = A .each (handleIn σ v o) .0 m in
+    let b = issued-small P σ v given A i g l in
+    let x : o ≡ i = same-object σ o (v .gen o) i g (omega (arith, A .small)) (b .1) e in
+    let y : v .gen o ≡ g = same-generation σ o (v .gen o) i g (omega (arith, A .few o)) (b .2) e in
+    omega (arith, ind-no (live? v o) (λ k. omega (arith, z)), ap (issued v) x)
+
+-- a free object gets its first name
+module _ (P Q σ : ℕ) (v w : View) (o q k d : ℕ) (t : List ℕ) (given : List (List ℕ)) (B : Named P Q v w o q k d t) (was-free : v .kind o ≡ 0)
+    (low : v .gen o < spentGeneration) (A : Issues P σ v given) where
   one-more : issued w o ≡ suc (v .gen o)
   one-more = omega (arith, B .obj .gen, ind-yes (live? w o) (omega (arith, B .obj .kind, B .live)))
 
   none-yet : issued v o ≡ v .gen o
-  none-yet = omega (arith, ind-no (live? v o) (λ l. omega (arith, B .was-free)))
+  none-yet = omega (arith, ind-no (live? v o) (λ l. omega (arith, was-free)))
 
   others : (i : ℕ) → i ≢ o → issued w i ≡ issued v i
   others i n = let x = B .obj .other i n in omega (arith, x .1, live-same v w i (x .0))
-
-  -- the handle was never given out
-  pub fresh : List·Memᴰ (handleIn σ v o) given → ⊥
-  fresh m =
-      let (i, g, e, l) = A .each (handleIn σ v o) .0 m in
-      let b = issued-small P σ v given A i g l in
-      let x : o ≡ i = same-object σ o (v .gen o) i g (omega (arith, B .in-objs, A .small)) (b .1) e in
-      let y : v .gen o ≡ g = same-generation σ o (v .gen o) i g (omega arith) (b .2) e in
-      omega (arith, none-yet, ap (issued v) x)
 
   pub created-issues : Issues P σ w (handleIn σ v o ∷ given)
   created-issues = record {

@@ -1,13 +1,13 @@
--- Handles through a list of requests: a new line's was never given out, and a removed one is never an object's again. Assumes nothing.
-use mathlib.Core.Path.{_≡_, refl, sym, ap, _∙_, subst}
+-- Handles through a list of requests: one that was given out stays so, and a removed one is never an object's again. Assumes nothing.
+use mathlib.Core.Path.{_≡_, sym, ap, _∙_}
 use mathlib.Core.Logic.{by-cases, ⊎-elim}
-use mathlib.Core.List.{List, _∷_, List·Memᴰ·head, List·Memᴰ·tail}
+use mathlib.Core.List.{List}
 use Prim.Native.Nat.{ℕ, _≤_, _<_}
 use native.Mathlib.Decide.{ℕ-discrete}
 use native.Mathlib.Omega.{arith}
 use Rattle.spec.specs.Image.{Store}
-use Rattle.history.specs.Book.{Line, Book, Ledger, handleBytes}
-use Rattle.history.specs.Statement.{In, HasLine, IsRemoved, StandApart}
+use Rattle.history.specs.Book.{Ledger, handleBytes}
+use Rattle.history.specs.Statement.{In, HasLine, IsRemoved}
 use Rattle.history.proofs.Sum.{ind-yes, ind-no}
 use Rattle.history.proofs.View.{LiveIn}
 use Rattle.history.proofs.Tree.{live?}
@@ -15,7 +15,7 @@ use Rattle.history.proofs.Handles.{same-object, same-generation}
 use Rattle.history.proofs.Issue.{issued, issued-small}
 use Rattle.history.proofs.Seen.{view}
 use Rattle.history.proofs.Inv.{Inv, Grew, tree}
-use Rattle.history.proofs.Lines.{current-lined, lined-current, stand-apart, one-line}
+use Rattle.history.proofs.Lines.{current-lined, lined-current}
 use Rattle.history.proofs.Counts.{given-or}
 
 module _ (σ p q r : ℕ) (s : Store) (L : Ledger) (I : Inv σ p q r s L) where
@@ -37,26 +37,6 @@ module _ (σ p q r : ℕ) (s : Store) (L : Ledger) (I : Inv σ p q r s L) where
 
 -- ---- one request, and any list
 module _ (σ p q r : ℕ) (s t : Store) (L M : Ledger) (I : Inv σ p q r s L) (J : Inv σ p q r t M) (G : Grew (view s) (view t)) where
-  -- "A line added .. is a new object's, its handle never given out before"
-  pub added-fresh : (l : Line) → M .book ≡ l ∷ L .book → In (l .handle) (L .given) → ⊥
-  added-fresh l e m =
-      let (o, g, x, k) = I .issues .each (l .handle) .0 m in
-      let z = issued-small p σ (view s) (L .given) (I .issues) o g k in
-      let back : (j : Line) → In j (l ∷ L .book) → In j (M .book) = λ j. subst (λ (c : Book). In j c) (sym e) in
-      let first = back l (List·Memᴰ·head refl) in
-      ⊎-elim
-      (λ (y : LiveIn (view s) o × (g ≡ view s .gen o)).
-      let (w, a, b, c) = current-lined σ p q r s L I o (y .0) in
-      let same : l ≡ w = one-line σ p q r t M J l w first (back w (List·Memᴰ·tail a)) (x ∙ ap (handleBytes σ o) (y .1) ∙ sym b) in
-      subst StandApart e (stand-apart σ p q r t M J) .0 w a (ap (λ (j : Line). j .standing) (sym same)))
-      (λ (y : g < view s .gen o).
-      let (i, v, a, b) = lined-current σ p q r t M J (l .handle) (l .kind) (l, first, refl, refl) in
-      let n = small-live σ p q r t M J i v in
-      let io : o ≡ i = same-object σ o g i (view t .gen i) (z .1) (n .0) (sym x ∙ a) in
-      let ig : g ≡ view t .gen i = same-generation σ o g i (view t .gen i) (z .2) (n .1) (sym x ∙ a) in
-      omega (arith, G .older o, ap (view t .gen) io))
-      (given-or σ p q r s L I o g k)
-
   -- what was given out stays so
   more-issued : (i : ℕ) → issued (view s) i ≤ issued (view t) i
   more-issued i = by-cases (live? (view s) i)

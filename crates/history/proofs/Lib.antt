@@ -6,7 +6,7 @@ pub mod Lists
 pub mod View
 pub mod Tree
 pub mod Change
-pub mod Created
+pub mod Named
 pub mod Removed
 pub mod Moved
 pub mod Walk
@@ -31,6 +31,7 @@ pub mod Sizes
 pub mod Making
 pub mod Lines
 pub mod Create
+pub mod Linking
 pub mod Removing
 pub mod Renaming
 pub mod Next
@@ -45,6 +46,8 @@ pub mod Nospc
 pub mod Only
 pub mod Conditions
 pub mod Again
+pub mod Linked
+pub mod Losing
 pub mod Onto
 pub mod Demand
 -- The book over bytes, by computation.

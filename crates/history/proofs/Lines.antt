@@ -21,8 +21,8 @@ use Rattle.history.specs.Book.{asRoot, under, Line, Book, Ledger, handle
 use Rattle.history.specs.Statement.{In, HasLine, HasName, StoredObject, StoredName, StandApart}
 use Rattle.history.proofs.Sum.{ind-yes, ind-true, ind-le}
 use Rattle.history.proofs.Lists.{All, times-all}
-use Rattle.history.proofs.View.{LiveIn, UsedIn, named-by, not-named}
-use Rattle.history.proofs.Tree.{Tree, lone, one-name}
+use Rattle.history.proofs.View.{LiveIn, UsedIn, named-by}
+use Rattle.history.proofs.Tree.{Tree}
 use Rattle.history.proofs.Handles.{same-object}
 use Rattle.history.proofs.Agree.{Agrees, handleIn, lineOf, rootLine, at-yes, at-no, used?, all-used, own, not-root}
 use Rattle.history.proofs.Seen.{view, kind-at, dir-at, child-at, text-at, live-in, used-in, used-of, of-used}
@@ -47,7 +47,7 @@ total-map f g [] = refl
 total-map f g (x ∷ xs) = omega (arith, total-map f g xs)
 
 -- a term with a factor of 0 or 1
-factor-no : (k x : ℕ) → k ≡ 0 → k * x ≡ 0
+pub factor-no : (k x : ℕ) → k ≡ 0 → k * x ≡ 0
 factor-no k x e = ap (λ (j : ℕ). j * x) e ∙ zero-mul x
 
 pub factor-yes : (k x : ℕ) → k ≡ 1 → k * x ≡ x
@@ -236,37 +236,11 @@ module _ (σ p q r : ℕ) (s : Store) (L : Ledger) (I : Inv σ p q r s L) where
   stand-apart = subst StandApart (sym (A .lines))
       (apart (A .order) (all-used (view s) (A .order) (A .each)) (λ n. omega (arith, A .each n, ind-le (used? (view s) n))))
 
-  -- an object has one line, for now
-  pub one-line : (k l : Line) → In k (L .book) → In l (L .book) → k .handle ≡ l .handle → k ≡ l
+  -- live objects with one handle are one
+  pub same-live : (i j : ℕ) → LiveIn (view s) i → LiveIn (view s) j → handleIn σ (view s) i ≡ handleIn σ (view s) j → i ≡ j
   unfolding T
-  one-line k l a b e = go (in-book k .0 a) (in-book l .0 b)
-    where
-      At : Line → Type 0
-      At l = (l ≡ rootLine σ (view s)) ⊎ ((n : ℕ) × UsedIn (view s) n × (lineOf σ (view s) n ≡ l))
-
-      small : (o : ℕ) → LiveIn (view s) o → o < 4294967296
-      small o v = omega (arith, T .flat .past o v, T .flat .few)
-
-      object : (i j : ℕ) → LiveIn (view s) i → LiveIn (view s) j → handleIn σ (view s) i ≡ handleIn σ (view s) j → i ≡ j
-      object i j u v = same-object σ i (view s .gen i) j (view s .gen j) (small i u) (small j v)
-
-      root : LiveIn (view s) 0
-      root = omega (arith, T .flat .root)
-
-      unnamed : (n : ℕ) → UsedIn (view s) n → handleIn σ (view s) (view s .child n) ≡ handleIn σ (view s) 0 → k ≡ l
-      unnamed n u h = absurd (not-named q (view s) 0 n (T .flat .never) (T .flat .rows n u) (u, object (view s .child n) 0 (T .flat .ends n u) root h))
-
-      of : {x y : Line} → x ≡ y → x .handle ≡ y .handle
-      of z = ap (λ (m : Line). m .handle) z
-
-      go : At k → At l → k ≡ l
-      go (inl x) (inl y) = x ∙ sym y
-      go (inl x) (inr (n, u, y)) = unnamed n u (of y ∙ sym e ∙ of x)
-      go (inr (n, u, x)) (inl y) = unnamed n u (of x ∙ e ∙ of y)
-      go (inr (n, u, x)) (inr (m, v, y)) =
-          let c = object (view s .child n) (view s .child m) (T .flat .ends n u) (T .flat .ends m v) (of x ∙ e ∙ sym (of y)) in
-          let z = one-name p q (view s) (T .flat) (view s .child m) n m (lone p q (view s) (T .flat) (view s .child m) (T .flat .ends m v)) (u, c) (v, refl) in
-          sym x ∙ ap (lineOf σ (view s)) z ∙ y
+  same-live i j u v =
+      same-object σ i (view s .gen i) j (view s .gen j) (omega (arith, T .flat .past i u, T .flat .few)) (omega (arith, T .flat .past j v, T .flat .few))
 
   -- the book's handle of a name that has a line, and of one that is found
   pub name-handle : (d text h : List ℕ) → HasName (L .book) d h text → handleUnder d text (L .book) ≡ some h

@@ -41,6 +41,10 @@ pub handle-seen : (σ p q r : ℕ) (s : Store) (L : Ledger) → Inv σ p q r s L
 unfolding handleOf
 handle-seen σ p q r s L I o l = λ i. handleBytes (I .mark i) o (sym (gen-at s o l) i)
 
+-- a handle that reaches an object is the object's
+pub reached-own : (σ p q r : ℕ) (s : Store) (L : Ledger) → Inv σ p q r s L → (h : List ℕ) → Below 256 h → (o : ℕ) → Reached s h o → h ≡ handleIn σ (view s) o
+reached-own σ p q r s L I h b o w = handle-reached s h o w b ∙ handle-seen σ p q r s L I o (w .below)
+
 -- the name `text` in directory d, whose handle is h: it has no line where no record is there, and one where one is
 module _ (σ p q r : ℕ) (s : Store) (L : Ledger) (I : Inv σ p q r s L) (h text : List ℕ) (d : ℕ) (k : view s .kind d ≡ 2) (own : h ≡ handleIn σ (view s) d) where
   pub line-none : entriesAt (names s) (view s) d text ≡ 0 → someAt h text (L .book) ≡ false
@@ -155,7 +159,7 @@ module _ (σ p q r : ℕ) (s : Store) (L : Ledger) (I : Inv σ p q r s L) (c : C
     directory-kind = kind-at s d (w .below) ∙ dk
 
     pub directory-handle : h ≡ handleIn σ (view s) d
-    directory-handle = handle-reached s h d w hb ∙ handle-seen σ p q r s L I d (w .below)
+    directory-handle = reached-own σ p q r s L I h hb d w
 
     pub line-added : (o kind : ℕ) → entriesAt (names s) (view s) d text ≡ 0 → add (handleIn σ (view s) o) kind h text L ≡ withLine σ s L o kind d text
     line-added o kind z =

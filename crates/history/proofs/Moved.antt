@@ -6,6 +6,7 @@ use Prim.Native.Nat.{ℕ, _<_}
 use native.Mathlib.Decide.{ℕ-discrete}
 use native.Mathlib.Omega.{arith}
 use lib.ListN.{length}
+use Rattle.spec.specs.Check.{mostNames}
 use Rattle.history.proofs.Sum.{ind-same, ind-no, ind-le}
 use Rattle.history.proofs.View.{View, LiveIn, UsedIn, names?, at?, namingsIn, entriesAt, Path, namings-set, entries-set}
 use Rattle.history.proofs.Tree.{Tree}
@@ -62,7 +63,7 @@ module _ (P Q : ℕ) (v w : View) (q e : ℕ) (t : List ℕ) (T : Tree P Q v) (M
           (λ n. ap (w .kind) (M .nam .other p n .dir) ∙ M .kinds (v .dir p) ∙ T .flat .dirs p (before p u));
       ends = λ p u. omega (arith, T .flat .ends p (before p u), ap (w .kind) (childs p), M .kinds (v .child p));
       never = same-naming 0 ∙ T .flat .never;
-      once = λ i z l. omega (arith, same-naming i, T .flat .once i z (live i l));
+      once = λ i z l. omega (arith, same-naming i, T .flat .once i z (live i l), ap mostNames (M .kinds i));
       apart = λ d u. by-cases (at? w q d u)
           (λ h. omega (
             arith,

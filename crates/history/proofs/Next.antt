@@ -2,7 +2,7 @@
 use mathlib.Core.Path.{_≡_, refl, sym, ap, _∙_, subst}
 use mathlib.Core.Logic.{_≢_, by-cases, ⊎-elim, _⊎_}
 use mathlib.Core.List.{List, [], _∷_, List·Memᴰ, List·Memᴰ·head, List·Memᴰ·cases-cons, List·Memᴰ·not-nil}
-use Prim.Native.Nat.{ℕ, _<_}
+use Prim.Native.Nat.{ℕ}
 use native.Mathlib.Decide.{ℕ-discrete, decLt}
 use native.Mathlib.Omega.{arith}
 use lib.ListN.{length}
@@ -38,6 +38,7 @@ use Rattle.history.proofs.Ranges.{asked-fits}
 use Rattle.history.proofs.Noted.{Answer, note-quiet}
 use Rattle.history.proofs.Sizes.{setattr-keeps, write-keeps}
 use Rattle.history.proofs.Create.{create-made, mkdir-made}
+use Rattle.history.proofs.Linking.{link-owes}
 use Rattle.history.proofs.Removing.{remove-owes, rmdir-owes}
 use Rattle.history.proofs.Renaming.{rename-owes}
 
@@ -70,6 +71,7 @@ module _ (σ p q r : ℕ) (s : Store) (L : Ledger) (I : Inv σ p q r s L) where
     act-owes (Call.Remove x) f A = remove-owes σ p q r s L I c clock call reply bytes x A
     act-owes (Call.Rmdir x) f A = rmdir-owes σ p q r s L I c clock call reply bytes x A
     act-owes (Call.Rename x y) f A = rename-owes σ p q r s L I c clock call reply bytes x y A
+    act-owes (Call.Link h x) f A = link-owes σ p q r s L I c clock call reply bytes h x A
     act-owes (Call.Readdir h k v n) f A = quiet _ _ (readdir-store s (cut call h) k v n) (note-quiet call reply (Call.Readdir h k v n) L (A .reads) refl)
     act-owes (Call.Fsstat h) f A = quiet _ _ (fsstat-store s (cut call h)) (note-quiet call reply (Call.Fsstat h) L (A .reads) refl)
     act-owes (Call.Fsinfo h) f A = quiet _ _ (fsinfo-store s (cut call h)) (note-quiet call reply (Call.Fsinfo h) L (A .reads) refl)

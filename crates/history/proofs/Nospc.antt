@@ -1,16 +1,17 @@
--- NOSPC is answered exactly where the room that the book counts is missing, and OK where it is there. Assumes nothing.
+-- NOSPC is answered exactly where the room that the book counts is missing, and OK where it is there; MLINK to a LINK of a file with 16 names.
+-- Assumes nothing.
 use mathlib.Core.Path.{_≡_, refl, sym, ap, _∙_, subst}
-use mathlib.Core.Logic.{_⊎_, inl, inr, by-cases, ⊎-elim}
+use mathlib.Core.Logic.{_↔_, _⊎_, inl, inr, by-cases, ⊎-elim}
 use mathlib.Core.Bool.{Bool, true, false, _&&_, _||_, not}
 use mathlib.Core.Option.{Option, some, none}
 use mathlib.Core.List.{List}
 use Prim.Native.Nat.{ℕ, _+_, _-_, _≤_, _<_, min}
 use native.Mathlib.Decide.{ℕ-discrete, decLt}
 use native.Mathlib.Omega.{arith}
-use lib.Dec.{eqb, ltb, lit<}
+use lib.Dec.{eqb, leb, ltb, lit<}
 use lib.ListN.{length, take}
-use borrow.Author.Tests.{eq-eqb, ne-eqb, lt-ltb, le-ltb, ltb-true}
-use Rattle.kinds.specs.Numbers.{NOSPC, mostTransferBytes, mostFileBytes}
+use borrow.Author.Tests.{eq-eqb, ne-eqb, lt-ltb, le-ltb, ltb-true, le-leb, lt-leb, leb-true}
+use Rattle.kinds.specs.Numbers.{NOSPC, MLINK, mostTransferBytes, mostFileBytes, mostLinks}
 use Rattle.kinds.specs.declared.object.Context.{Context}
 use Rattle.kinds.specs.declared.call.Part.{Part}
 use Rattle.kinds.specs.declared.call.NameIn.{NameIn}
@@ -28,11 +29,12 @@ use Rattle.spec.specs.Image.{Store, objects, names, objectAt, nameAt}
 use Rattle.spec.specs.Procedures.{cut, act}
 use Rattle.spec.specs.Procedures.Attributes.{isGiven, sizeSet, badAttributes, lacksRoom, differs, checkSetattr, setattrEdit, edited, setattr}
 use Rattle.spec.specs.Procedures.Data.{reachRegular, grown, checkWrite, writeDone, write}
+use Rattle.spec.specs.Procedures.Link.{checkAdded, checkLink, linkEdit, failLinking, linkedTo, link}
 use Rattle.spec.specs.Procedures.Names.{Target, new, existing, isNew, roomForNew, settableIn, isMadeBy, checkNew, checkExisting, checkHow, checkCreate}
 use Rattle.spec.specs.Procedures.Names.{createEdit, create, checkMkdir, mkdir, createdIn, newObject, newEdit}
 use Rattle.spec.specs.Results.{Result, Done, failChanging, settle}
 use Rattle.spec.specs.Room.{isRegular, isDirectory, isAvailable, isUsedName, sizeOf, need, freeBlockCount, availableCount, availableObject}
-use Rattle.spec.specs.Room.{freeNameCount, availableName, findName}
+use Rattle.spec.specs.Room.{freeNameCount, availableName, findName, namings}
 use Rattle.laws.proofs.Count.{by-bool, sum-at, lowest-passes, lowest-none, true-false}
 use Rattle.laws.proofs.Error.{statusOf}
 use Rattle.laws.proofs.Resent.{same-size}
@@ -45,8 +47,9 @@ use Rattle.history.proofs.Asking.{AsksStore}
 use Rattle.history.proofs.Inv.{Inv}
 use Rattle.history.proofs.Replies.{answered-is, answered-ok}
 use Rattle.history.proofs.Counts.{free-blocks, free-names, available-objects}
-use Rattle.history.proofs.Noted.{Answer, Says, changing-says, changed-says, wrote-says, created-says}
+use Rattle.history.proofs.Noted.{Answer, Says, changing-says, changed-says, wrote-says, created-says, linked-says, linking-says}
 use Rattle.history.proofs.Asked.{acted}
+use Rattle.history.proofs.Statuses.{MayAdd}
 use Rattle.history.proofs.Next.{answer-to}
 
 -- ---- an answer by a test
@@ -84,6 +87,27 @@ lowest-found n f l = go (lowest n f) refl
     go : (x : Option ℕ) → lowest n f ≡ x → (k : ℕ) × (lowest n f ≡ some k)
     go none e = absurd (omega (arith, count-nothing n f (λ i m. lowest-none f n i e m)))
     go (some k) e = (k, e)
+
+some-of : (a b : ℕ) → a ≡ b → (a ≡ 0 → ⊥) → 0 < b
+some-of a b e n = by-cases (ℕ-discrete a 0) (λ z. absurd (n z)) (λ z. omega arith)
+
+-- the status of a LINK that passes its checks before MLINK
+linkStatus : Bool → Option ℕ → ℕ
+linkStatus true n = MLINK
+linkStatus false none = NOSPC
+linkStatus false (some n) = 0
+
+status-small : (t : Bool) (n : Option ℕ) → linkStatus t n < 4294967296
+unfolding linkStatus
+status-small true n = lit< tt
+status-small false none = lit< tt
+status-small false (some n) = lit< tt
+
+is-many : (t : Bool) (n : Option ℕ) → eqb (linkStatus t n) MLINK ≡ t
+unfolding linkStatus
+is-many true n = refl
+is-many false none = refl
+is-many false (some n) = refl
 
 -- the two kinds of room that can be missing
 abbrev BlocksMissing : ℕ → ℕ → Store → Ledger → ℕ → ℕ → Type 0
@@ -212,9 +236,6 @@ module _ (σ p q r : ℕ) (s : Store) (L : Ledger) (I : Inv σ p q r s L) where
       let (n, f) = lowest-found (names s) (λ n. not (isUsedName s n))
       (some-of (namesLeft q L) (count (names s) (λ n. not (isUsedName s n))) names-left (λ z. m (inr (inl z)))) in
       ((o, n), rw (e, f, missing-no 0 size (λ z. m (inr (inr (omega arith))))))
-    where
-      some-of : (a b : ℕ) → a ≡ b → (a ≡ 0 → ⊥) → 0 < b
-      some-of a b e n = by-cases (ℕ-discrete a 0) (λ z. absurd (n z)) (λ z. omega arith)
 
   -- ---- CREATE of a new file
   create-room : (x : Request) (place : NameIn) (manner : How) (d : ℕ) → Asks x (Call.Create place manner)
@@ -300,6 +321,64 @@ module _ (σ p q r : ℕ) (s : Store) (L : Ledger) (I : Inv σ p q r s L) where
       subst (λ (y : Checked (ℕ × ℕ × ℕ)). Says (result y) 0) (sym (checks ∙ ap rest e))
       (created-says _ _ _))
 
+  -- ---- LINK
+  module _ (x : Request) (source : Part) (place : NameIn) (o d : ℕ) (k : Asks x (Call.Link source place))
+      (m : MayAdd s (cut (x .call) source) (cut (x .call) (place .directory)) (cut (x .call) (place .name)) o d) where
+    file : List ℕ
+    file = cut (x .call) source
+
+    into : List ℕ
+    into = cut (x .call) (place .directory)
+
+    text : List ℕ
+    text = cut (x .call) (place .name)
+
+    -- the checks from MLINK on, by what is found
+    rest : Bool → Option ℕ → Checked (ℕ × ℕ × ℕ)
+    rest t n = bind (bind (refuseIf t MLINK) (λ _. present NOSPC n)) (λ n. passed (o, d, n))
+
+    link-checks : checkLink s file into text ≡ rest (leb mostLinks (namings s o)) (availableName s)
+    unfolding checkLink checkAdded file into text rest
+    link-checks = rw (m .reached, m .file, m .directory, m .name, m .no-dots, m .fresh)
+
+    result : Checked (ℕ × ℕ × ℕ) → Result
+    result y = settle s (failLinking s file into) y (λ p. linkedTo s (p .0) (p .1) (linkEdit s (x .context) (p .0) (p .1) (p .2) text)) .result
+
+    link-answer : Answer (x .call) (replyTo s x) (Call.Link source place) (result (checkLink s file into text))
+    unfolding act link file into text result
+    link-answer = answer-to σ p q r s L I x (Call.Link source place) k
+
+    -- what is said, by the test of MLINK and by the free name
+    link-says : (t : Bool) (n : Option ℕ) → leb mostLinks (namings s o) ≡ t → availableName s ≡ n → Says (result (rest t n)) (linkStatus t n)
+        → Says (result (checkLink s file into text)) (linkStatus t n)
+    link-says t n e f = subst (λ (y : Checked (ℕ × ℕ × ℕ)). Says (result y) (linkStatus t n)) (sym (link-checks ∙ (λ i. rest (e i) (f i))))
+
+    says-by : (t : Bool) (n : Option ℕ) → Says (result (rest t n)) (linkStatus t n)
+    unfolding result rest linkStatus
+    says-by true n = linking-says s file into MLINK
+    says-by false none = linking-says s file into NOSPC
+    says-by false (some n) = linked-says 0 _ _
+
+    link-room : namings s o < mostLinks → AnswersRoom (replyTo s x) (namesLeft q L ≡ 0)
+    unfolding availableName freeNameCount linkStatus
+    link-room few =
+        let f : leb mostLinks (namings s o) ≡ false = lt-leb mostLinks (namings s o) few in
+        by-room (x .call) (replyTo s x) (Call.Link source place) _ link-answer (namesLeft q L ≡ 0) (ℕ-discrete (namesLeft q L) 0)
+        (λ z. link-says false none f (lowest-count (names s) (λ n. not (isUsedName s n)) (sym names-left ∙ z)) (says-by false none))
+        (λ z. let (n, e) = lowest-found (names s) (λ n. not (isUsedName s n))
+        (some-of (namesLeft q L) (count (names s) (λ n. not (isUsedName s n))) names-left z) in
+        link-says false (some n) f e (says-by false (some n)))
+
+    -- "MLINK at 16 names"
+    pub many-names : (isStatus MLINK (replyTo s x) ≡ true) ↔ (mostLinks ≤ namings s o)
+    many-names =
+        let t = leb mostLinks (namings s o) in
+        let n = availableName s in
+        let b : isStatus MLINK (replyTo s x) ≡ t =
+        status-of (x .call) (replyTo s x) (Call.Link source place) _ link-answer (linkStatus t n) MLINK (link-says t n refl refl (says-by t n)) (status-small t n)
+        ∙ is-many t n in
+        ((λ e. leb-true mostLinks (namings s o) (sym b ∙ e)), (λ l. b ∙ le-leb mostLinks (namings s o) l))
+
   -- ---- whatever room is asked for
   pub room : (x : Request) {m : Room} → AsksStore s x m → AnswersRoom (replyTo s x) (Missing σ p q r (record { store = s; ledger = L }) m)
   room x (AsksStore.bySetattr h a g o k e₁ e₂ e₃ e₄) = setattr-room x h a g o k e₁ e₂ e₃ e₄
@@ -307,3 +386,4 @@ module _ (σ p q r : ℕ) (s : Store) (L : Ledger) (I : Inv σ p q r s L) where
   room x (AsksStore.byCreate place manner d k e₁ e₂ e₃) = create-room x place manner d k e₁ e₂ e₃
   room x (AsksStore.byRecreate place a d n k e₁ e₂ e₃ e₄) = recreate-room x place a d n k e₁ e₂ e₃ e₄
   room x (AsksStore.byMkdir place a d k e₁ e₂ e₃) = mkdir-room x place a d k e₁ e₂ e₃
+  room x (AsksStore.byLink source place o d k m few) = link-room x source place o d k m few

@@ -12,11 +12,12 @@ use Rattle.kinds.specs.declared.object.Attributes.{Attributes}
 use Rattle.kinds.specs.declared.object.Change.{Change}
 use Rattle.kinds.specs.declared.call.Arguments.{Arguments}
 use Rattle.spec.specs.Checked.{Checked, refused, passed}
-use Rattle.spec.specs.Handles.{reach, handleChange}
+use Rattle.spec.specs.Handles.{reach, handleAttributes, handleChange}
 use Rattle.spec.specs.Image.{Store}
+use Rattle.spec.specs.Procedures.Link.{linkedOr, failLinking}
 use Rattle.spec.specs.Procedures.Removal.{renamedOr, failRenaming}
 use Rattle.spec.specs.Replies.{resultBytes}
-use Rattle.spec.specs.Results.{Result, null, dead, changed, showingOf, changingOf, failShowing, failChanging, renamed, wrote, created}
+use Rattle.spec.specs.Results.{Result, null, dead, changed, showingOf, changingOf, failShowing, failChanging, renamed, linked, wrote, created}
 use Rattle.spec.specs.Rpc.{accepted}
 use Rattle.laws.proofs.Error.{statusOf}
 use Rattle.spec.specs.Bytes.{sameBytes}
@@ -48,6 +49,10 @@ changed-says n c = record { status = refl; some = λ e. let z : _≡_ {A = ℕ} 
 pub renamed-says : (n : ℕ) (c d : Option Change) → Says (renamed n c d) n
 unfolding statusOf
 renamed-says n c d = record { status = refl; some = λ e. let z : _≡_ {A = ℕ} 0 1 = cc in omega arith }
+
+pub linked-says : (n : ℕ) (a : Option Attributes) (c : Option Change) → Says (linked n a c) n
+unfolding statusOf
+linked-says n a c = record { status = refl; some = λ e. let z : _≡_ {A = ℕ} 0 1 = cc in omega arith }
 
 pub wrote-says : (c : Change) (n v : ℕ) → Says (wrote c n v) 0
 unfolding statusOf
@@ -81,6 +86,15 @@ renaming-says s h g n = go (handleChange s s h) (handleChange s s g)
     go none none = dead-says n
     go none (some b) = renamed-says n none (some b)
     go (some a) b = renamed-says n (some a) b
+
+pub linking-says : (s : Store) (h g : List ℕ) (n : ℕ) → Says (failLinking s h g n) n
+unfolding failLinking statusOf
+linking-says s h g n = go (handleAttributes s h) (handleChange s s g)
+  where
+    go : (x : Option Attributes) (y : Option Change) → Says (linkedOr n x y) n
+    go none none = dead-says n
+    go none (some b) = linked-says n none (some b)
+    go (some a) b = linked-says n (some a) b
 
 module _ (call reply : List ℕ) (a : Arguments) (r : Result) (A : Answer call reply a r) where
   ok-of : r ≢ null → statusOf r < 4294967296 → isOk reply ≡ eqb (statusOf r) 0

@@ -1,16 +1,15 @@
--- RENAME onto a name that has a line: nothing changes, or a handle is removed. Assumes nothing.
-use mathlib.Core.Path.{_≡_, refl, sym, ap, _∙_, subst}
-use mathlib.Core.Logic.{_≢_}
+-- RENAME onto a name of the same object: nothing changes. Assumes nothing.
+use mathlib.Core.Path.{_≡_, sym, ap, _∙_, subst}
 use mathlib.Core.Bool.{true, false}
 use mathlib.Core.Option.{some}
 use mathlib.Core.List.{List}
-use Prim.Native.Nat.{ℕ, _<_}
+use Prim.Native.Nat.{ℕ}
 use native.Mathlib.Omega.{arith}
 use lib.Dec.{eqb}
 use borrow.Author.Tests.{eq-eqb, ne-eqb}
 use Rattle.kinds.specs.declared.call.NameIn.{NameIn}
 use Rattle.kinds.specs.declared.call.Arguments.the-variants as Call
-use Rattle.spec.specs.Checked.{Checked, refused, passed}
+use Rattle.spec.specs.Checked.{Checked, passed}
 use Rattle.spec.specs.Count.{iterate}
 use Rattle.spec.specs.Handles.{reachDirectory, checkName}
 use Rattle.spec.specs.Image.{Store, objects, nameAt}
@@ -19,28 +18,20 @@ use Rattle.spec.specs.Procedures.{act}
 use Rattle.spec.specs.Procedures.Removal.{isWithin, Onto, sameObject, checkMove, checkRename, renameEdit, failRenaming, renamedTo, rename}
 use Rattle.spec.specs.Results.{Done, settle}
 use Rattle.spec.specs.Room.{isDirectory, findName, above}
-use Rattle.laws.proofs.Count.{by-bool, true-false, none-below}
+use Rattle.laws.proofs.Count.{by-bool, none-below}
 use Rattle.laws.proofs.GoodKept.{used-of}
-use Rattle.laws.proofs.Passed.{rename-passed}
-use Rattle.laws.proofs.RecordRange.{cut-below}
 use Rattle.laws.proofs.Valid.{GoodName, passes-valid, used-true, true-live, directory-true}
 use Rattle.history.specs.Book.{Ledger, handleUnder, isOk, noted, note}
 use Rattle.history.specs.Run.{Request, Lent, outcomeOf, replyTo}
-use Rattle.history.specs.Statement.{HasName, IsRemoved, Asks, objectIn, directoryIn, nameAsked}
-use Rattle.history.proofs.Handles.{same-object, same-generation}
-use Rattle.history.proofs.Agree.{handleIn}
+use Rattle.history.specs.Statement.{HasName, Asks, objectIn, directoryIn, nameAsked}
 use Rattle.history.proofs.Walk.{parentIn, not-below}
 use Rattle.history.proofs.Seen.{view, kind-at, child-at, live-in, above-same}
 use Rattle.history.proofs.Inv.{Inv, tree}
 use Rattle.history.proofs.Asked.{acted}
 use Rattle.history.proofs.Checks.{name-checks, found-name}
-use Rattle.history.proofs.Noted.{Answer, Says, renamed-says, renaming-says, not-ok, replace-same}
-use Rattle.history.proofs.Statuses.{sure-rename}
-use Rattle.history.proofs.Renaming.{over-older}
-use Rattle.history.proofs.Next.{answer-to, clocked, next}
-use Rattle.history.proofs.Lines.{object-lines, name-lines, lined-current, name-handle}
-use Rattle.history.proofs.Counts.{line-given}
-use Rattle.history.proofs.Later.{small-live, given-stays}
+use Rattle.history.proofs.Noted.{Answer, Says, renamed-says, replace-same}
+use Rattle.history.proofs.Next.{answer-to}
+use Rattle.history.proofs.Lines.{object-lines, name-lines, name-handle}
 use Rattle.history.proofs.Nospc.{ok-of}
 use Rattle.history.proofs.Conditions.{lined, directory-reached, line-found}
 
@@ -138,49 +129,4 @@ module _ (σ p q r : ℕ) (s : Store) (L : Ledger) (I : Inv σ p q r s L) (x : R
         ok,
         left ∙ ap (λ (y : Checked (ℕ × ℕ × ℕ × Onto)). done y .store) passes,
         rw (ok, k .reads) (replace-same (directoryIn x a) (nameAsked x a) (directoryIn x b) (nameAsked x b) L j (named a j m) (named b j n)),
-      )
-
-  -- a call that is answered OK passes its checks
-  ok-passes : isOk (replyTo s x) ≡ true → (y : ℕ × ℕ × ℕ × Onto) × (checks ≡ passed y)
-  unfolding checks done
-  ok-passes t = go checks refl answer
-    where
-      go : (c : Checked (ℕ × ℕ × ℕ × Onto)) → checks ≡ c → Answer (x .call) (replyTo s x) (Call.Rename a b) (done c .result)
-          → (y : ℕ × ℕ × ℕ × Onto) × (c ≡ passed y)
-      go (refused z) e A =
-          let w = sure-rename s (directoryIn x a) (nameAsked x a) (directoryIn x b) (nameAsked x b) z e in
-          true-false (sym t ∙ not-ok (x .call) (replyTo s x) (Call.Rename a b) _ A z (renaming-says s (directoryIn x a) (directoryIn x b) z) (w .0) (w .1))
-      go (passed y) e A = (y, refl)
-
-  -- the names have two handles: the generation of the second's object is past it
-  gone : (i j : List ℕ) → HasName (L .book) (directoryIn x a) i (nameAsked x a) → HasName (L .book) (directoryIn x b) j (nameAsked x b) → i ≢ j
-      → isOk (replyTo s x) ≡ true → (o : ℕ) × (o < objects s) × (j ≡ handleIn σ (view s) o) × (view s .gen o < view (outcomeOf s x .store) .gen o)
-  unfolding checks done
-  gone i j m n two t =
-      let (y, e) = ok-passes t in
-      subst (λ (u : Store). (o : ℕ) × (o < objects s) × (j ≡ handleIn σ (view s) o) × (view s .gen o < view u .gen o))
-      (sym (left ∙ ap (λ (c : Checked (ℕ × ℕ × ℕ × Onto)). done c .store) e))
-      (over-older σ p q r s L I (x .context) (clocked σ p q r s L I x (Call.Rename a b) l k) (directoryIn x a) (nameAsked x a) (directoryIn x b)
-      (nameAsked x b) (cut-below (x .call) (a .directory) (l .bytes)) (cut-below (x .call) (b .directory) (l .bytes))
-      (cut-below (x .call) (b .name) (l .bytes)) (y .0) (y .1) (y .2) i j (named a i m) (named b j n) two (y .3)
-      (rename-passed s (directoryIn x a) (nameAsked x a) (directoryIn x b) (nameAsked x b) y e))
-
-  -- so the second handle is removed
-  pub over-removed : (i j : List ℕ) → HasName (L .book) (directoryIn x a) i (nameAsked x a) → HasName (L .book) (directoryIn x b) j (nameAsked x b)
-      → i ≢ j → isOk (replyTo s x) ≡ true → IsRemoved (note (x .call) (replyTo s x) L) j
-  over-removed i j m n two t =
-      let (line, y, e, f) = n in
-      let J = next σ p q r s L I x l in
-      let u = outcomeOf s x .store in
-      let M = note (x .call) (replyTo s x) L in
-      let (o, below, is, older) = gone i j m n two t in (
-        given-stays σ p q r s u L M I (J .inv) (J .grew) j (line-given σ p q r s L I j (line .kind) (line, y, e, refl)),
-        (λ kind z.
-            let (v, live, own, _) = lined-current σ p q r u M (J .inv) j kind z in
-            let small = small-live σ p q r u M (J .inv) v live in
-            let few = tree σ p q r s L I .flat .few in
-            let same : o ≡ v = same-object σ o (view s .gen o) v (view u .gen v) (omega (arith, I .objs)) (small .0) (sym is ∙ own) in
-            let generation : view s .gen o ≡ view u .gen v =
-            same-generation σ o (view s .gen o) v (view u .gen v) (omega (arith, I .issues .few o)) (small .1) (sym is ∙ own) in
-            omega (arith, older, ap (view u .gen) same)),
       )

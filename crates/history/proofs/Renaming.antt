@@ -14,7 +14,7 @@ use Rattle.kinds.specs.declared.call.NameIn.{NameIn}
 use Rattle.kinds.specs.declared.call.Arguments.the-variants as Call
 use Rattle.spec.specs.Checked.{Checked, refused, passed}
 use Rattle.spec.specs.Count.{some-below, iterate}
-use Rattle.spec.specs.Edits.{setAttributes, onlyCtime, mtimeAndCtime, removeObject, moveName}
+use Rattle.spec.specs.Edits.{setAttributes, onlyCtime, mtimeAndCtime, removeName, moveName}
 use Rattle.spec.specs.Image.{Store, objects, names, nameAt}
 use Rattle.spec.specs.Procedures.{cut}
 use Rattle.spec.specs.Procedures.Names.{touchDirectory}
@@ -36,7 +36,7 @@ use Rattle.history.proofs.Tree.{single, path-short, live-bound}
 use Rattle.history.proofs.Change.{path-kept}
 use Rattle.history.proofs.Walk.{parentIn, outside, outside-file}
 use Rattle.history.proofs.Handles.{same-object}
-use Rattle.history.proofs.Agree.{handleIn, handle-none}
+use Rattle.history.proofs.Agree.{handleIn}
 use Rattle.history.proofs.Seen.{view, kind-at, child-at, above-same, used-in}
 use Rattle.history.proofs.Inv.{Inv, Owes, keeps-refl, keeps-trans, owes-trans, tree, touch-inv, removed-of, remove-inv, move-keeps}
 use Rattle.history.proofs.Checks.{found-name, no-name}
@@ -146,30 +146,29 @@ module _ (σ p q r : ℕ) (s : Store) (L : Ledger) (I : Inv σ p q r s L) (c : C
         x .other (sym (same-object σ (nameAt s n .child) (view s .gen (nameAt s n .child)) (nameAt s m .child) (view s .gen (nameAt s m .child))
         (small (nameAt s n .child) (child-in σ p q r s L I c clock d n text at)) (small (nameAt s m .child) (child-in σ p q r s L I c clock e m title a)) z))
 
-    -- the object of name record m is removed, with its generation, and the record n moved to its name
+    -- the name record m is removed, and the record n moved to its name
     over-owes : (m : ℕ) → ReplacePassed s (nameAt s n .child) e title m
-        → Owes σ p q r s (moveEdit (removeObject s m) c d e n title) (replace h text g title L)
-        × (view s .gen (nameAt s m .child) < view (moveEdit (removeObject s m) c d e n title) .gen (nameAt s m .child))
+        → Owes σ p q r s (moveEdit (removeName s (c .clock) m) c d e n title) (replace h text g title L)
     unfolding strike
     over-owes m x =
         let T = tree σ p q r s L I in
         let a = found-name s (I .valid .good-names) e title m (x .found) .1 in
-        let gone = nameAt s m .child in
-        let gone-in = child-in σ p q r s L I c clock e m title a in
-        let empty : (i : ℕ) → UsedIn (view s) i → view s .dir i ≢ gone =
+        let target = nameAt s m .child in
+        let target-in = child-in σ p q r s L I c clock e m title a in
+        let empty : (i : ℕ) → UsedIn (view s) i → view s .dir i ≢ target =
         ⊎-elim
-        (λ f. file-empty σ p q r s L I c clock gone gone-in (λ k. true-false (sym (true-directory s gone k) ∙ f)))
-        (λ f. directory-empty σ p q r s L I c clock gone f)
-        (replaceable s (nameAt s n .child) gone (x .gives-way)) in
-        let u = removeObject s m in
-        let first = remove-inv σ p q r s L I m (a .0) empty in
-        let away = removed-of σ p q r s L I m (a .0) empty in
+        (λ f. file-empty σ p q r s L I c clock target target-in (λ k. true-false (sym (true-directory s target k) ∙ f)))
+        (λ f. directory-empty σ p q r s L I c clock target f)
+        (replaceable s (nameAt s n .child) target (x .gives-way)) in
+        let u = removeName s (c .clock) m in
+        let first = remove-inv σ p q r s L I (c .clock) clock m (a .0) empty in
+        let away = removed-of σ p q r s L I (c .clock) clock m (a .0) empty in
         let M : Ledger = record { book = strikeLines (handleIn σ (view s) (view s .dir m)) (view s .text m) (L .book); given = L .given } in
         let J : Inv σ p q r u M = first .inv in
         let same = away .nam .other n (λ z. x .other (ap (λ (i : ℕ). nameAt s i .child) (sym z))) in
         let still : At (view u) n d text = (omega (arith, at .0, ap length (same .text)), same .dir ∙ at .1, same .text ∙ at .2) in
-        let od = away .obj .other d (λ z. empty n (at .0) (at .1 ∙ z)) in
-        let oe = away .obj .other e (λ z. empty m (a .0) (a .1 ∙ z)) in
+        let od = away .other d (λ z. empty n (at .0) (at .1 ∙ z)) in
+        let oe = away .other e (λ z. empty m (a .0) (a .1 ∙ z)) in
         let none-left : entriesAt q (view u) e title ≡ 0 = omega (
           arith,
           entries-set q (view s) (view u) m 0 0 [] (away .nam) (T .flat .rows m (a .0)) e title,
@@ -188,12 +187,10 @@ module _ (σ p q r : ℕ) (s : Store) (L : Ledger) (I : Inv σ p q r s L) (c : C
         let second = moved-owes σ p q r u M J c clock h text g title d e n still (od .0 ∙ from-directory) (oe .0 ∙ to-directory)
         (ap (handleBytes σ d) (od .1) ∙ from-handle) (ap (handleBytes σ e) (oe .1) ∙ to-handle) (w .target-good) tb gap up-still in
         let struck : M ≡ strike g title L =
-        λ i. record { book = strikeLines ((ap (handleIn σ (view s)) (a .1) ∙ to-handle) i) (a .2 i) (L .book); given = L .given } in (
-          subst (Owes σ p q r s (moveEdit u c d e n title))
-              (ap (move h text g title) struck ∙ sym (replace-over h text g title L _ _ first-line (second-line m (x .found)) (two-handles m x)))
-              (owes-trans σ p q r s u (moveEdit u c d e n title) M (move h text g title M) first second),
-          omega (arith, away .obj .gen, second .grew .older gone),
-        )
+        λ i. record { book = strikeLines ((ap (handleIn σ (view s)) (a .1) ∙ to-handle) i) (a .2 i) (L .book); given = L .given } in
+        subst (Owes σ p q r s (moveEdit u c d e n title))
+        (ap (move h text g title) struck ∙ sym (replace-over h text g title L _ _ first-line (second-line m (x .found)) (two-handles m x)))
+        (owes-trans σ p q r s u (moveEdit u c d e n title) M (move h text g title M) first second)
 
   rename-facts : (h text g title : List ℕ) → Below 256 h → Below 256 g → Below 256 title → (d e n : ℕ) (t : Onto) → RenamePassed s h text g title d e n t
       → Owes σ p q r s (renameEdit s c d e n t title) (replace h text g title L)
@@ -201,39 +198,7 @@ module _ (σ p q r : ℕ) (s : Store) (L : Ledger) (I : Inv σ p q r s L) (c : C
   rename-facts h text g title hb gb tb d e n sameObject w =
       let (m, f, is) = w .target in
       same-owes h text g title hb gb tb d e n sameObject w m f is
-  rename-facts h text g title hb gb tb d e n (replacing m) w = over-owes h text g title hb gb tb d e n (replacing m) w m (w .target) .0
-
-  -- ---- by the handles of the two lines
-  module _ (h text g title : List ℕ) (hb : Below 256 h) (gb : Below 256 g) (tb : Below 256 title) (d e n : ℕ) (j k : List ℕ)
-      (first : handleUnder h text (L .book) ≡ some j) (second : handleUnder g title (L .book) ≡ some k) where
-    has-line : (t : Onto) → RenamePassed s h text g title d e n t → findName s e title ≡ none → ⊥
-    has-line t w f =
-        let z : none ≡ some k = sym (handle-none g title (L .book) (no-line h text g title hb gb tb d e n t w f)) ∙ second in
-        let y : _≡_ {A = ℕ} 0 1 = cc in
-        omega arith
-
-    first-handle : (t : Onto) → RenamePassed s h text g title d e n t → j ≡ handleIn σ (view s) (nameAt s n .child)
-    first-handle t w = let z = sym first ∙ first-line h text g title hb gb tb d e n t w in cc
-
-    second-handle : (t : Onto) → RenamePassed s h text g title d e n t → (m : ℕ) → findName s e title ≡ some m
-        → k ≡ handleIn σ (view s) (nameAt s m .child)
-    second-handle t w m f =
-        let z = sym second ∙ second-line h text g title hb gb tb d e n t w m f in cc
-
-    -- two handles: the generation of the second's object is past it
-    pub over-older : j ≢ k → (t : Onto) → RenamePassed s h text g title d e n t
-        → (o : ℕ) × (o < objects s) × (k ≡ handleIn σ (view s) o) × (view s .gen o < view (renameEdit s c d e n t title) .gen o)
-    over-older i newName w = absurd (has-line newName w (w .target))
-    over-older i sameObject w =
-        let (m, f, is) = w .target in
-        absurd (i (first-handle sameObject w ∙ ap (handleIn σ (view s)) (sym is) ∙ sym (second-handle sameObject w m f)))
-    over-older i (replacing m) w =
-        let a = found-name s (I .valid .good-names) e title m (w .target .found) .1 in (
-          nameAt s m .child,
-          child-in σ p q r s L I c clock e m title a,
-          second-handle (replacing m) w m (w .target .found),
-          over-owes h text g title hb gb tb d e n (replacing m) w m (w .target) .1,
-        )
+  rename-facts h text g title hb gb tb d e n (replacing m) w = over-owes h text g title hb gb tb d e n (replacing m) w m (w .target)
 
   module _ (call reply : List ℕ) (bytes : Below 256 call) where
     pub rename-owes : (a b : NameIn)

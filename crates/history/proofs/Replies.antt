@@ -10,12 +10,12 @@ use lib.ListN.{length, getD, replicate, length-append}
 use borrow.Author.Tests.{le-leb, lt-leb, ne-eqb}
 use Rattle.kinds.specs.declared.object.Attributes.{Attributes}
 use Rattle.kinds.specs.declared.object.Change.{Change}
-use Rattle.kinds.specs.Numbers.{zeroWords, mostFileBytes, mostNameBytes, handleLength, mostTransferBytes, fileSystemProperties}
+use Rattle.kinds.specs.Numbers.{zeroWords, mostFileBytes, mostNameBytes, mostLinks, handleLength, mostTransferBytes, fileSystemProperties}
 use Rattle.spec.specs.Bytes.{part, beAt, bytesOf, words, opaqueBytes}
 use Rattle.spec.specs.Count.{bit}
-use Rattle.spec.specs.Replies.{resultBytes, fattr3, postOp, wccData, wccOption, entriesBytes, hyper}
-use Rattle.spec.specs.Results.{Result, null, dead, failed, changed, renamed, gotAttributes, found, granted, gotBytes, wrote, created, listed, gotRoom}
-use Rattle.spec.specs.Results.{gotLimits, gotNaming, committed}
+use Rattle.spec.specs.Replies.{resultBytes, fattr3, postOp, postOpOption, wccData, wccOption, entriesBytes, hyper}
+use Rattle.spec.specs.Results.{Result, null, dead, failed, changed, renamed, linked, gotAttributes, found, granted, gotBytes, wrote, created, listed}
+use Rattle.spec.specs.Results.{gotRoom, gotLimits, gotNaming, committed}
 use Rattle.spec.specs.Rpc.{accepted}
 use Rattle.laws.proofs.Bytes.{part-left, part-right, part-whole, be-add}
 use Rattle.laws.proofs.Error.{statusOf}
@@ -141,6 +141,7 @@ starts p (dead status) n = only-words p (dead status) (replicate (getD zeroWords
 starts p (failed status a) n = only-words p (failed status a) (postOp a) refl
 starts p (changed status c) n = only-words p (changed status c) (wccData c) refl
 starts p (renamed status c d) n = only-words p (renamed status c d) (wccOption c ++ wccOption d) refl
+starts p (linked status a c) n = only-words p (linked status a c) (postOpOption a ++ wccOption c) refl
 starts p (gotAttributes a) n = only-words p (gotAttributes a) (fattr3 a) refl
 starts p (found h a d) n =
     record { ws = []; rest = opaqueBytes h ++ words (postOp a ++ postOp d); is = append-assoc (words (0 ∷ [])) (opaqueBytes h) (words (postOp a ++ postOp d)) }
@@ -168,7 +169,7 @@ starts p (gotLimits a) n =
     only-words p (gotLimits a)
     (postOp a ++ (mostTransferBytes ∷ mostTransferBytes ∷ 1 ∷ mostTransferBytes ∷ mostTransferBytes ∷ 1 ∷ mostTransferBytes ∷ hyper mostFileBytes)
     ++ (0 ∷ 1 ∷ fileSystemProperties ∷ [])) refl
-starts p (gotNaming a) n = only-words p (gotNaming a) (postOp a ++ (1 ∷ mostNameBytes ∷ 1 ∷ 0 ∷ 0 ∷ 1 ∷ [])) refl
+starts p (gotNaming a) n = only-words p (gotNaming a) (postOp a ++ (mostLinks ∷ mostNameBytes ∷ 1 ∷ 0 ∷ 0 ∷ 1 ∷ [])) refl
 starts p (committed c verifier) n = only-words p (committed c verifier) (wccData c ++ hyper verifier) refl
 
 -- a reply's status, and whether it is OK

@@ -1,5 +1,5 @@
--- The statuses of checks that refuse. What holds of every error but NOSPC, and of NOSPC where room is asked for, holds of the status with which the
--- checks of each procedure refuse. Assumes nothing.
+-- The statuses of checks that refuse. What holds of every error but NOSPC and MLINK, of NOSPC where room is asked for, and of MLINK where LINK may
+-- answer it, holds of the status with which the checks of each procedure refuse. Assumes nothing.
 use mathlib.Core.Path.{_≡_, refl, sym, ap, _∙_, subst}
 use mathlib.Core.Logic.{_≢_}
 use mathlib.Core.Bool.{Bool, true, false, _&&_, _||_, not, cond}
@@ -10,9 +10,9 @@ use native.Mathlib.Omega.{arith}
 use lib.Dec.{eqb, leb, ltb, lit<}
 use lib.ListN.{length}
 use borrow.Author.Tests.{eqb-true, eqb-false, ltb-false, not-true, not-false}
-use Rattle.kinds.specs.Numbers.{NOENT, ACCES, EXIST, NOTDIR, INVAL, FBIG, NOSPC, NAMETOOLONG, NOTEMPTY, STALE, BADHANDLE}
+use Rattle.kinds.specs.Numbers.{NOENT, ACCES, EXIST, NOTDIR, INVAL, FBIG, NOSPC, MLINK, NAMETOOLONG, NOTEMPTY, STALE, BADHANDLE}
 use Rattle.kinds.specs.Numbers.{NOT-SYNC, BAD-COOKIE, TOOSMALL, mostNameBytes}
-use Rattle.kinds.specs.Numbers.{mostTransferBytes, listingCost, entryFixedCost, mostFileBytes, handleLength}
+use Rattle.kinds.specs.Numbers.{mostTransferBytes, listingCost, entryFixedCost, mostFileBytes, mostLinks, handleLength}
 use Rattle.kinds.specs.declared.call.Settable.{Settable}
 use Rattle.kinds.specs.declared.call.Guard.{Guard}
 use Rattle.kinds.specs.declared.call.How.{How}
@@ -24,13 +24,14 @@ use Rattle.spec.specs.Image.{Store, stamp, objects, objectAt, nameAt}
 use Rattle.spec.specs.Names.{goodBytes, isDot, isDotDot, isDots}
 use Rattle.spec.specs.Procedures.Attributes.{isGiven, sizeSet, badAttributes, differs, lacksRoom, checkSetattr}
 use Rattle.spec.specs.Procedures.Data.{reachRegular, grown, checkWrite}
+use Rattle.spec.specs.Procedures.Link.{checkAdded, checkLink}
 use Rattle.spec.specs.Procedures.Listing.{entries, entriesAbove, isNothing, fitting, checkListing, checkReaddirIn, checkReaddir}
 use Rattle.spec.specs.Procedures.Names.{childOf, lookIn, checkIn, checkLookup, roomForNew, isNew, settableIn, isTaken, checkExisting, targetOf, checkNew}
 use Rattle.spec.specs.Procedures.Names.{checkHow, checkCreate, checkMkdir}
 use Rattle.spec.specs.Procedures.Removal.{checkEntry, checkRemove, hasEntries, checkRmdir, isWithin, isReplaceable, checkReplace, onto, checkMove}
 use Rattle.spec.specs.Procedures.Removal.{checkRename}
 use Rattle.spec.specs.Results.{Entry}
-use Rattle.spec.specs.Room.{isLive, isRegular, isDirectory, sizeOf, availableObject, availableName, findName, parent}
+use Rattle.spec.specs.Room.{isLive, isRegular, isDirectory, sizeOf, availableObject, availableName, findName, namings, parent}
 use Rattle.laws.proofs.Count.{by-bool, and-both, true-false}
 use Rattle.laws.proofs.Resent.{same-size}
 
@@ -38,9 +39,18 @@ use Rattle.laws.proofs.Resent.{same-size}
 abbrev pub Tells : {A : Type 0} → (ℕ → Type 0) → Checked A → Type 0
 Tells P c = (status : ℕ) → c ≡ refused status → P status
 
--- an error other than NOSPC
+-- an error other than NOSPC and MLINK
 abbrev pub Plain : ℕ → Type 0
-Plain n = (0 < n) × (n < 4294967296) × (n ≢ NOSPC)
+Plain n = (0 < n) × (n < 4294967296) × (n ≢ NOSPC) × (n ≢ MLINK)
+
+-- LINK passes its checks before MLINK: the source is file o, and directory d does not have the name
+pub record MayAdd (s : Store) (h g text : List ℕ) (o d : ℕ) : Type 0 where
+  pub reached : reach s h ≡ passed o
+  pub file : isDirectory s o ≡ false
+  pub directory : reachDirectory s g ≡ passed d
+  pub name : checkName text ≡ passed tt
+  pub no-dots : isDots text ≡ false
+  pub fresh : findName s d text ≡ none
 
 -- ---- checks in order
 module _ (P : ℕ → Type 0) where
@@ -75,31 +85,35 @@ module _ (P : ℕ → Type 0) where
   tells-cond true a b x y = x
   tells-cond false a b x y = y
 
+nothing : (o : Option ℕ) → absent EXIST o ≡ passed tt → o ≡ none
+nothing none e = refl
+nothing (some n) e = let z : _≡_ {A = ℕ} 0 1 = cc in absurd (omega arith)
+
 -- ---- the checks of each procedure
 module _ (P : ℕ → Type 0) (plain : (n : ℕ) → Plain n → P n) (s : Store) where
   noent : P NOENT
-  noent = plain NOENT (lit< tt, lit< tt, omega arith)
+  noent = plain NOENT (lit< tt, lit< tt, omega arith, omega arith)
 
   acces : P ACCES
-  acces = plain ACCES (lit< tt, lit< tt, omega arith)
+  acces = plain ACCES (lit< tt, lit< tt, omega arith, omega arith)
 
   exist : P EXIST
-  exist = plain EXIST (lit< tt, lit< tt, omega arith)
+  exist = plain EXIST (lit< tt, lit< tt, omega arith, omega arith)
 
   notdir : P NOTDIR
-  notdir = plain NOTDIR (lit< tt, lit< tt, omega arith)
+  notdir = plain NOTDIR (lit< tt, lit< tt, omega arith, omega arith)
 
   inval : P INVAL
-  inval = plain INVAL (lit< tt, lit< tt, omega arith)
+  inval = plain INVAL (lit< tt, lit< tt, omega arith, omega arith)
 
   stale : P STALE
-  stale = plain STALE (lit< tt, lit< tt, omega arith)
+  stale = plain STALE (lit< tt, lit< tt, omega arith, omega arith)
 
   bad-handle : P BADHANDLE
-  bad-handle = plain BADHANDLE (lit< tt, lit< tt, omega arith)
+  bad-handle = plain BADHANDLE (lit< tt, lit< tt, omega arith, omega arith)
 
   too-small : P TOOSMALL
-  too-small = plain TOOSMALL (lit< tt, lit< tt, omega arith)
+  too-small = plain TOOSMALL (lit< tt, lit< tt, omega arith, omega arith)
 
   pub reach-tells : (h : List ℕ) → Tells P (reach s h)
   unfolding reach
@@ -122,7 +136,7 @@ module _ (P : ℕ → Type 0) (plain : (n : ℕ) → Plain n → P n) (s : Store
   unfolding checkName
   name-tells text =
       tells-if P (eqb (length text) 0) ACCES _ (λ _. acces) (λ _.
-      tells-if P (not (leb (length text) mostNameBytes)) NAMETOOLONG _ (λ _. plain NAMETOOLONG (lit< tt, lit< tt, omega arith)) (λ _.
+      tells-if P (not (leb (length text) mostNameBytes)) NAMETOOLONG _ (λ _. plain NAMETOOLONG (lit< tt, lit< tt, omega arith, omega arith)) (λ _.
       tells-last P (not (goodBytes text)) ACCES acces))
 
   new-tells : (text : List ℕ) (invalid : Bool) → Tells P (checkNew text invalid)
@@ -166,7 +180,7 @@ module _ (P : ℕ → Type 0) (plain : (n : ℕ) → Plain n → P n) (s : Store
       tells-bind P (reachDirectory s h) _ (directory-tells h) (λ d _.
       tells-bind P (checkEntry s d text INVAL) _ (entry-tells d text INVAL inval) (λ n _.
       tells-if P (not (isDirectory s (nameAt s n .child))) NOTDIR _ (λ _. notdir) (λ _.
-      tells-if P (hasEntries s (nameAt s n .child)) NOTEMPTY _ (λ _. plain NOTEMPTY (lit< tt, lit< tt, omega arith)) (λ _. tells-passed P _))))
+      tells-if P (hasEntries s (nameAt s n .child)) NOTEMPTY _ (λ _. plain NOTEMPTY (lit< tt, lit< tt, omega arith, omega arith)) (λ _. tells-passed P _))))
 
   onto-tells : (o : ℕ) (found : Option ℕ) → Tells P (onto s o found)
   unfolding checkReplace
@@ -200,7 +214,7 @@ module _ (P : ℕ → Type 0) (plain : (n : ℕ) → Plain n → P n) (s : Store
   readdir-tells h cookie verifier count =
       tells-bind P (reachDirectory s h) _ (directory-tells h) (λ d _.
       tells-bind P (checkReaddirIn s d cookie verifier count) _
-      (tells-if P (not (eqb verifier 0)) BAD-COOKIE _ (λ _. plain BAD-COOKIE (lit< tt, lit< tt, omega arith)) (λ _.
+      (tells-if P (not (eqb verifier 0)) BAD-COOKIE _ (λ _. plain BAD-COOKIE (lit< tt, lit< tt, omega arith, omega arith)) (λ _.
       listing-tells listingCost entryFixedCost (min count mostTransferBytes) (entriesAbove cookie (entries s d)))) (λ _ _. tells-passed P _))
 
   -- ---- those that ask for room
@@ -211,7 +225,7 @@ module _ (P : ℕ → Type 0) (plain : (n : ℕ) → Plain n → P n) (s : Store
   unfolding checkSetattr
   setattr-tells h a g full =
       tells-bind P (reach s h) _ (reach-tells h) (λ o e₁.
-      tells-if P (differs g (objectAt s o .ctime)) NOT-SYNC _ (λ _. plain NOT-SYNC (lit< tt, lit< tt, omega arith)) (λ e₂.
+      tells-if P (differs g (objectAt s o .ctime)) NOT-SYNC _ (λ _. plain NOT-SYNC (lit< tt, lit< tt, omega arith, omega arith)) (λ e₂.
       tells-if P (badAttributes a) INVAL _ (λ _. inval) (λ e₃.
       tells-if P (isGiven (a .size) && isDirectory s o) INVAL _ (λ _. inval) (λ e₄.
       tells-if P (lacksRoom s (sizeOf s o) (sizeSet (a .size) (sizeOf s o))) NOSPC _ (λ _. full o e₁ e₂ e₃ e₄) (λ _. tells-passed P _)))))
@@ -224,7 +238,7 @@ module _ (P : ℕ → Type 0) (plain : (n : ℕ) → Plain n → P n) (s : Store
       let z = min n mostTransferBytes in
       tells-bind P (reachRegular s h) _ (regular-tells h) (λ o e₁.
       tells-if P (not (eqb n (length bytes))) INVAL _ (λ _. inval) (λ e₂.
-      tells-if P (not (eqb n 0) && ltb mostFileBytes (offset + z)) FBIG _ (λ _. plain FBIG (lit< tt, lit< tt, omega arith)) (λ e₃.
+      tells-if P (not (eqb n 0) && ltb mostFileBytes (offset + z)) FBIG _ (λ _. plain FBIG (lit< tt, lit< tt, omega arith, omega arith)) (λ e₃.
       tells-if P (not (eqb n 0) && lacksRoom s (sizeOf s o) (grown s o offset z)) NOSPC _
       (λ e₄. let m = and-both (not (eqb n 0)) (lacksRoom s (sizeOf s o) (grown s o offset z)) e₄ .0 in
       full o e₁ (eqb-true n (length bytes) (not-false (eqb n (length bytes)) e₂)) (some-bytes n (eqb-false n 0 (not-true (eqb n 0) m)))
@@ -291,10 +305,28 @@ module _ (P : ℕ → Type 0) (plain : (n : ℕ) → Plain n → P n) (s : Store
       tells-bind P (checkNew text invalid) _ (new-tells text invalid) (λ _ e₂.
       tells-bind P (absent EXIST (findName s d text)) _ (tells-absent P EXIST (findName s d text) exist) (λ _ e₃.
       tells-bind P (roomForNew s 0) _ (room-tells 0 (full d e₁ e₂ (nothing (findName s d text) e₃))) (λ p _. tells-passed P _))))
-    where
-      nothing : (o : Option ℕ) → absent EXIST o ≡ passed tt → o ≡ none
-      nothing none e = refl
-      nothing (some n) e = let z : _≡_ {A = ℕ} 0 1 = cc in absurd (omega arith)
+
+  pub link-tells : (h g text : List ℕ) → ((o d : ℕ) → MayAdd s h g text o d → leb mostLinks (namings s o) ≡ true → P MLINK)
+      → ((o d : ℕ) → MayAdd s h g text o d → leb mostLinks (namings s o) ≡ false → P NOSPC) → Tells P (checkLink s h g text)
+  unfolding checkLink checkAdded
+  link-tells h g text many full =
+      tells-bind P (reach s h) _ (reach-tells h) (λ o e₁.
+      tells-if P (isDirectory s o) INVAL _ (λ _. inval) (λ e₂.
+      tells-bind P (reachDirectory s g) _ (directory-tells g) (λ d e₃.
+      tells-bind P (checkAdded s o d text) _
+      (tells-bind P (checkName text) _ (name-tells text) (λ _ e₄.
+      tells-if P (isDots text) EXIST _ (λ _. exist) (λ e₅.
+      tells-bind P (absent EXIST (findName s d text)) _ (tells-absent P EXIST (findName s d text) exist) (λ _ e₆.
+      let m : MayAdd s h g text o d = record {
+        reached = e₁;
+        file = e₂;
+        directory = e₃;
+        name = e₄;
+        no-dots = e₅;
+        fresh = nothing (findName s d text) e₆;
+      } in
+      tells-if P (leb mostLinks (namings s o)) MLINK _ (many o d m) (λ e₇. tells-present P NOSPC (availableName s) (full o d m e₇))))))
+      (λ n _. tells-passed P _))))
 
 -- ---- a refusal's status is not OK, and fits a word
 abbrev pub Failing : ℕ → Type 0
@@ -321,6 +353,9 @@ module _ (s : Store) (h text : List ℕ) where
 
   pub sure-mkdir : (a : Settable) → Sure (checkMkdir s h text a)
   sure-mkdir a = mkdir-tells Failing plainly s h text a (λ d e f g. full)
+
+  pub sure-link : (g : List ℕ) → Sure (checkLink s h g text)
+  sure-link g = link-tells Failing plainly s h g text (λ o d m e. (lit< tt, lit< tt)) (λ o d m e. full)
 
   pub sure-remove : Sure (checkRemove s h text)
   sure-remove = remove-tells Failing plainly s h text

@@ -1,4 +1,4 @@
--- The tree: every live object but the root is named once, and the records that name it lead up to the root. Assumes nothing.
+-- The tree: every live object but the root is named as often as its type allows, and the records that name it lead up to the root. Assumes nothing.
 use mathlib.Core.Path.{_≡_, refl, ap, subst}
 use mathlib.Core.Logic.{_≢_, by-cases}
 use mathlib.Core.List.{List, [], _∷_}
@@ -9,8 +9,9 @@ use lib.ListN.{length, drop, length-drop}
 use Rattle.kinds.specs.Numbers.{mostObjects}
 use Rattle.spec.specs.Check.{mostNames}
 use Rattle.spec.specs.Count.{sum}
-use Rattle.history.proofs.Sum.{ind, ind-yes, ind-le, pigeon}
-use Rattle.history.proofs.View.{View, LiveIn, UsedIn, NamesObject, At, namingsIn, entriesAt, Path, not-named, named-once, entry-once}
+use Rattle.laws.proofs.Count.{sum-zero}
+use Rattle.history.proofs.Sum.{ind, ind-yes, ind-no, ind-le, pigeon}
+use Rattle.history.proofs.View.{View, LiveIn, UsedIn, NamesObject, At, names?, namingsIn, entriesAt, Path, not-named, named-once, entry-once}
 
 pub record Flat (P Q : ℕ) (v : View) : Type 0 where
   pub few : P ≤ mostObjects
@@ -50,13 +51,11 @@ module _ (P Q : ℕ) (v : View) (F : Flat P Q v) where
   pub single : (i : ℕ) → v .kind i ≡ 2 → namingsIn Q v i ≤ 1
   single i k = by-cases (ℕ-discrete i 0)
       (λ e. omega (arith, F .never, ap (namingsIn Q v) e))
-      (λ n. omega (arith, F .once i n (omega arith)))
+      (λ n. omega (arith, F .once i n (omega arith), ap mostNames k))
 
-  -- and so has a file, for now
-  pub lone : (i : ℕ) → LiveIn v i → namingsIn Q v i ≤ 1
-  lone i l = by-cases (ℕ-discrete i 0)
-      (λ e. omega (arith, F .never, ap (namingsIn Q v) e))
-      (λ n. omega (arith, F .once i n l))
+  -- a free object has no name
+  pub no-name : (i : ℕ) → v .kind i ≡ 0 → namingsIn Q v i ≡ 0
+  no-name i z = sum-zero Q (λ p. ind (names? v p i)) (λ p l. ind-no (names? v p i) (λ h. omega (arith, F .ends p (h .0), ap (v .kind) (h .1))))
 
   pub one-name : (i p q : ℕ) → namingsIn Q v i ≤ 1 → NamesObject v p i → NamesObject v q i → p ≡ q
   one-name i p q n a b = named-once Q v i p q n (F .rows p (a .0)) (F .rows q (b .0)) a b

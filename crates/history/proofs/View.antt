@@ -9,7 +9,7 @@ use native.Mathlib.Omega.{arith}
 use lib.ListN.{length}
 use Rattle.history.proofs.Lists.{text?}
 use Rattle.spec.specs.Count.{sum}
-use Rattle.laws.proofs.Count.{sum-upd, sum-at}
+use Rattle.laws.proofs.Count.{sum-upd, sum-ext, sum-at}
 use Rattle.laws.proofs.Unique.{sum-two}
 use Rattle.history.proofs.Sum.{ind, ind-same, ind-yes, ind-true, sum-find}
 
@@ -93,6 +93,14 @@ same-at : (v w : View) (p d : ℕ) (t : List ℕ) → SameRecord v w p → ind (
 same-at v w p d t s = ind-same (at? w p d t) (at? v p d t)
     (λ h. (omega (arith, ap length (s .text)), sym (s .dir) ∙ h .1, sym (s .text) ∙ h .2))
     (λ h. (omega (arith, ap length (s .text)), s .dir ∙ h .1, s .text ∙ h .2))
+
+-- where every record says the same
+module _ (Q : ℕ) (v w : View) (s : (p : ℕ) → SameRecord v w p) where
+  pub namings-kept : (i : ℕ) → namingsIn Q w i ≡ namingsIn Q v i
+  namings-kept i = sum-ext Q (λ p. ind (names? w p i)) (λ p. ind (names? v p i)) (λ p l. same-names v w p i (s p))
+
+  pub entries-kept : (d : ℕ) (t : List ℕ) → entriesAt Q w d t ≡ entriesAt Q v d t
+  entries-kept d t = sum-ext Q (λ p. ind (at? w p d t)) (λ p. ind (at? v p d t)) (λ p l. same-at v w p d t (s p))
 
 module _ (Q : ℕ) (v w : View) (q d c : ℕ) (t : List ℕ) (s : SetName v w q d c t) (l : q < Q) where
   pub namings-set : (i : ℕ) → namingsIn Q w i + ind (names? v q i) ≡ namingsIn Q v i + ind (names? w q i)

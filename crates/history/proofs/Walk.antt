@@ -12,7 +12,7 @@ use Rattle.spec.specs.Count.{lowest, iterate}
 use Rattle.laws.proofs.Count.{lowest-passes, lowest-none, true-false}
 use Rattle.history.proofs.Sum.{holds, holds-true, holds-yes}
 use Rattle.history.proofs.View.{View, LiveIn, UsedIn, NamesObject, names?, namingsIn, Path, Avoids, named-by, not-named}
-use Rattle.history.proofs.Tree.{Flat, Tree, one-name, path-same, single}
+use Rattle.history.proofs.Tree.{Flat, Tree, one-name, path-same, path-short, single, live-bound}
 
 -- the directory of the record that is found, and 0 where none is
 abbrev pub directoryAt : View → Option ℕ → ℕ
@@ -40,6 +40,16 @@ module _ (P Q : ℕ) (v : View) (F : Flat P Q v) where
       go (some p) e =
           ap (v .dir) (one-name P Q v F i p q m (holds-true (names? v p i) (lowest-passes (λ p. holds (names? v p i)) Q p e .passes)) n)
 
+  -- a named object's parent is the directory of one of its names
+  parent-by : (i : ℕ) → 0 < namingsIn Q v i → (q : ℕ) × NamesObject v q i × (parentIn Q v i ≡ v .dir q)
+  parent-by i h = go (naming Q v i) refl
+    where
+      go : (x : Option ℕ) → naming Q v i ≡ x → (q : ℕ) × NamesObject v q i × (directoryAt v x ≡ v .dir q)
+      go none e =
+          let (q, l, n) = named-by Q v i h in
+          true-false (sym (holds-yes (names? v q i) n) ∙ lowest-none (λ p. holds (names? v p i)) Q q e l)
+      go (some p) e = (p, holds-true (names? v p i) (lowest-passes (λ p. holds (names? v p i)) Q p e .passes), refl)
+
   pub parent-root : parentIn Q v 0 ≡ 0
   parent-root = go (naming Q v 0) refl
     where
@@ -54,23 +64,38 @@ module _ (P Q : ℕ) (v : View) (F : Flat P Q v) where
   walk-root zero = refl
   walk-root (suc n) = ap (parentIn Q v) (walk-root n) ∙ parent-root
 
-  pub path-walk : (n i : ℕ) (qs : List ℕ) → namingsIn Q v i ≤ 1 → length qs ≤ n → Path v i qs → iterate n (parentIn Q v) i ≡ 0
+  path-walk : (n i : ℕ) (qs : List ℕ) → namingsIn Q v i ≤ 1 → length qs ≤ n → Path v i qs → iterate n (parentIn Q v) i ≡ 0
   path-walk n i [] k l a = ap (iterate n (parentIn Q v)) a ∙ walk-root n
   path-walk zero i (q ∷ qs) k l a = absurd (omega arith)
   path-walk (suc n) i (q ∷ qs) k l a =
       iterate-inner n (parentIn Q v) i ∙ ap (iterate n (parentIn Q v)) (parent-of q i k (a .0))
       ∙ path-walk n (v .dir q) qs (single P Q v F (v .dir q) (F .dirs q (a .0 .0))) (omega arith) (a .1)
 
-  -- a walk that ends at the root is a path
-  pub walk-path : (n i : ℕ) → LiveIn v i → namingsIn Q v i ≤ 1 → iterate n (parentIn Q v) i ≡ 0 → (qs : List ℕ) × Path v i qs
-  unfolding iterate
-  walk-path zero i l k e = ([], e)
-  walk-path (suc n) i l k e = by-cases (ℕ-discrete i 0)
-      (λ z. ([], z))
-      (λ z. let (q, h, x) = named-by Q v i (F .once i z l .0) in
+  -- from a live object, as many steps as there are objects
+  pub live-walk : Tree P Q v → (i : ℕ) → LiveIn v i → iterate P (parentIn Q v) i ≡ 0
+  live-walk T i l = by-cases (ℕ-discrete i 0)
+      (λ z. ap (iterate P (parentIn Q v)) z ∙ walk-root P)
+      (λ z. let (q, x, e) = parent-by i (F .once i z l .0) in
       let d = F .dirs q (x .0) in
-      let r = walk-path n (v .dir q) (omega arith) (single P Q v F (v .dir q) d)
-      (ap (iterate n (parentIn Q v)) (sym (parent-of q i k x)) ∙ sym (iterate-inner n (parentIn Q v) i) ∙ e) in
+      let (qs, a) = T .leads (v .dir q) (omega arith) in
+      go q qs e d a P (omega (arith, path-short P Q v T (q ∷ qs) i (x, a), live-bound P v)))
+    where
+      go : (q : ℕ) (qs : List ℕ) → parentIn Q v i ≡ v .dir q → v .kind (v .dir q) ≡ 2 → Path v (v .dir q) qs → (n : ℕ) → length qs < n
+          → iterate n (parentIn Q v) i ≡ 0
+      go q qs e d a zero k = absurd (omega arith)
+      go q qs e d a (suc n) k =
+          iterate-inner n (parentIn Q v) i ∙ ap (iterate n (parentIn Q v)) e ∙ path-walk n (v .dir q) qs (single P Q v F (v .dir q) d) (omega arith) a
+
+  -- a walk that ends at the root is a path
+  pub walk-path : (n i : ℕ) → LiveIn v i → iterate n (parentIn Q v) i ≡ 0 → (qs : List ℕ) × Path v i qs
+  unfolding iterate
+  walk-path zero i l e = ([], e)
+  walk-path (suc n) i l e = by-cases (ℕ-discrete i 0)
+      (λ z. ([], z))
+      (λ z. let (q, x, w) = parent-by i (F .once i z l .0) in
+      let d = F .dirs q (x .0) in
+      let r = walk-path n (v .dir q) (omega arith)
+      (ap (iterate n (parentIn Q v)) (sym w) ∙ sym (iterate-inner n (parentIn Q v) i) ∙ e) in
       (q ∷ r .0, (x, r .1)))
 
   -- what is met within no number of steps is not on the path

@@ -70,6 +70,10 @@ add h kind d text L =
     cond (someAt d text (L .book)) L
     (record { book = record { handle = h; kind = kind; standing = under d text } ∷ L .book; given = h ∷ L .given })
 
+-- E7: "a LINK answered OK adds a line to its book with the source's handle and type", which is a file's: no handle is given out
+unfoldable pub addLink : List ℕ → List ℕ → List ℕ → Ledger → Ledger
+addLink h d text L = record { book = record { handle = h; kind = REGULAR; standing = under d text } ∷ L .book; given = L .given }
+
 -- "REMOVE, RMDIR: such a line is struck."
 unfoldable pub strikeLines : List ℕ → List ℕ → Book → Book
 strikeLines d text [] = []
@@ -160,6 +164,7 @@ noted call reply L (some (Call.Remove p)) = strike (cut call (p .directory)) (cu
 noted call reply L (some (Call.Rmdir p)) = strike (cut call (p .directory)) (cut call (p .name)) L
 noted call reply L (some (Call.Rename p q)) =
     replace (cut call (p .directory)) (cut call (p .name)) (cut call (q .directory)) (cut call (q .name)) L
+noted call reply L (some (Call.Link h p)) = addLink (cut call h) (cut call (p .directory)) (cut call (p .name)) L
 noted call reply L (some Call.Null) = L
 noted call reply L (some (Call.Getattr h)) = L
 noted call reply L (some (Call.Setattr h a g)) = L

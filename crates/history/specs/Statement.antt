@@ -9,7 +9,8 @@ use mathlib.Core.Option.{some}
 use lib.Dec.{eqb}
 use lib.ListN.{length, getD}
 use Rattle.kinds.specs.Layout.{blockLength}
-use Rattle.kinds.specs.Numbers.{NOSPC, STALE, REGULAR, DIRECTORY, leastReplyBytes, mostCallBytes, nanosecondsEnd, mostFileBytes, mostTransferBytes}
+use Rattle.kinds.specs.Numbers.{NOSPC, MLINK, STALE, REGULAR, DIRECTORY, leastReplyBytes, mostCallBytes, nanosecondsEnd, mostFileBytes}
+use Rattle.kinds.specs.Numbers.{mostTransferBytes, mostLinks}
 use Rattle.kinds.specs.declared.object.Time.{Time}
 use Rattle.kinds.specs.declared.call.Part.{Part}
 use Rattle.kinds.specs.declared.call.NameIn.{NameIn}
@@ -22,7 +23,7 @@ use Rattle.kinds.specs.declared.call.Arguments.the-variants as Call
 use Rattle.spec.specs.Bytes.{beAt, sameBytes}
 use Rattle.spec.specs.Count.{bit, sum, count}
 use Rattle.spec.specs.Image.{Store, stamp, objects, names, blocks, objectAt, nameAt}
-use Rattle.spec.specs.Room.{isLive, isRegular, isUsedName, sizeOf, need, freeNameCount}
+use Rattle.spec.specs.Room.{isLive, isRegular, isDirectory, isUsedName, namings, sizeOf, need, freeNameCount}
 use Rattle.spec.specs.Check.{passes}
 use Rattle.spec.specs.Handles.{handleOf, reach, checkName}
 use Rattle.spec.specs.Names.{isDots}
@@ -49,9 +50,20 @@ HasLine b h kind = (l : Line) × In l b × (l .handle ≡ h) × (l .kind ≡ kin
 abbrev pub HasName : Book → List ℕ → List ℕ → List ℕ → Type 0
 HasName b d h text = (l : Line) × In l b × (l .handle ≡ h) × (l .standing ≡ under d text)
 
+-- how many lines have the handle h
+unfoldable pub linesOf : List ℕ → Book → ℕ
+linesOf h [] = 0
+linesOf h (l ∷ ls) = bit (sameBytes (l .handle) h) + linesOf h ls
+
 -- h is "removed": it was given out, and no line has it
 abbrev pub IsRemoved : Ledger → List ℕ → Type 0
 IsRemoved L h = In h (L .given) × ((kind : ℕ) → HasLine (L .book) h kind → ⊥)
+
+-- E7: "frees the object only with its last name": h has one line less, is removed with the last one, and has a line where it had more
+pub record LosesName (L M : Ledger) (h : List ℕ) : Type 0 where
+  pub oneLess : linesOf h (L .book) ≡ suc (linesOf h (M .book))
+  pub lastName : linesOf h (L .book) ≡ 1 → IsRemoved M h
+  pub otherName : 1 < linesOf h (L .book) → (kind : ℕ) × HasLine (M .book) h kind
 
 -- the store has a live object with that handle and type
 abbrev pub StoredObject : Store → List ℕ → ℕ → Type 0
@@ -105,9 +117,22 @@ pub data Carries (x : Request) (reply : List ℕ) : List ℕ → Type 0 where
   create : (p : NameIn) (manner : How) → asked (x .call) ≡ some (Call.Create p manner) → Carries x reply (madeHandle reply)
   mkdir : (p : NameIn) (a : Settable) → asked (x .call) ≡ some (Call.Mkdir p a) → Carries x reply (madeHandle reply)
 
--- what replies show: GETATTR's type and size; FSSTAT's total bytes, free bytes twice, objects, and available objects twice
+-- CREATE and MKDIR
+pub data Makes (x : Request) : Type 0 where
+  makesFile : (p : NameIn) (manner : How) → asked (x .call) ≡ some (Call.Create p manner) → Makes x
+  makesDirectory : (p : NameIn) (a : Settable) → asked (x .call) ≡ some (Call.Mkdir p a) → Makes x
+
+-- REMOVE and RMDIR of a name
+pub data Removes (x : Request) (p : NameIn) : Type 0 where
+  removesFile : asked (x .call) ≡ some (Call.Remove p) → Removes x p
+  removesDirectory : asked (x .call) ≡ some (Call.Rmdir p) → Removes x p
+
+-- what replies show: GETATTR's type, links and size; FSSTAT's total bytes, free bytes twice, objects, and available objects twice
 abbrev pub shownKind : List ℕ → ℕ
 shownKind reply = beAt reply 28 4
+
+abbrev pub shownLinks : List ℕ → ℕ
+shownLinks reply = beAt reply 36 4
 
 abbrev pub shownSize : List ℕ → ℕ
 shownSize reply = beAt reply 48 8
@@ -190,16 +215,18 @@ namesLeft q L = q - namedLines (L .book)
 abbrev pub objectsLeft : ℕ → ℕ → Ledger → ℕ
 objectsLeft σ p L = p - (linedObjects p (L .book) + spentRecords σ p L)
 
--- what room can be asked for: the blocks for a file to go from one size to another; or a new object of a size, with its name and its blocks
+-- what room can be asked for: the blocks for a file to go from one size to another; a new object of a size, with its name and its blocks; or a name
 pub data Room : Type 0 where
   growth : ℕ → ℕ → Room
   newObject : ℕ → Room
+  newName : Room
 
--- that room is missing. "NOSPC for a new object: no available object, no free name, or too few blocks for its size."
+-- that room is missing. "NOSPC for a new object: no available object, no free name, or too few blocks for its size."; E7: "NOSPC without a free name"
 abbrev pub Missing : ℕ → ℕ → ℕ → ℕ → State → Room → Type 0
 Missing σ p q r w (growth old size) = blocksLeft p r (w .store) (w .ledger) < need size - need old
 Missing σ p q r w (newObject size) =
     (objectsLeft σ p (w .ledger) ≡ 0) ⊎ ((namesLeft q (w .ledger) ≡ 0) ⊎ (blocksLeft p r (w .store) (w .ledger) < need size))
+Missing σ p q r w newName = namesLeft q (w .ledger) ≡ 0
 
 -- the size of the object that a handle names; that it is the size which GETATTR answers is the field `sizes`
 abbrev pub sizeIn : State → List ℕ → ℕ
@@ -218,6 +245,12 @@ pub record MayMake (b : Book) (x : Request) (p : NameIn) (invalid : Bool) : Type
   pub goodName : checkName (nameAsked x p) ≡ passed tt
   pub noDots : isDots (nameAsked x p) ≡ false
   pub valid : invalid ≡ false
+
+-- the checks of LINK before MLINK. E7: "source handle, INVAL if a directory, directory handle, NOTDIR, then the name checks ("." or ".." EXIST), EXIST"
+pub record MayLink (b : Book) (x : Request) (h : Part) (p : NameIn) : Type 0 where
+  pub file : HasLine b (cut (x .call) h) REGULAR
+  pub place : MayMake b x p false
+  pub freeName : someAt (directoryIn x p) (nameAsked x p) b ≡ false
 
 -- "The earlier checks are those these papers name": the request passes those of its procedure, and asks for this room. Handles and names
 -- are looked for in the book; only the guard's ctime and the sizes are the store's
@@ -250,6 +283,10 @@ pub data AsksRoom (w : State) (x : Request) : Room → Type 0 where
   byMkdir : (p : NameIn) (a : Settable) → Asks x (Call.Mkdir p a)
       → MayMake (w .ledger .book) x p (badAttributes a || isGiven (a .size)) → someAt (directoryIn x p) (nameAsked x p) (w .ledger .book) ≡ false
       → AsksRoom w x (newObject 0)
+  -- LINK of a file with fewer than 16 lines: a name, and neither object nor block
+  byLink : (h : Part) (p : NameIn) → Asks x (Call.Link h p) → MayLink (w .ledger .book) x h p
+      → linesOf (cut (x .call) h) (w .ledger .book) < mostLinks
+      → AsksRoom w x newName
 
 -- NOSPC exactly where the room is missing; OK where it is not
 pub record AnswersRoom (reply : List ℕ) (missing : Type 0) : Type 0 where
@@ -278,17 +315,50 @@ pub record Kept (σ p q r : ℕ) (w : State) : Type 0 where
   -- "A handle is given out once it has a line"
   pub lineGiven : (h : List ℕ) (kind : ℕ) → HasLine (w .ledger .book) h kind → In h (w .ledger .given)
   -- "A line added by CREATE or MKDIR is a new object's, its handle never given out before"
-  pub addedLine : (x : Request) → Lent x → (l : Line) → step w x .ledger .book ≡ l ∷ w .ledger .book → In (l .handle) (w .ledger .given) → ⊥
+  pub addedLine : (x : Request) → Lent x → Makes x → (l : Line) → step w x .ledger .book ≡ l ∷ w .ledger .book → In (l .handle) (w .ledger .given) → ⊥
+  -- E7: "a LINK answered OK adds a line to its book with the source's handle and type": the source is a file, no line has that directory handle and
+  -- name, and no handle is given out
+  pub linkedLine : (x : Request) → Lent x → (h : Part) (p : NameIn) → asked (x .call) ≡ some (Call.Link h p) → isOk (replyTo (w .store) x) ≡ true
+      → HasLine (w .ledger .book) (cut (x .call) h) REGULAR
+      × (someAt (directoryIn x p) (nameAsked x p) (w .ledger .book) ≡ false)
+      × (step w x .ledger .book
+      ≡ record { handle = cut (x .call) h; kind = REGULAR; standing = under (directoryIn x p) (nameAsked x p) } ∷ w .ledger .book)
+      × (step w x .ledger .given ≡ w .ledger .given)
+  -- "REMOVE, RMDIR: such a line is struck."; E7: "REMOVE .. frees the object only with its last name"
+  pub removedName : (x : Request) → Lent x → (p : NameIn) (h : List ℕ) → Removes x p
+      → HasName (w .ledger .book) (directoryIn x p) h (nameAsked x p) → isOk (replyTo (w .store) x) ≡ true
+      → LosesName (w .ledger) (step w x .ledger) h
   -- "every handle in an OK reply has a line"
   pub handleLined : (x : Request) → Lent x → (h : List ℕ) → isOk (replyTo (w .store) x) ≡ true → Carries x (replyTo (w .store) x) h
       → (kind : ℕ) × HasLine (step w x .ledger .book) h kind
-  -- ---- 3. PATHS
-  -- each live object has exactly one path of stored names from the root, of at most live objects less one steps, in the store
-  pub storedPath : (o : ℕ) → o < objects (w .store) → isLive (w .store) o ≡ true → (ns : List ℕ)
+  -- ---- 3. PATHS AND NAMES
+  -- E7: "demand 3 reads "exactly one path" for directories": each has exactly one path of stored names from the root, of at most live objects less
+  -- one steps, in the store
+  pub storedPath : (o : ℕ) → o < objects (w .store) → isDirectory (w .store) o ≡ true → (ns : List ℕ)
       × StoredPath (w .store) o ns × ((ms : List ℕ) → StoredPath (w .store) o ms → ms ≡ ns) × (suc (length ns) ≤ liveObjects (w .store))
   -- "A path leads from line to line, each in the directory before; the root's is empty.": and in the book
-  pub bookPath : (h : List ℕ) (kind : ℕ) → HasLine (w .ledger .book) h kind → (ls : List Line)
+  pub bookPath : (h : List ℕ) → HasLine (w .ledger .book) h DIRECTORY → (ls : List Line)
       × BookPath (w .ledger .book) h ls × ((ks : List Line) → BookPath (w .ledger .book) h ks → ks ≡ ls) × (suc (length ls) ≤ liveObjects (w .store))
+  -- E7: "one per directory": a directory has one line, and so has the root
+  pub directoryLine : (h : List ℕ) → HasLine (w .ledger .book) h DIRECTORY → linesOf h (w .ledger .book) ≡ 1
+  -- E7: ".. and "one to sixteen names" for files": so many names in the store, and so many lines in the book
+  pub fileNames : (o : ℕ) → o < objects (w .store) → isRegular (w .store) o ≡ true
+      → (1 ≤ namings (w .store) o) × (namings (w .store) o ≤ mostLinks)
+  pub fileLines : (h : List ℕ) → HasLine (w .ledger .book) h REGULAR
+      → (1 ≤ linesOf h (w .ledger .book)) × (linesOf h (w .ledger .book) ≤ mostLinks)
+  -- each name of any object has exactly one path, of at most live objects less one steps, in the store
+  pub namePath : (n : ℕ) → n < names (w .store) → isUsedName (w .store) n ≡ true → (ns : List ℕ)
+      × StoredPath (w .store) (nameAt (w .store) n .child) (n ∷ ns)
+      × ((ms : List ℕ) → StoredPath (w .store) (nameAt (w .store) n .child) (n ∷ ms) → ms ≡ ns)
+      × (suc (length (n ∷ ns)) ≤ liveObjects (w .store))
+  -- and so has each line with a name, in the book
+  pub linePath : (l : Line) → In l (w .ledger .book) → hasName (l .standing) ≡ true → (ls : List Line)
+      × BookPath (w .ledger .book) (l .handle) (l ∷ ls)
+      × ((ks : List Line) → BookPath (w .ledger .book) (l .handle) (l ∷ ks) → ks ≡ ls)
+      × (suc (length (l ∷ ls)) ≤ liveObjects (w .store))
+  -- E7: "A file's nlink counts its names": the links that GETATTR answers for a live file are its lines
+  pub links : (x : Request) (h : Part) → Asks x (Call.Getattr h) → HasLine (w .ledger .book) (cut (x .call) h) REGULAR
+      → shownLinks (replyTo (w .store) x) ≡ linesOf (cut (x .call) h) (w .ledger .book)
   -- ---- 4. PLACES, FREE BLOCKS, OBJECTS AND NAMES
   -- "A place is one of a live file's ceil(size/512) blocks, size as GETATTR answers.": no block serves two places
   pub onePlace : (i j k l : ℕ) → i < objects (w .store) → j < objects (w .store)
@@ -341,6 +411,13 @@ pub record Kept (σ p q r : ℕ) (w : State) : Type 0 where
   -- WRITE of 0 bytes to a live file asks for no room
   pub writeNothing : (x : Request) (h : Part) (offset : ℕ) (bytes : Part) → Asks x (Call.Write h offset 0 bytes)
       → HasLine (w .ledger .book) (cut (x .call) h) REGULAR → 0 ≡ length (cut (x .call) bytes) → isOk (replyTo (w .store) x) ≡ true
+  -- E7: "MLINK at 16 names": a LINK that passes the checks before is answered MLINK exactly where the source has 16 lines
+  pub manyNames : (x : Request) (h : Part) (p : NameIn) → Asks x (Call.Link h p) → MayLink (w .ledger .book) x h p
+      → (isStatus MLINK (replyTo (w .store) x) ≡ true) ↔ (linesOf (cut (x .call) h) (w .ledger .book) ≡ mostLinks)
+  -- and nothing else is answered MLINK
+  pub onlyManyNames : (x : Request) → Lent x → isStatus MLINK (replyTo (w .store) x) ≡ true
+      → (h : Part) × (p : NameIn) × Asks x (Call.Link h p) × MayLink (w .ledger .book) x h p
+      × (linesOf (cut (x .call) h) (w .ledger .book) ≡ mostLinks)
   -- ---- 7. A CREATE THAT IS SENT AGAIN
   -- "where no line has that directory handle and name, one is added": a CREATE answered OK whose name has a line finds that line and adds none, in
   -- every manner, and the handle in its reply is the line's
@@ -365,11 +442,11 @@ pub record Kept (σ p q r : ℕ) (w : State) : Type 0 where
   pub ontoItself : (x : Request) → Lent x → (p q : NameIn) (h : List ℕ) → Asks x (Call.Rename p q)
       → HasName (w .ledger .book) (directoryIn x p) h (nameAsked x p) → HasName (w .ledger .book) (directoryIn x q) h (nameAsked x q)
       → (isOk (replyTo (w .store) x) ≡ true) × (step w x ≡ w)
-  -- E3: "A removed target's room, handle and line in the book are treated as REMOVE or RMDIR would treat them.": where they have two, and RENAME is
-  -- answered OK, the second is removed
+  -- E3: "A removed target's room, handle and line in the book are treated as REMOVE or RMDIR would treat them."; E7: "a RENAME onto it, frees the
+  -- object only with its last name": where they have two, and RENAME is answered OK, the line of the second name is struck
   pub replaced : (x : Request) → Lent x → (p q : NameIn) (h g : List ℕ) → Asks x (Call.Rename p q)
       → HasName (w .ledger .book) (directoryIn x p) h (nameAsked x p) → HasName (w .ledger .book) (directoryIn x q) g (nameAsked x q) → (h ≡ g → ⊥)
-      → isOk (replyTo (w .store) x) ≡ true → IsRemoved (step w x .ledger) g
+      → isOk (replyTo (w .store) x) ≡ true → LosesName (w .ledger) (step w x .ledger) g
 
 -- the state that a format leaves: its store, and the book with the root's line
 abbrev pub formattedState : Store → ℕ → ℕ → ℕ → ℕ → Time → State

@@ -27,6 +27,9 @@ FBIG = 27
 abbrev pub NOSPC : ℕ
 NOSPC = 28
 
+abbrev pub MLINK : ℕ
+MLINK = 31
+
 abbrev pub NAMETOOLONG : ℕ
 NAMETOOLONG = 63
 
@@ -56,8 +59,8 @@ SERVERFAULT = 10006
 
 abbrev pub statuses : List ℕ
 statuses =
-    OK ∷ NOENT ∷ ACCES ∷ EXIST ∷ NOTDIR ∷ INVAL ∷ FBIG ∷ NOSPC ∷ NAMETOOLONG ∷ NOTEMPTY ∷ STALE ∷ BADHANDLE ∷ NOT-SYNC
-    ∷ BAD-COOKIE ∷ NOTSUPP ∷ TOOSMALL ∷ SERVERFAULT ∷ []
+    OK ∷ NOENT ∷ ACCES ∷ EXIST ∷ NOTDIR ∷ INVAL ∷ FBIG ∷ NOSPC ∷ MLINK ∷ NAMETOOLONG ∷ NOTEMPTY ∷ STALE ∷ BADHANDLE
+    ∷ NOT-SYNC ∷ BAD-COOKIE ∷ NOTSUPP ∷ TOOSMALL ∷ SERVERFAULT ∷ []
 
 -- "With no live handle a failure body holds this many zero words, procedures 1 to 21: 0 2 1 1 1 1 2 2 2 2 2 2 2 4 3 1 1 1 1 1 2."
 abbrev pub zeroWords : List ℕ
@@ -153,17 +156,17 @@ mostCredentialBytes = 400
 abbrev pub mostTransferBytes : ℕ
 mostTransferBytes = 4096
 
--- "PATHCONF: 1, 32, true, false, false, true"
+-- E7: "The store check admits 1 to 16 names per file"; "linkmax becomes 16"
 abbrev pub mostLinks : ℕ
-mostLinks = 1
+mostLinks = 16
 
 -- "Answers FILE_SYNC"
 abbrev pub fileSync : ℕ
 fileSync = 2
 
--- "properties 0x18"
+-- E7: "properties 0x19"
 abbrev pub fileSystemProperties : ℕ
-fileSystemProperties = 0x18
+fileSystemProperties = 0x19
 
 -- "The result body after the status costs 104 bytes plus 24 + padded name each"
 abbrev pub listingCost : ℕ

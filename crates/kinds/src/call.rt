@@ -75,13 +75,15 @@ pub enum Arguments {
     Remove(NameIn),
     Rmdir(NameIn),
     Rename(NameIn, NameIn),
+    // The file, and the name that is added.
+    Link(Part, NameIn),
     // The handle, the cookie, its verifier and the count.
     Readdir(Part, u64, u64, u32),
     Fsstat(Part),
     Fsinfo(Part),
     Pathconf(Part),
     Commit(Part),
-    // The five procedures whose arguments stay unread.
+    // The four procedures whose arguments stay unread.
     Unserved,
 }
 

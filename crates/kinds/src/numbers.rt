@@ -30,6 +30,8 @@ impl Status {
 
     pub const NOSPC: Status = Status(28);
 
+    pub const MLINK: Status = Status(31);
+
     pub const NAMETOOLONG: Status = Status(63);
 
     pub const NOTEMPTY: Status = Status(66);
@@ -49,7 +51,7 @@ impl Status {
     pub const SERVERFAULT: Status = Status(10006);
 
     // The numbers of the constants above, in their order.
-    pub fn numbers() -> [u32; 17]
+    pub fn numbers() -> [u32; 18]
         ensures { λ r. ⌜ r ≡ statuses ⌝ }
     {
         [
@@ -61,6 +63,7 @@ impl Status {
             Status::INVAL.0,
             Status::FBIG.0,
             Status::NOSPC.0,
+            Status::MLINK.0,
             Status::NAMETOOLONG.0,
             Status::NOTEMPTY.0,
             Status::STALE.0,
@@ -302,11 +305,11 @@ impl Limit {
     pub const MOST_TRANSFER_BYTES: usize = 4096;
 
     // What PATHCONF, WRITE and FSINFO say: the names of an object, how stable written bytes are, and what the file system can do.
-    pub const MOST_LINKS: u32 = 1;
+    pub const MOST_LINKS: u32 = 16;
 
     pub const FILE_SYNC: u32 = 2;
 
-    pub const PROPERTIES: u32 = 0x18;
+    pub const PROPERTIES: u32 = 0x19;
 
     // What a listing costs, and each entry besides its padded name.
     pub const LISTING_COST: usize = 104;

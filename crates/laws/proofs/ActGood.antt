@@ -19,11 +19,12 @@ use Rattle.kinds.specs.declared.call.How.{How}
 use Rattle.kinds.specs.declared.call.Arguments.{Arguments}
 use Rattle.kinds.specs.declared.call.Arguments.the-variants as Arguments
 use Rattle.spec.specs.Checked.{Checked, refused, passed}
-use Rattle.spec.specs.Edits.{setAttributes, onlyCtime, mtimeAndCtime, resize, withGeneration, createObject, removeObject, moveName, writeFile}
+use Rattle.spec.specs.Edits.{setAttributes, onlyCtime, mtimeAndCtime, resize, withGeneration, addName, createObject, removeName, moveName, writeFile}
 use Rattle.spec.specs.Image.{Store, objects, names, blocks, objectAt, nameAt}
 use Rattle.spec.specs.Procedures.{cut, act}
 use Rattle.spec.specs.Procedures.Attributes.{isGiven, sizeSet, sizeTouches, resizeTo, checkSetattr, setattrEdit, edited, setattr}
 use Rattle.spec.specs.Procedures.Data.{grown, checkWrite, writeEdit, writeStore, writeDone, write}
+use Rattle.spec.specs.Procedures.Link.{checkLink, linkEdit, failLinking, linkedTo, link}
 use Rattle.spec.specs.Procedures.Names.{newObject, touchDirectory, newEdit, createdIn, Target, new, existing, settableIn, existingEdit, newFile}
 use Rattle.spec.specs.Procedures.Names.{createEdit, checkCreate, create, checkMkdir, mkdir}
 use Rattle.spec.specs.Procedures.Removal.{checkRemove, checkRmdir, removeFrom, remove, rmdir, Onto, newName, sameObject, replacing, checkRename, moveEdit}
@@ -32,7 +33,6 @@ use Rattle.spec.specs.Results.{Result, Done, failChanging, settle}
 use Rattle.spec.specs.Room.{sizeOf, need, freeBlockCount}
 use Rattle.spec.specs.Serve.{serve}
 use Rattle.laws.proofs.ArgumentRange.{FitsHow, FitsArguments, arguments-fit}
-use Rattle.laws.proofs.BlockLists.{held-range}
 use Rattle.laws.proofs.BlockWrites.{write-file}
 use Rattle.laws.proofs.Count.{by-bool, true-false}
 use Rattle.laws.proofs.CreateObject.{create-object, create-object-uses}
@@ -41,23 +41,22 @@ use Rattle.laws.proofs.Error.{commit-store}
 use Rattle.laws.proofs.GoodKept.{used-of}
 use Rattle.laws.proofs.GoodRecords.{GoodRecords, StillGood, GoodClock, clock-fits, valid-records, still-refl, still-trans, live-at, free-size}
 use Rattle.laws.proofs.GoodRecords.{used-at, set-attributes-still, forget-verifier-still, resize-still, write-file-still, create-object-still}
-use Rattle.laws.proofs.GoodRecords.{remove-object-still, move-name-still}
+use Rattle.laws.proofs.GoodRecords.{add-name-still, move-name-still}
 use Rattle.laws.proofs.Kept.{kept-refl}
-use Rattle.laws.proofs.MoveName.{move-name}
 use Rattle.laws.proofs.NewObject.{FreshObject, new-fresh, file-kind, file-fresh}
 use Rattle.laws.proofs.Passed.{SetattrPassed, setattr-passed, WritePassed, write-passed, NewRoom, CreatePassed, create-passed, mkdir-passed}
 use Rattle.laws.proofs.Passed.{RemovePassed, remove-passed, RmdirPassed, rmdir-passed, replaced-alone, RenamePassed, rename-passed, found-record}
-use Rattle.laws.proofs.Passed.{no-entries}
+use Rattle.laws.proofs.Passed.{no-entries, LinkPassed, link-passed}
+use Rattle.laws.proofs.PutName.{add-name, move-name}
 use Rattle.laws.proofs.Range.{Below, below-take}
 use Rattle.laws.proofs.RecordRange.{cut-below}
-use Rattle.laws.proofs.RemoveObject.{remove-object}
+use Rattle.laws.proofs.RemoveName.{remove-name, remove-name-still}
 use Rattle.laws.proofs.Resize.{resize-size, resize-tree}
 use Rattle.laws.proofs.SameReads.{freeBlockCount-reads}
 use Rattle.laws.proofs.Served.{Ran, serve-ran}
 use Rattle.laws.proofs.SetAttributes.{FitsSettable, only-ctime-fits, mtime-and-ctime-fits, only-ctime-allowed}
 use Rattle.laws.proofs.SetAttributes.{mtime-and-ctime-allowed, size-touches-fits, size-touches-allowed, set-attributes-structure}
 use Rattle.laws.proofs.Structure.{SameTree, kept-structure}
-use Rattle.laws.proofs.Unique.{one-naming}
 use Rattle.laws.proofs.Valid.{LiveObject, GoodName, Live, Used, Valid, live-size}
 
 -- a live object that is no directory is a regular file
@@ -276,35 +275,31 @@ module _ (s : Store) (c : Context) (v : Valid s) (b : Below 256 s) (k : GoodCloc
       (q .reached .below) (q .directory) (q .good) w)
 
   -- ---- REMOVE and RMDIR
-  -- the edit, where no other name stands in the object, and the directory is not the object
+  -- the edit, where no name stands in the object, and the directory is not the object
   remove-edit : (d n : ℕ) → n < names s → Used s n → d < objects s → objectAt s d .kind ≡ DIRECTORY → d ≢ nameAt s n .child
-      → ((m : ℕ) → m < names s → Used s m → nameAt s m .directory ≢ nameAt s n .child) → StillGood s (touchDirectory (removeObject s n) c d)
+      → ((m : ℕ) → m < names s → Used s m → nameAt s m .directory ≢ nameAt s n .child) → StillGood s (touchDirectory (removeName s (c .clock) n) c d)
   remove-edit d n l u below dir other alone =
-      let t = removeObject s n in
-      let o = nameAt s n .child in
-      let w = used-at s records n l u in
-      let live = live-at s records o (w .0) (w .1) in
-      let r = remove-object-still s records n l u
-      (λ m i q j. (λ e. q (one-naming s (v .good-names) (v .named) m n i l j u e), alone m i j)) in
-      let e = remove-object s n o refl (records .sound) l (w .0) (live .generation) (held-range s o live) in
-      touch-after s t r c d k below (ap (λ (x : Object). x .kind) (e .other-objects d below other)) dir
+      let t = removeName s (c .clock) n in
+      let r = remove-name-still s records (c .clock) n k l u alone in
+      let e = remove-name s records (c .clock) n k l u in
+      touch-after s t r c d k below (ap (λ (x : Object). x .kind) (e .set .other-objects d below other)) dir
 
-  removed-file : (h text : List ℕ) (d n : ℕ) → RemovePassed s h text d n → StillGood s (touchDirectory (removeObject s n) c d)
+  removed-file : (h text : List ℕ) (d n : ℕ) → RemovePassed s h text d n → StillGood s (touchDirectory (removeName s (c .clock) n) c d)
   removed-file h text d n p =
       let (l, u, i, j) = found-record s d text n (p .entry .found) in
       remove-edit d n l u (p .entry .reached .below) (p .entry .directory) (λ e. p .file (rw e at (p .entry .directory)))
       (λ m a b e. p .file (rw e at (used-of s m b (v .good-names m a) .in-directory)))
 
-  removed-directory : (h text : List ℕ) (d n : ℕ) → RmdirPassed s h text d n → StillGood s (touchDirectory (removeObject s n) c d)
+  removed-directory : (h text : List ℕ) (d n : ℕ) → RmdirPassed s h text d n → StillGood s (touchDirectory (removeName s (c .clock) n) c d)
   removed-directory h text d n p =
       let (l, u, i, j) = found-record s d text n (p .entry .found) in
       let none-in : (m : ℕ) → m < names s → Used s m → nameAt s m .directory ≢ nameAt s n .child = λ m a b. no-entries s (nameAt s n .child) m (p .empty) a b in
       remove-edit d n l u (p .entry .reached .below) (p .entry .directory) (λ e. none-in n l u (i ∙ e)) none-in
 
-  removal : (h : List ℕ) (checks : Checked (ℕ × ℕ)) → ((p : ℕ × ℕ) → checks ≡ passed p → StillGood s (touchDirectory (removeObject s (p .1)) c (p .0)))
-      → StillGood s (removeFrom s c h checks .store)
+  removal : (h : List ℕ) (checks : Checked (ℕ × ℕ))
+      → ((p : ℕ × ℕ) → checks ≡ passed p → StillGood s (touchDirectory (removeName s (c .clock) (p .1)) c (p .0))) → StillGood s (removeFrom s c h checks .store)
   unfolding removeFrom
-  removal h checks f = settle-good (failChanging s h) checks (λ p. edited s (p .0) (touchDirectory (removeObject s (p .1)) c (p .0))) f
+  removal h checks f = settle-good (failChanging s h) checks (λ p. edited s (p .0) (touchDirectory (removeName s (c .clock) (p .1)) c (p .0))) f
 
   remove-good : (h text : List ℕ) → StillGood s (remove s c h text .store)
   unfolding remove
@@ -327,20 +322,18 @@ module _ (s : Store) (c : Context) (v : Valid s) (b : Below 256 s) (k : GoodCloc
         target-directory = p .target-directory;
       }
 
-  -- the object that gives way is removed, and what the move asks for is left
+  -- the name that gives way is removed, and what the move asks for is left
   pub replaced : (h text j title : List ℕ) (d e n m : ℕ) → RenamePassed s h text j title d e n (replacing m)
-      → StillGood s (removeObject s m) × Movable (removeObject s m) d e n
+      → StillGood s (removeName s (c .clock) m) × Movable (removeName s (c .clock) m) d e n
   replaced h text j title d e n m p =
-      let t = removeObject s m in
+      let t = removeName s (c .clock) m in
       let o = nameAt s m .child in
       let (l, u, i, _) = found-record s d text n (p .found) in
       let (a, b, x, _) = found-record s e title m (p .target .found) in
-      let w = used-at s records m a b in
-      let live = live-at s records o (w .0) (w .1) in
       let alone : (y : ℕ) → y < names s → Used s y → nameAt s y .directory ≢ o =
       λ y z q. replaced-alone s (v .good-names) (nameAt s n .child) o y (p .target .gives-way) z q in
-      let r = remove-object-still s records m a b (λ y z q j. (λ e. q (one-naming s (v .good-names) (v .named) y m z a j b e), alone y z j)) in
-      let f = remove-object s m o refl (records .sound) a (w .0) (live .generation) (held-range s o live) in
+      let r = remove-name-still s records (c .clock) m k a b alone in
+      let f = remove-name s records (c .clock) m k a b .set in
       let kept = f .other-names n l (λ q. p .target .other (ap (λ (y : ℕ). nameAt s y .child) (sym q))) in
       let kind : (y : ℕ) → y < objects s → y ≢ o → objectAt t y .kind ≡ objectAt s y .kind =
       λ y z q. ap (λ (x : Object). x .kind) (f .other-objects y z q) in (
@@ -361,7 +354,7 @@ module _ (s : Store) (c : Context) (v : Valid s) (b : Below 256 s) (k : GoodCloc
   rename-edit h text j title d e n sameObject w p = still-refl s records
   rename-edit h text j title d e n (replacing m) w p =
       let (r, q) = replaced h text j title d e n m p in
-      let t = removeObject s m in
+      let t = removeName s (c .clock) m in
       still-trans s t (moveEdit t c d e n title) r (move-edit t (r .good) c k d e n title (p .target-good) w q)
 
   rename-good : (h text j title : List ℕ) → Below 256 title → StillGood s (rename s c h text j title .store)
@@ -369,6 +362,31 @@ module _ (s : Store) (c : Context) (v : Valid s) (b : Below 256 s) (k : GoodCloc
   rename-good h text j title w =
       settle-good (failRenaming s h j) (checkRename s h text j title) (λ p. renamedTo s (p .0) (p .1) (renameEdit s c (p .0) (p .1) (p .2) (p .3) title))
       (λ p e. rename-edit h text j title (p .0) (p .1) (p .2) (p .3) w (rename-passed s h text j title p e))
+
+  -- ---- LINK
+  link-edit : (h g text : List ℕ) (o d n : ℕ) → Below 256 text → LinkPassed s h g text o d n → StillGood s (linkEdit s c o d n text)
+  unfolding linkEdit
+  link-edit h g text o d n w p =
+      let l = p .reached .below in
+      let below = p .directory-reached .below in
+      let t₁ = setAttributes s (c .clock) o onlyCtime in
+      let r₁ = set-attributes-still s records (c .clock) o onlyCtime l (p .reached .live) k only-ctime-fits only-ctime-allowed in
+      let b₁ = set-attributes-structure s (c .clock) o onlyCtime (records .sound) l (clock-fits (c .clock) k) only-ctime-fits .tree in
+      let t₂ = addName t₁ n o d text in
+      let n₁ : n < names t₁ = rw (r₁ .shape .names) (p .name-below) in
+      let d₁ = below-after s t₁ r₁ d below in
+      let o₁ = below-after s t₁ r₁ o l in
+      let kind₁ = b₁ .kind d below ∙ p .directory in
+      let r₂ = still-trans s t₁ t₂ r₁ (add-name-still t₁ (r₁ .good) n o d text n₁ o₁ (rw (b₁ .kind o l) (p .reached .live)) d₁ kind₁ (p .good) w) in
+      let shape = r₁ .good .sound .shaped in
+      let e₂ = add-name t₁ n d text (r₁ .good .sound) n₁ (omega arith) (p .good .short) w o (omega arith) in
+      touch-after s t₂ r₂ c d k below (ap (λ (q : Object). q .kind) (e₂ .each-object d d₁) ∙ b₁ .kind d below) (p .directory)
+
+  link-good : (h g text : List ℕ) → Below 256 text → StillGood s (link s c h g text .store)
+  unfolding link
+  link-good h g text w =
+      settle-good (failLinking s h g) (checkLink s h g text) (λ p. linkedTo s (p .0) (p .1) (linkEdit s c (p .0) (p .1) (p .2) text))
+      (λ p e. link-edit h g text (p .0) (p .1) (p .2) w (link-passed s h g text p e))
 
   -- ---- every call
   as-it-was : (t : Store) → t ≡ s → StillGood s t
@@ -389,6 +407,7 @@ module _ (s : Store) (c : Context) (v : Valid s) (b : Below 256 s) (k : GoodCloc
   act-good call (Arguments.Rmdir p) w f = rmdir-good (cut call (p .directory)) (cut call (p .name))
   act-good call (Arguments.Rename p q) w f =
       rename-good (cut call (p .directory)) (cut call (p .name)) (cut call (q .directory)) (cut call (q .name)) (cut-below call (q .name) w)
+  act-good call (Arguments.Link h p) w f = link-good (cut call h) (cut call (p .directory)) (cut call (p .name)) (cut-below call (p .name) w)
   act-good call (Arguments.Readdir h cookie verifier count) w f = as-it-was _ (readdir-store s (cut call h) cookie verifier count)
   act-good call (Arguments.Fsstat h) w f = as-it-was _ (fsstat-store s (cut call h))
   act-good call (Arguments.Fsinfo h) w f = as-it-was _ (fsinfo-store s (cut call h))

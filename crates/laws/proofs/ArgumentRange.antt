@@ -143,6 +143,7 @@ FitsArguments (Call.Mkdir p a) = FitsSettable a
 FitsArguments (Call.Remove p) = Unit {0}
 FitsArguments (Call.Rmdir p) = Unit {0}
 FitsArguments (Call.Rename p q) = Unit {0}
+FitsArguments (Call.Link h p) = Unit {0}
 FitsArguments (Call.Readdir h cookie verifier count) = Unit {0}
 FitsArguments (Call.Fsstat h) = Unit {0}
 FitsArguments (Call.Fsinfo h) = Unit {0}
@@ -202,6 +203,7 @@ gained = by-procedure Gained (record {
   remove = λ s x w at a q e. ends s (Call.Remove x) at a q e (w, λ _. tt);
   rmdir = λ s x w at a q e. ends s (Call.Rmdir x) at a q e (w, λ _. tt);
   rename = λ s x w at a q e. bind-got (nameIn s at) _ a q e (λ y n₁ e₁ f₁. ends s (Call.Rename x y) n₁ a q f₁ ((w, name-within s at y n₁ e₁), λ _. tt));
+  link = λ s h w at a q e. bind-got (nameIn s at) _ a q e (λ x n₁ e₁ f₁. ends s (Call.Link h x) n₁ a q f₁ ((w, name-within s at x n₁ e₁), λ _. tt));
   readdir = λ s h w at a q e.
       bind-got (long s at) _ a q e (λ cookie n₁ e₁ f₁.
       bind-got (long s n₁) _ a q f₁ (λ verifier n₂ e₂ f₂.

@@ -10,7 +10,7 @@ use Rattle.kinds.specs.declared.call.NameIn.{NameIn}
 use Rattle.kinds.specs.declared.call.Arguments.{Arguments}
 use Rattle.kinds.specs.declared.call.Arguments.the-variants as Call
 use Rattle.spec.specs.Arguments.{Form, none, handleThen, nameThen, unread, form, alone, setattrArguments, accessArguments, readArguments}
-use Rattle.spec.specs.Arguments.{writeArguments, createArguments, mkdirArguments, renameArguments, readdirArguments, commitArguments}
+use Rattle.spec.specs.Arguments.{writeArguments, createArguments, mkdirArguments, renameArguments, linkArguments, readdirArguments, commitArguments}
 
 -- ---- the table
 -- P of each row, and of a procedure that is not served
@@ -27,6 +27,7 @@ pub record Rows (P : ℕ → Form → Type 0) : Type 0 where
   pub remove : P 12 (nameThen (alone Call.Remove))
   pub rmdir : P 13 (nameThen (alone Call.Rmdir))
   pub rename : P 14 (nameThen renameArguments)
+  pub link : P 15 (handleThen linkArguments)
   pub readdir : P 16 (handleThen readdirArguments)
   pub fsstat : P 18 (handleThen (alone Call.Fsstat))
   pub fsinfo : P 19 (handleThen (alone Call.Fsinfo))
@@ -49,12 +50,13 @@ by-procedure P rows p =
     (row 12 (rows .remove)
     (row 13 (rows .rmdir)
     (row 14 (rows .rename)
+    (row 15 (rows .link)
     (row 16 (rows .readdir)
     (row 18 (rows .fsstat)
     (row 19 (rows .fsinfo)
     (row 20 (rows .pathconf)
     (row 21 (rows .commit)
-    (rows .others p)))))))))))))))))
+    (rows .others p))))))))))))))))))
   where
     row : (n : ℕ) {x y : Form} → P n x → P p y → P p (cond (eqb p n) x y)
     row n {x} {y} here there = tested (eqb p n) refl
@@ -85,6 +87,7 @@ Within n (Call.Mkdir place attributes) = NameWithin n place
 Within n (Call.Remove place) = NameWithin n place
 Within n (Call.Rmdir place) = NameWithin n place
 Within n (Call.Rename old new) = NameWithin n old × NameWithin n new
+Within n (Call.Link file place) = PartWithin n file × NameWithin n place
 Within n (Call.Readdir directory cookie verifier count) = PartWithin n directory
 Within n (Call.Fsstat object) = PartWithin n object
 Within n (Call.Fsinfo object) = PartWithin n object

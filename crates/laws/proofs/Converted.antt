@@ -10,24 +10,25 @@ use native.Mathlib.Nat.{add-zero, add-assoc, eq-or-lt-of-le, le-of-suc-le-suc}
 use lib.Dec.{eqb, leb, lit≤}
 use lib.ListN.{length, take, drop, getD, length-append, length-drop}
 use lib.Seq.{drop-drop, drop-at, getD-drop}
-use borrow.Author.Tests.{eqb-true, leb-false, eq-eqb, ne-eqb}
+use borrow.Author.Tests.{eqb-true, eqb-false, leb-true, leb-false, eq-eqb, ne-eqb}
 use Rattle.kinds.specs.Layout.{stampOffset, objectCountOffset, objectsHead, namesHead, blocksHead, generationOffset, modeOffset, uidOffset, gidOffset}
 use Rattle.kinds.specs.Layout.{sizeOffset, atimeOffset, mtimeOffset, ctimeOffset, blocksOffset, objectLength, oldObjectLength, nanosecondsOffset}
 use Rattle.kinds.specs.Layout.{childOffset, lengthOffset, textOffset, nameRecordLength, blockLength}
 use Rattle.kinds.specs.Numbers.{FREE, DIRECTORY, STALE, BADHANDLE, handleLength, fileBlocks, mostObjects, mostNameRecords, mostBlocks}
 use Rattle.kinds.specs.declared.object.Attributes.{Attributes}
+use Rattle.kinds.specs.declared.object.Object.{Object}
 use Rattle.spec.specs.Bytes.{part, zeros, beOf, beAt, words}
 use Rattle.spec.specs.Image.{Store, volumes, stamp, objects, names, blocks, objectStart, halvesAt, timeAt, objectFrom, objectAt, Name, nameFrom}
 use Rattle.spec.specs.Image.{nameAt, nameLength}
-use Rattle.spec.specs.Count.{count}
-use Rattle.spec.specs.Room.{isLive, isDirectory, sizeOf, need, isUsedName, isIn, subdirectories, byteAt}
+use Rattle.spec.specs.Count.{count, every}
+use Rattle.spec.specs.Room.{isLive, isDirectory, sizeOf, need, isUsedName, namings, isIn, subdirectories, byteAt}
 use Rattle.spec.specs.Checked.{Checked, passed, _>>_, refuseIf}
 use Rattle.spec.specs.Handles.{handleOf, reach, sizeAttribute, usedBytes, linkCount, attributes}
 use Rattle.spec.specs.Check.{goodCounts, imageLength, passes}
-use Rattle.spec.specs.Convert.{oldStart, oldNames, oldBlocks, oldLength, oldShape, oldObjectAt, lengthened, converted, goodOld}
+use Rattle.spec.specs.Convert.{oldStart, oldNames, oldBlocks, oldLength, oldShape, oldObjectAt, lengthened, converted, isNamedOnce, goodOld}
 use Rattle.spec.specs.Serve.{Written, check, convert}
 use Rattle.laws.proofs.Bytes.{part-length, part-left, part-right, part-whole, part-part, be-part}
-use Rattle.laws.proofs.Count.{by-bool, and-both}
+use Rattle.laws.proofs.Count.{by-bool, and-both, every-at}
 use Rattle.laws.proofs.GoodKept.{used-of}
 use Rattle.laws.proofs.Records.{halves-part}
 use Rattle.laws.proofs.Searches.{count-ext}
@@ -374,9 +375,30 @@ module _ (b : List ℕ) (h : oldStart (objects b) ≤ length b) (v : Valid (conv
       count-ext (names (converted b)) _ (oldSubdirectory b d) (subdirectory-kept d)
       ∙ ap (λ (q : ℕ). count q (oldSubdirectory b d)) (names-kept b h)
 
-  pub attributes-kept : (o : ℕ) → o < objects b → attributes (converted b) o ≡ oldAttributes b o
-  unfolding attributes linkCount sizeAttribute usedBytes isDirectory sizeOf
-  attributes-kept o l = rw (usedBytes, sizeOf, object-kept b h o l, subdirectories-kept o, stamp-kept b h)
+  -- a live file has one name
+  one-name : (o : ℕ) → o < objects b → isNamedOnce (converted b) o ≡ true → oldObjectAt b o .kind ≢ FREE → oldDirectory b o ≡ false
+      → namings (converted b) o ≡ 1
+  unfolding isNamedOnce
+  one-name o l once live file =
+      let kind = ap (λ (x : Object). x .kind) (object-kept b h o l) in
+      let k : o < objects (converted b) = rw (objects-kept b h) l in
+      let named = v .named .named o k
+      (λ z. eqb-false (oldObjectAt b o .kind) DIRECTORY file (sym kind ∙ rw z (v .root)))
+      (omega (arith, kind, live)) in
+      omega (arith, leb-true (namings (converted b) o) 1 once)
+
+  links-kept : (o : ℕ) → o < objects b → isNamedOnce (converted b) o ≡ true → oldObjectAt b o .kind ≢ FREE
+      → linkCount (converted b) o ≡ cond (oldDirectory b o) (2 + count (oldNames b) (oldSubdirectory b o)) 1
+  unfolding linkCount isDirectory
+  links-kept o l once live =
+      by-bool (oldDirectory b o)
+      (λ t. rw (object-kept b h o l, t, subdirectories-kept o))
+      (λ t. rw (object-kept b h o l, t) (one-name o l once live t))
+
+  pub attributes-kept : (o : ℕ) → o < objects b → isNamedOnce (converted b) o ≡ true → oldObjectAt b o .kind ≢ FREE
+      → attributes (converted b) o ≡ oldAttributes b o
+  unfolding attributes sizeAttribute usedBytes isDirectory sizeOf
+  attributes-kept o l once live = rw (links-kept o l once live, usedBytes, sizeOf, object-kept b h o l, stamp-kept b h)
 
 pub keeps : (b : List ℕ) → OldShaped b → Keeps b (converted b)
 unfolding handleOf byteAt
@@ -437,8 +459,8 @@ pub record Converts (old : List ℕ) (s : Store) (w : Written) : Type 0 where
   pub kept : w .number ≡ 0 → Keeps old (w .store)
   -- "the result passes"
   pub passes : w .number ≡ 0 → check (w .store) ≡ 0
-  -- "So .. attributes .. are the same"
-  pub same-attributes : w .number ≡ 0 → (o : ℕ) → o < objects old → attributes (w .store) o ≡ oldAttributes old o
+  -- "So .. attributes .. are the same", of every live object
+  pub same-attributes : w .number ≡ 0 → (o : ℕ) → o < objects old → oldObjectAt old o .kind ≢ FREE → attributes (w .store) o ≡ oldAttributes old o
 
 module _ (old : List ℕ) (s : Store) where
   convert-bad : goodOld old ≡ false → convert old s ≡ record { number = 1; store = s }
@@ -461,9 +483,12 @@ module _ (old : List ℕ) (s : Store) where
       (λ g. by-cases (ℕ-discrete (length s) (newLength old)) (λ l. rw (convert-done g l) (done g l)) (λ l. rw (convert-other g l) other))
       (λ g. rw (convert-bad g) bad)
 
-  old-parts : goodOld old ≡ true → (OldShaped old) × (passes (converted old) ≡ true)
+  old-parts : goodOld old ≡ true → (OldShaped old) × (passes (converted old) ≡ true) × (every (objects old) (isNamedOnce (converted old)) ≡ true)
   unfolding goodOld
-  old-parts g = let a = and-both (oldShape old) (passes (converted old)) g in (old-shaped old (a .0), a .1)
+  old-parts g =
+      let a = and-both (oldShape old && passes (converted old)) (every (objects old) (isNamedOnce (converted old))) g in
+      let b = and-both (oldShape old) (passes (converted old)) (a .0) in
+      (old-shaped old (b .0), b .1, a .1)
 
   pub converts : Converts old s (convert old s)
   unfolding check
@@ -478,7 +503,9 @@ module _ (old : List ℕ) (s : Store) where
             (λ g l z. keeps old (old-parts g .0));
         passes = by-answer (λ w. w .number ≡ 0 → check (w .store) ≡ 0) (λ z. absurd (omega arith)) (λ z. absurd (omega arith))
             (λ g l z. rw (old-parts g .1));
-        same-attributes = by-answer (λ w. w .number ≡ 0 → (o : ℕ) → o < objects old → attributes (w .store) o ≡ oldAttributes old o)
+        same-attributes = by-answer
+            (λ w. w .number ≡ 0 → (o : ℕ) → o < objects old → oldObjectAt old o .kind ≢ FREE → attributes (w .store) o ≡ oldAttributes old o)
             (λ z. absurd (omega arith)) (λ z. absurd (omega arith))
-            (λ g l z. attributes-kept old (old-inside old (old-parts g .0)) (valid (converted old) (old-parts g .1)));
+            (λ g l z o k. attributes-kept old (old-inside old (old-parts g .0)) (valid (converted old) (old-parts g .1)) o k
+            (every-at (isNamedOnce (converted old)) (objects old) o (old-parts g .2) k));
       }

@@ -102,6 +102,11 @@ count-one p (suc q) n l e f =
     let b = ap bit (f q (omega arith) (λ y. x (sym y))) in omega arith)
 
 -- ---- every number passes
+pub every-ext : (p q : ℕ → Bool) (n : ℕ) → ((i : ℕ) → i < n → p i ≡ q i) → every n p ≡ every n q
+unfolding every
+every-ext p q zero f = refl
+every-ext p q (suc n) f = ap₂ (λ (t u : Bool). t && u) (every-ext p q n (λ i l. f i (omega arith))) (f n (omega arith))
+
 module _ (p : ℕ → Bool) where
   pub every-more : (i : ℕ) → every i p ≡ true → p i ≡ true → every (i + 1) p ≡ true
   unfolding every

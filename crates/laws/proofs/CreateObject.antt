@@ -1,4 +1,4 @@
--- The fourth edit: an object in a free record, named by a free name record. Assumes nothing.
+-- The fifth edit: an object in a free record, named by a free name record. Assumes nothing.
 use mathlib.Core.Path.{_≡_, ap, _∙_}
 use mathlib.Core.Logic.{by-cases, _⊎_}
 use mathlib.Core.List.{List, []}
@@ -11,19 +11,16 @@ use Rattle.kinds.specs.declared.object.Object.{Object}
 use Rattle.spec.specs.Bytes.{part}
 use Rattle.spec.specs.Count.{times}
 use Rattle.spec.specs.Edits.{withGeneration, createObject}
-use Rattle.spec.specs.Image.{Store, objects, names, blocks, blockStart, objectAt, putObject, Name, nameAt}
+use Rattle.spec.specs.Image.{Store, objects, names, blocks, blockStart, objectAt, putObject, nameAt}
 use Rattle.spec.specs.Room.{sizeOf, held, uses}
 use Rattle.laws.proofs.GoodKept.{good-objects-set, record-kept, used-set, uses-object-set}
 use Rattle.laws.proofs.Kept.{Sound, BothSet, put-object, put-name, object-name}
+use Rattle.laws.proofs.PutName.{newName}
 use Rattle.laws.proofs.Range.{Below}
 use Rattle.laws.proofs.RecordRange.{objectAt-fits}
 use Rattle.laws.proofs.Records.{FitsObject}
 use Rattle.laws.proofs.Valid.{LiveObject, GoodObjects, GoodName, GoodNames, BlocksUsedOnce, live-kind}
 use Rattle.laws.proofs.Writes.{object-written, name-written}
-
--- object o as the name `text` in directory d
-abbrev pub newName : ℕ → ℕ → List ℕ → Name
-newName o d text = record { directory = d; child = o; text = text }
 
 pub generation-fits : (g : ℕ) (v : Object) → g < 2 ^ 32 → FitsObject v → FitsObject (withGeneration g v)
 unfolding withGeneration

@@ -101,7 +101,8 @@ pub record Damaged : Type 0 where
   pub names-free : checkBytes (384 + 88) (nameWords 0 3 nameC) ≡ 1
   pub names-nothing : checkBytes (384 + 88) (nameWords 0 9 nameC) ≡ 1
   -- "every live object but the root named once, the root never"
-  pub named-twice : checkBytes (384 + 88) (nameWords 0 1 nameC) ≡ 1
+  pub named-twice : checkBytes (384 + 88) (nameWords 0 1 nameC) ≡ 0
+  pub directory-twice : checkBytes (384 + 88) (nameWords 0 2 nameC) ≡ 1
   pub named-never : checkBytes 384 (zeros 44) ≡ 1
   pub root-named : checkBytes (384 + 88) (nameWords 2 0 nameC) ≡ 1
   -- "parents lead to the root": a directory in itself, and two in each other
@@ -170,6 +171,7 @@ damaged =
       names-free = refl;
       names-nothing = refl;
       named-twice = refl;
+      directory-twice = refl;
       named-never = refl;
       root-named = refl;
       in-itself = refl;

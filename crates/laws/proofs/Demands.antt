@@ -3,7 +3,7 @@ use mathlib.Core.Path.{_≡_}
 use mathlib.Core.Bool.{true}
 use Rattle.spec.specs.Count.{every}
 use Rattle.spec.specs.Image.{Store, objects, names, blocks}
-use Rattle.spec.specs.Check.{goodShape, goodRoot, goodObject, goodNameRecord, isDistinct, isNamedOnce, isUsedOnce, leadsToRoot, recordsPass, passes}
+use Rattle.spec.specs.Check.{goodShape, goodRoot, goodObject, goodNameRecord, isDistinct, goodNamings, isUsedOnce, leadsToRoot, recordsPass, passes}
 use Rattle.laws.proofs.Count.{and-both}
 
 -- the demands on the records
@@ -12,7 +12,7 @@ pub record RecordDemands (s : Store) : Type 0 where
   pub good-objects : every (objects s) (goodObject s) ≡ true
   pub good-names : every (names s) (goodNameRecord s) ≡ true
   pub distinct : every (names s) (isDistinct s) ≡ true
-  pub named : every (objects s) (isNamedOnce s) ≡ true
+  pub named : every (objects s) (goodNamings s) ≡ true
   pub used-once : every (blocks s) (isUsedOnce s) ≡ true
   pub leads : every (objects s) (leadsToRoot s) ≡ true
 
@@ -30,7 +30,7 @@ unfolding recordsPass
 record-demands s e =
     let b = and-both _ (every (objects s) (leadsToRoot s)) e in
     let c = and-both _ (every (blocks s) (isUsedOnce s)) (b .0) in
-    let d = and-both _ (every (objects s) (isNamedOnce s)) (c .0) in
+    let d = and-both _ (every (objects s) (goodNamings s)) (c .0) in
     let f = and-both _ (every (names s) (isDistinct s)) (d .0) in
     let g = and-both _ (every (names s) (goodNameRecord s)) (f .0) in
     let h = and-both (goodRoot s) (every (objects s) (goodObject s)) (g .0) in

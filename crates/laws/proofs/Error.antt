@@ -17,19 +17,20 @@ use Rattle.kinds.specs.declared.call.Arguments.{Arguments}
 use Rattle.kinds.specs.declared.call.Arguments.the-variants as Arguments
 use Rattle.spec.specs.Bytes.{part, overlay, digits, beOf, beAt, bytesOf, words}
 use Rattle.spec.specs.Checked.{Checked, refused, passed}
-use Rattle.spec.specs.Edits.{removeObject}
+use Rattle.spec.specs.Edits.{removeName}
 use Rattle.spec.specs.Handles.{reach, handleOf, attributes, change}
 use Rattle.spec.specs.Image.{Store, objects}
 use Rattle.spec.specs.Procedures.{cut, act}
 use Rattle.spec.specs.Procedures.Attributes.{getattr, checkSetattr, setattrEdit, edited, setattr, grantedBits, access}
 use Rattle.spec.specs.Procedures.Data.{reachRegular, readResult, read, checkWrite, writeDone, write, commit}
+use Rattle.spec.specs.Procedures.Link.{checkLink, linkEdit, failLinking, linkedTo, link}
 use Rattle.spec.specs.Procedures.Listing.{checkReaddir, readdir}
 use Rattle.spec.specs.Procedures.Names.{checkLookup, lookup, newObject, touchDirectory, newEdit, createdIn, Target, new, existing, checkCreate}
 use Rattle.spec.specs.Procedures.Names.{createEdit, create, checkMkdir, mkdir}
 use Rattle.spec.specs.Procedures.Removal.{checkRemove, checkRmdir, removeFrom, remove, rmdir, checkRename, renameEdit, failRenaming, renamedTo, rename}
 use Rattle.spec.specs.Procedures.Volume.{roomResult, fsstat, fsinfo, pathconf}
 use Rattle.spec.specs.Replies.{resultBytes}
-use Rattle.spec.specs.Results.{Result, null, dead, failed, changed, renamed, gotAttributes, found, granted, gotBytes, wrote, created, listed, gotRoom}
+use Rattle.spec.specs.Results.{Result, null, dead, failed, changed, renamed, linked, gotAttributes, found, granted, gotBytes, wrote, created, listed, gotRoom}
 use Rattle.spec.specs.Results.{gotLimits, gotNaming, committed, Done, unchanged, failShowing, failChanging, settle}
 use Rattle.spec.specs.Rpc.{accepted}
 
@@ -40,6 +41,7 @@ statusOf (dead status) = status
 statusOf (failed status a) = status
 statusOf (changed status c) = status
 statusOf (renamed status c d) = status
+statusOf (linked status a c) = status
 statusOf (gotAttributes a) = OK
 statusOf (found h a d) = OK
 statusOf (granted a bits) = OK
@@ -79,6 +81,10 @@ created-ok h a c = (refl, λ e. let z : _≡_ {A = ℕ} 0 1 = cc in omega arith)
 renamed-ok : (c d : Option Change) → ShowsOK (renamed OK c d)
 unfolding statusOf
 renamed-ok c d = (refl, λ e. let z : _≡_ {A = ℕ} 0 1 = cc in omega arith)
+
+linked-ok : (a : Option Attributes) (c : Option Change) → ShowsOK (linked OK a c)
+unfolding statusOf
+linked-ok a c = (refl, λ e. let z : _≡_ {A = ℕ} 0 1 = cc in omega arith)
 
 settle-ok : {A : Type 0} (s : Store) (fail : ℕ → Result) (c : Checked A) (go : A → Done) → ((a : A) → ShowsOK (go a .result))
     → KeptUnlessOK s (settle s fail c go)
@@ -121,13 +127,18 @@ module _ (s : Store) (c : Context) where
   remove-error : (h : List ℕ) (checks : Checked (ℕ × ℕ)) → KeptUnlessOK s (removeFrom s c h checks)
   unfolding removeFrom
   remove-error h checks =
-      settle-ok s (failChanging s h) checks (λ p. edited s (p .0) (touchDirectory (removeObject s (p .1)) c (p .0))) (λ p. changed-ok _)
+      settle-ok s (failChanging s h) checks (λ p. edited s (p .0) (touchDirectory (removeName s (c .clock) (p .1)) c (p .0))) (λ p. changed-ok _)
 
   rename-error : (h text g title : List ℕ) → KeptUnlessOK s (rename s c h text g title)
   unfolding rename
   rename-error h text g title =
       settle-ok s (failRenaming s h g) (checkRename s h text g title) (λ p. renamedTo s (p .0) (p .1) (renameEdit s c (p .0) (p .1) (p .2) (p .3) title))
       (λ p. renamed-ok _ _)
+
+  link-error : (h g text : List ℕ) → KeptUnlessOK s (link s c h g text)
+  unfolding link
+  link-error h g text =
+      settle-ok s (failLinking s h g) (checkLink s h g text) (λ p. linkedTo s (p .0) (p .1) (linkEdit s c (p .0) (p .1) (p .2) text)) (λ p. linked-ok _ _)
 
 -- the procedures that only read
 module _ (s : Store) (h : List ℕ) where
@@ -187,6 +198,7 @@ act-kept s c call (Arguments.Rmdir p) n =
     remove-error s c (cut call (p .directory)) (checkRmdir s (cut call (p .directory)) (cut call (p .name))) n
 act-kept s c call (Arguments.Rename p q) n =
     rename-error s c (cut call (p .directory)) (cut call (p .name)) (cut call (q .directory)) (cut call (q .name)) n
+act-kept s c call (Arguments.Link h p) n = link-error s c (cut call h) (cut call (p .directory)) (cut call (p .name)) n
 act-kept s c call (Arguments.Readdir h cookie verifier count) n = readdir-store s (cut call h) cookie verifier count
 act-kept s c call (Arguments.Fsstat h) n = fsstat-store s (cut call h)
 act-kept s c call (Arguments.Fsinfo h) n = fsinfo-store s (cut call h)
@@ -204,6 +216,7 @@ status-word space xid p (dead status) e = _⊎_.inr (ap (λ (n : ℕ). beAt (ove
 status-word space xid p (failed status a) e = _⊎_.inr (ap (λ (n : ℕ). beAt (overlay space 0 (accepted xid 0 (resultBytes p (failed n a)))) 24 4) e)
 status-word space xid p (changed status c) e = _⊎_.inr (ap (λ (n : ℕ). beAt (overlay space 0 (accepted xid 0 (resultBytes p (changed n c)))) 24 4) e)
 status-word space xid p (renamed status c d) e = _⊎_.inr (ap (λ (n : ℕ). beAt (overlay space 0 (accepted xid 0 (resultBytes p (renamed n c d)))) 24 4) e)
+status-word space xid p (linked status a c) e = _⊎_.inr (ap (λ (n : ℕ). beAt (overlay space 0 (accepted xid 0 (resultBytes p (linked n a c)))) 24 4) e)
 status-word space xid p (gotAttributes a) e = _⊎_.inr refl
 status-word space xid p (found h a d) e = _⊎_.inr refl
 status-word space xid p (granted a bits) e = _⊎_.inr refl

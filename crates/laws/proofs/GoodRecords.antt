@@ -9,15 +9,15 @@ use Rattle.kinds.specs.Numbers.{REGULAR, DIRECTORY, nanosecondsEnd, mostFileByt
 use Rattle.kinds.specs.declared.object.Time.{Time}
 use Rattle.kinds.specs.declared.object.Object.{Object}
 use Rattle.kinds.specs.declared.call.Settable.{Settable}
-use Rattle.spec.specs.Edits.{setAttributes, forgetVerifier, resize, createObject, removeObject, moveName, writeFile}
-use Rattle.spec.specs.Image.{Store, objects, names, blocks, objectAt, nameAt}
+use Rattle.spec.specs.Edits.{setAttributes, forgetVerifier, resize, addName, createObject, dropName, removeObject, moveName, writeFile}
+use Rattle.spec.specs.Image.{Store, objects, names, blocks, objectAt, Name, nameAt, freeName}
 use Rattle.spec.specs.Room.{sizeOf, need, freeBlockCount}
 use Rattle.laws.proofs.BlockLists.{held-range}
 use Rattle.laws.proofs.BlockWrites.{write-file}
 use Rattle.laws.proofs.CreateObject.{create-object, create-object-objects, create-object-names, create-object-blocks}
 use Rattle.laws.proofs.GoodKept.{good-objects-kept, used-of}
-use Rattle.laws.proofs.Kept.{Sound, valid-sound}
-use Rattle.laws.proofs.MoveName.{move-name, move-name-objects, move-name-names, move-name-blocks}
+use Rattle.laws.proofs.Kept.{Sound, NameSet, valid-sound}
+use Rattle.laws.proofs.PutName.{newName, put-name-objects, put-used-names, put-free-names, put-name-blocks, add-name, drop-name}
 use Rattle.laws.proofs.Range.{Below}
 use Rattle.laws.proofs.Records.{FitsTime, FitsObject}
 use Rattle.laws.proofs.RemoveObject.{remove-object, remove-object-objects, remove-object-names, remove-object-blocks}
@@ -177,20 +177,35 @@ module _ (s : Store) (g : GoodRecords s) where
         };
       }
 
-  pub move-name-still : (n d : ℕ) (text : List ℕ) → n < names s → Used s n → d < objects s → objectAt s d .kind ≡ DIRECTORY → GoodName text → Below 256 text
-      → StillGood s (moveName s n d text)
-  move-name-still n d text l u below kind good b =
-      let h = g .sound in
-      let q = h .shaped in
-      let w = used-at n l u in
-      let c : d < 2 ^ 32 = omega arith in
-      let e = move-name s n d text h l c (good .short) b in
+  -- name record n is another one, and every name record is good
+  named-still : (n : ℕ) (x : Name) (t : Store) → NameSet s n x t → GoodNames t → StillGood s t
+  named-still n x t e good =
       record {
         shape = e .shape;
         good = record {
           sound = e .sound;
-          good-objects = move-name-objects s n d text h l c (good .short) b (g .good-objects);
-          good-names = move-name-names s n d text h l c (good .short) b good below kind (w .0) (w .1) (g .good-names);
-          used-once = move-name-blocks s n d text h l c (good .short) b (g .used-once);
+          good-objects = put-name-objects s t n x e (g .good-objects);
+          good-names = good;
+          used-once = put-name-blocks s t n x e (g .used-once);
         };
       }
+
+  pub add-name-still : (n o d : ℕ) (text : List ℕ) → n < names s → o < objects s → Live s o → d < objects s → objectAt s d .kind ≡ DIRECTORY → GoodName text
+      → Below 256 text → StillGood s (addName s n o d text)
+  add-name-still n o d text l k live below kind good b =
+      let h = g .sound in
+      let q = h .shaped in
+      let x = newName o d text in
+      let t = addName s n o d text in
+      let e = add-name s n d text h l (omega arith) (good .short) b o (omega arith) in
+      named-still n x t e (put-used-names s t n x e good below kind k live (g .good-names))
+
+  pub move-name-still : (n d : ℕ) (text : List ℕ) → n < names s → Used s n → d < objects s → objectAt s d .kind ≡ DIRECTORY → GoodName text → Below 256 text
+      → StillGood s (moveName s n d text)
+  unfolding moveName
+  move-name-still n d text l u = let w = used-at n l u in add-name-still n (nameAt s n .child) d text l (w .0) (w .1)
+
+  pub drop-name-still : (n : ℕ) → n < names s → StillGood s (dropName s n)
+  drop-name-still n l =
+      let e = drop-name s n (g .sound) l in
+      named-still n freeName (dropName s n) e (put-free-names s (dropName s n) n freeName e refl (g .good-names))

@@ -9,8 +9,8 @@ use native.Mathlib.Omega.{arith}
 use lib.Dec.{eqb, leb, ltb}
 use lib.ListN.{length}
 use borrow.Author.Tests.{leb-true, leb-false, ltb-true, ltb-false, eqb-true, eqb-false, eq-eqb, not-true, not-false}
-use Rattle.kinds.specs.Numbers.{REGULAR, DIRECTORY, NOENT, ACCES, EXIST, NOTDIR, INVAL, FBIG, NOSPC, NAMETOOLONG, NOTEMPTY, STALE, BADHANDLE}
-use Rattle.kinds.specs.Numbers.{NOT-SYNC, keptFlag, mostTransferBytes, mostFileBytes, spentGeneration, mostNameBytes, handleLength}
+use Rattle.kinds.specs.Numbers.{REGULAR, DIRECTORY, NOENT, ACCES, EXIST, NOTDIR, INVAL, FBIG, NOSPC, MLINK, NAMETOOLONG, NOTEMPTY, STALE, BADHANDLE}
+use Rattle.kinds.specs.Numbers.{NOT-SYNC, keptFlag, mostTransferBytes, mostFileBytes, spentGeneration, mostNameBytes, mostLinks, handleLength}
 use Rattle.kinds.specs.declared.call.Settable.{Settable}
 use Rattle.kinds.specs.declared.call.Guard.{Guard}
 use Rattle.kinds.specs.declared.call.How.{How}
@@ -22,12 +22,13 @@ use Rattle.spec.specs.Image.{Store, stamp, objects, names, objectAt, nameAt, na
 use Rattle.spec.specs.Names.{isDot, isDotDot, isDots, goodBytes}
 use Rattle.spec.specs.Procedures.Attributes.{isGiven, sizeSet, badAttributes, lacksRoom, differs, checkSetattr}
 use Rattle.spec.specs.Procedures.Data.{reachRegular, grown, checkWrite}
+use Rattle.spec.specs.Procedures.Link.{checkAdded, checkLink}
 use Rattle.spec.specs.Procedures.Names.{childOf, lookIn, checkIn, checkLookup, roomForNew, Target, new, existing, isNew, settableIn}
 use Rattle.spec.specs.Procedures.Names.{isMadeBy, isTaken, checkExisting, targetOf, checkNew, checkHow, checkCreate, checkMkdir}
 use Rattle.spec.specs.Procedures.Removal.{checkEntry, checkRemove, hasEntries, checkRmdir, isWithin, Onto, newName, sameObject, replacing}
 use Rattle.spec.specs.Procedures.Removal.{isReplaceable, checkReplace, onto, checkMove, checkRename}
 use Rattle.spec.specs.Room.{isLive, isRegular, isDirectory, sizeOf, need, freeBlockCount, isAvailable, availableObject, isUsedName, availableName}
-use Rattle.spec.specs.Room.{isIn, isNamed, findName, parent}
+use Rattle.spec.specs.Room.{namings, isIn, isNamed, findName, parent}
 use Rattle.laws.proofs.Bytes.{same-eq}
 use Rattle.laws.proofs.Count.{and-both, by-bool, true-false, lowest-passes, some-none}
 use Rattle.laws.proofs.GoodKept.{used-of}
@@ -434,6 +435,48 @@ mkdir-passed s h text a p e =
       room = room-for-new s 0 r e₄;
     } in
     subst (λ (y : ℕ × ℕ × ℕ). MkdirPassed s h text a (y .0) (y .1) (y .2)) q v))))
+
+-- ---- LINK
+pub record LinkPassed (s : Store) (h g text : List ℕ) (o d n : ℕ) : Type 0 where
+  pub reached : Reached s h o
+  pub file : objectAt s o .kind ≢ DIRECTORY
+  pub directory-reached : Reached s g d
+  pub directory : objectAt s d .kind ≡ DIRECTORY
+  pub good : GoodName text
+  pub fresh : findName s d text ≡ none
+  pub few : namings s o < mostLinks
+  pub available : availableName s ≡ some n
+  pub name-below : n < names s
+  pub name-free : nameLength s n ≡ 0
+
+pub link-passed : (s : Store) (h g text : List ℕ) (p : ℕ × ℕ × ℕ) → checkLink s h g text ≡ passed p → LinkPassed s h g text (p .0) (p .1) (p .2)
+unfolding checkLink checkAdded
+link-passed s h g text p w =
+    bind-passed (reach s h) _ p w (λ o e₁ f₁.
+    refuse-passed (isDirectory s o) INVAL _ p f₁ (λ t₂ f₂.
+    bind-passed (reachDirectory s g) _ p f₂ (λ d e₃ f₃.
+    bind-passed (checkAdded s o d text) _ p f₃ (λ n e₄ f₄.
+    name-passed text _ n e₄ (λ m f₅.
+    refuse-passed (isDots text) EXIST _ n f₅ (λ t₆ f₆.
+    absent-passed EXIST (findName s d text) _ n f₆ (λ x f₇.
+    refuse-passed (leb mostLinks (namings s o)) MLINK _ n f₇ (λ t₈ f₈.
+    let z = directory-passed s g d e₃ in
+    let e₉ = some-present NOSPC (availableName s) n f₈ in
+    let b = available-name s n e₉ in
+    let q : _≡_ {A = ℕ × ℕ × ℕ} (o, d, n) p = same-passed (o, d, n) p f₄ in
+    let v : LinkPassed s h g text o d n = record {
+      reached = reach-passed s h o e₁;
+      file = λ k. true-false (sym (true-directory s o k) ∙ t₂);
+      directory-reached = z .0;
+      directory = z .1;
+      good = passed-good text m t₆;
+      fresh = x;
+      few = leb-false mostLinks (namings s o) t₈;
+      available = e₉;
+      name-below = b .0;
+      name-free = b .1;
+    } in
+    subst (λ (y : ℕ × ℕ × ℕ). LinkPassed s h g text (y .0) (y .1) (y .2)) q v))))))))
 
 -- ---- REMOVE and RMDIR
 -- a good name, found in the directory

@@ -173,6 +173,7 @@ rows =
       remove = by-name _ (λ place. built .of-done _);
       rmdir = by-name _ (λ place. built .of-done _);
       rename = by-name _ (λ old. inside-last (Call.Rename old) inside-name);
+      link = by-handle _ (λ file. inside-last (Call.Link file) inside-name);
       readdir = by-handle _ (λ directory.
           inside-then l (λ cookie. inside-then l (λ verifier. inside-last (Call.Readdir directory cookie verifier) w)));
       fsstat = by-handle _ (λ object. built .of-done _);

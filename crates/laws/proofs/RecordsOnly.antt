@@ -11,8 +11,8 @@ use Rattle.kinds.specs.Numbers.{DIRECTORY, FREE}
 use Rattle.kinds.specs.declared.object.Object.{Object}
 use Rattle.spec.specs.Bytes.{part, beOf, beAt}
 use Rattle.spec.specs.Image.{Store, objects, names, blocks, objectStart, nameStart, objectAt, nameAt}
-use Rattle.spec.specs.Room.{isLive, isDirectory, held, isUsedName}
-use Rattle.spec.specs.Check.{goodRoot, goodObject, goodNameRecord, isDistinct, isNamedOnce, isUsedOnce, leadsToRoot, recordsPass, passes}
+use Rattle.spec.specs.Room.{isLive, isDirectory, held, isUsedName, namings}
+use Rattle.spec.specs.Check.{goodRoot, goodObject, goodNameRecord, isDistinct, goodNamings, isUsedOnce, leadsToRoot, recordsPass, passes}
 use Rattle.laws.proofs.Bytes.{part-length, part-part}
 use Rattle.laws.proofs.Count.{true-false, by-bool, every-at, every-all}
 use Rattle.laws.proofs.Demands.{RecordDemands, records-by, record-demands}
@@ -117,9 +117,9 @@ module _ (s t : Store) (h : SameRecords s t) where
         rw (isUsedName-reads s t n (e .long), e .all)
         (ap (λ (k : ℕ). not (isUsedName s n) || eqb k 1) (entries-reads s t names-kept name-kept (nameAt s n .directory) (nameAt s n .text)))
 
-    named-kept : (o : ℕ) → o < objects s → isNamedOnce t o ≡ isNamedOnce s o
-    unfolding isNamedOnce
-    named-kept o l = rw (namings-reads s t names-kept name-kept o, live-kept o l)
+    named-kept : (o : ℕ) → o < objects s → goodNamings t o ≡ goodNamings s o
+    unfolding goodNamings
+    named-kept o l = rw (namings-reads s t names-kept name-kept o, live-kept o l, kind-kept o l)
 
     leads-kept : (o : ℕ) → o < objects s → leadsToRoot t o ≡ leadsToRoot s o
     unfolding leadsToRoot
@@ -133,7 +133,7 @@ module _ (s t : Store) (h : SameRecords s t) where
               (every-all (goodObject t) (objects s) (λ o l. object-passes o l (every-at (goodObject s) (objects s) o (d .good-objects) l)));
           good-names = rw names-kept (every-all (goodNameRecord t) (names s) name-passes);
           distinct = rw names-kept (every-all (isDistinct t) (names s) (λ n l. distinct-kept n l ∙ every-at (isDistinct s) (names s) n (d .distinct) l));
-          named = rw objects-kept (every-all (isNamedOnce t) (objects s) (λ o l. named-kept o l ∙ every-at (isNamedOnce s) (objects s) o (d .named) l));
+          named = rw objects-kept (every-all (goodNamings t) (objects s) (λ o l. named-kept o l ∙ every-at (goodNamings s) (objects s) o (d .named) l));
           used-once = rw blocks-kept (every-all (isUsedOnce t) (blocks s) (λ r l. used-kept r ∙ every-at (isUsedOnce s) (blocks s) r (d .used-once) l));
           leads = rw objects-kept (every-all (leadsToRoot t) (objects s) (λ o l. leads-kept o l ∙ every-at (leadsToRoot s) (objects s) o (d .leads) l));
         }
@@ -168,3 +168,10 @@ front-same s f =
 pub front-passes : (s : Store) → Shaped s → recordsPass (part s 0 (recordsEnd s)) ≡ passes s
 unfolding passes
 front-passes s w = rw (shape-true s w) (records-same s (part s 0 (recordsEnd s)) (front-same s (shaped-framed s w)))
+
+-- and they name each object as often as the store does, where they pass
+pub front-namings : (s : Store) → Framed s → recordsPass (part s 0 (recordsEnd s)) ≡ true → (o : ℕ) → namings (part s 0 (recordsEnd s)) o ≡ namings s o
+front-namings s f e o =
+    let x = part s 0 (recordsEnd s) in
+    let h = front-same s f in
+    namings-reads s x (names-kept s x h) (name-kept s x h (record-demands s (sym (records-same s x h) ∙ e))) o

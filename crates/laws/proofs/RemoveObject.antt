@@ -1,4 +1,4 @@
--- The fifth edit: an object, its blocks and its name record are free. Assumes nothing.
+-- The seventh edit: an object, its blocks and its name record are free. Assumes nothing.
 use mathlib.Core.Path.{_≡_, refl, ap}
 use mathlib.Core.Logic.{_≢_, by-cases, _⊎_}
 use mathlib.Core.List.{[]}
@@ -17,9 +17,10 @@ use Rattle.laws.proofs.BlockLists.{InRange}
 use Rattle.laws.proofs.BlockWrites.{clear-blocks}
 use Rattle.laws.proofs.CreateObject.{no-blocks}
 use Rattle.laws.proofs.GoodKept.{good-objects-set, record-kept, uses-object-set}
-use Rattle.laws.proofs.Kept.{Sound, NameIs, BothSet, put-object, put-name, kept-object, object-name}
+use Rattle.laws.proofs.Kept.{Sound, BothSet, put-object, put-name, kept-object, object-name}
+use Rattle.laws.proofs.PutName.{free-set}
 use Rattle.laws.proofs.Records.{FitsObject}
-use Rattle.laws.proofs.Valid.{FreeName, GoodObjects, GoodNames, Used, BlocksUsedOnce}
+use Rattle.laws.proofs.Valid.{GoodObjects, GoodNames, Used, BlocksUsedOnce}
 use Rattle.laws.proofs.WordRange.{below-same}
 
 pub free-fits : (g : ℕ) → g < 2 ^ 32 → FitsObject (freeObject g)
@@ -39,9 +40,6 @@ free-fits g h =
       verifier = lit< tt;
       exclusive = lit< tt;
     }
-
-pub free-set : (t : Store) (n : ℕ) → NameIs t n freeName → FreeName t n
-free-set t n e = record { empty = e .long; all = e .all; padded = e .padded }
 
 module _ (s : Store) (n o : ℕ) (is : nameAt s n .child ≡ o) (h : Sound s) (l : n < names s) (k : o < objects s)
     (low : objectAt s o .generation < spentGeneration) (range : InRange (blocks s) (held s o)) where

@@ -22,6 +22,7 @@ use Rattle.laws.proofs.GoodKept.{good-objects-set}
 use Rattle.laws.proofs.Kept.{Sound, ObjectSet, put-object}
 use Rattle.laws.proofs.RecordRange.{objectAt-fits}
 use Rattle.laws.proofs.Records.{FitsTime, FitsObject}
+use Rattle.laws.proofs.Shape.{SameShape}
 use Rattle.laws.proofs.Structure.{SameStructure, set-structure}
 use Rattle.laws.proofs.Tests.{or-none}
 use Rattle.laws.proofs.Valid.{GoodVerifier, LiveObject, GoodObjects}
@@ -187,6 +188,11 @@ module _ (s : Store) (clock : Time) (o : ℕ) (a : Settable) (h : Sound s) (l : 
   pub set-attributes-structure : FitsTime clock → FitsSettable a → SameStructure s (setAttributes s clock o a)
   unfolding withAttributes
   set-attributes-structure c f = set-structure s (setAttributes s clock o a) o (withAttributes clock a (objectAt s o)) (set-attributes c f) refl refl refl refl
+
+  -- the shape stays, whatever is set
+  pub set-attributes-shape : SameShape s (setAttributes s clock o a)
+  unfolding setAttributes
+  set-attributes-shape = object-written s o (withAttributes clock a (objectAt s o)) (omega (arith, h .shaped)) l .shape
 
   -- the bytes of the blocks stay
   pub set-attributes-data : (at n : ℕ) → blockStart s 0 ≤ at → part (setAttributes s clock o a) at n ≡ part s at n

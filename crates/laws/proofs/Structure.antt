@@ -14,7 +14,7 @@ use Rattle.laws.proofs.SameReads.{uses-reads, freeBlockCount-reads}
 use Rattle.laws.proofs.SameReads.{namings-reads}
 use Rattle.laws.proofs.SameReads.{entries-reads, parent-reads, above-reads}
 use Rattle.laws.proofs.Shape.{SameShape}
-use Rattle.laws.proofs.Valid.{Live, GoodNames, DistinctNames, NamedOnce, BlocksUsedOnce, LeadsToRoot}
+use Rattle.laws.proofs.Valid.{Live, GoodNames, DistinctNames, GoodNamings, BlocksUsedOnce, LeadsToRoot}
 
 -- both stores have the same shape and the same names, and objects of the same types and generations
 pub record SameTree (s t : Store) : Type 0 where
@@ -93,12 +93,14 @@ module _ (s t : Store) (e : SameTree s t) where
       let k : n < names s = rw (e .shape .names) at l in
       rw (e .name n k .all) (entries-reads s t (e .shape .names) (e .name) (nameAt s n .directory) (nameAt s n .text) ∙ d n k (rw (e .name n k .long) at u))
 
-  pub tree-named : NamedOnce s → NamedOnce t
+  pub tree-named : GoodNamings s → GoodNamings t
   tree-named h =
       record {
         root = namings-same 0 ∙ h .root;
         named = λ o l d v. rw (namings-same o) (h .named o (rw (e .shape .objects) at l) d (live-before o l v));
-        few = λ o l d v. rw (namings-same o) (h .few o (rw (e .shape .objects) at l) d (live-before o l v));
+        few = λ o l d v.
+            let k : o < objects s = rw (e .shape .objects) at l in
+            rw (namings-same o, e .kind o k) (h .few o k d (live-before o l v));
       }
 
   pub tree-leads : LeadsToRoot s → LeadsToRoot t

@@ -11,9 +11,8 @@ use Rattle.spec.specs.Count.{bit, sum, count}
 use Rattle.spec.specs.Image.{Store, names, nameAt}
 use Rattle.spec.specs.Room.{isUsedName, isNaming, namings}
 use Rattle.laws.proofs.Count.{sum-at}
-use Rattle.laws.proofs.GoodKept.{used-of}
 use Rattle.laws.proofs.Tests.{and-true}
-use Rattle.laws.proofs.Valid.{Used, NamedOnce, GoodNames, true-used}
+use Rattle.laws.proofs.Valid.{Used, true-used}
 
 -- two terms are at most the sum
 pub sum-two : (n i j : ℕ) (f : ℕ → ℕ) → i < n → j < n → i ≢ j → f i + f j ≤ sum n f
@@ -38,13 +37,10 @@ naming-true : (s : Store) (o n : ℕ) → Used s n → nameAt s n .child ≡ o �
 unfolding isNaming
 naming-true s o n u e = and-true (isUsedName s n) (eqb (nameAt s n .child) o) (true-used s n u) (eq-eqb (nameAt s n .child) o e)
 
-module _ (s : Store) (g : GoodNames s) where
-  -- a used record of an object is the only one
-  pub one-naming : NamedOnce s → (n m : ℕ) → n < names s → m < names s → Used s n → Used s m → nameAt s n .child ≡ nameAt s m .child → n ≡ m
-  unfolding namings
-  one-naming h n m a b u w e =
-      let v = used-of s n u (g n a) in
-      let o = nameAt s n .child in
-      one-passes (names s) (isNaming s o) n m
-      (by-cases (ℕ-discrete o 0) (λ z. rw z (omega (arith, h .root))) (λ z. h .few o (v .child) z (v .child-live)))
-      a b (naming-true s o n u refl) (naming-true s o m w (sym e))
+-- a used record of an object that has one name is the only one
+pub one-naming : (s : Store) (n m : ℕ) → namings s (nameAt s n .child) ≤ 1 → n < names s → m < names s → Used s n → Used s m
+    → nameAt s n .child ≡ nameAt s m .child → n ≡ m
+unfolding namings
+one-naming s n m h a b u w e =
+    let o = nameAt s n .child in
+    one-passes (names s) (isNaming s o) n m h a b (naming-true s o n u refl) (naming-true s o m w (sym e))

@@ -24,7 +24,7 @@ use Rattle.spec.specs.Image.{nameLength, freeName}
 use Rattle.spec.specs.Room.{isLive, isRegular, isDirectory, need, uses, isUsedName, namings, isNamed, above}
 use Rattle.spec.specs.Names.{isDot, isDotDot, isDots, goodByte, goodBytes, goodName}
 use Rattle.spec.specs.Check.{mostNames, isZero, goodCounts, imageLength, goodShape, goodTime, goodBlock, goodSize, goodVerifier, goodLive, goodFree}
-use Rattle.spec.specs.Check.{goodObject, goodRoot, goodUsed, goodNameRecord, isDistinct, isNamedOnce, isUsedOnce, leadsToRoot, passes}
+use Rattle.spec.specs.Check.{goodObject, goodRoot, goodUsed, goodNameRecord, isDistinct, goodNamings, isUsedOnce, leadsToRoot, passes}
 use Rattle.laws.proofs.Bytes.{part-length, same-yes, same-no}
 use Rattle.laws.proofs.Count.{true-false, by-bool, and-both, every-at, every-all}
 use Rattle.laws.proofs.Demands.{demands, passes-by}
@@ -138,8 +138,8 @@ GoodNames s = (n : ℕ) → n < names s → GoodNameRecord s n
 abbrev pub DistinctNames : Store → Type 0
 DistinctNames s = (n : ℕ) → n < names s → Used s n → count (names s) (isNamed s (nameAt s n .directory) (nameAt s n .text)) ≡ 1
 
--- "every live object but the root named once, the root never"
-pub record NamedOnce (s : Store) : Type 0 where
+-- "every live object but the root named .., the root never"; "1 to 16 names per file and one per directory"
+pub record GoodNamings (s : Store) : Type 0 where
   pub root : namings s 0 ≡ 0
   pub named : (o : ℕ) → o < objects s → o ≢ 0 → Live s o → 1 ≤ namings s o
   pub few : (o : ℕ) → o < objects s → o ≢ 0 → Live s o → namings s o ≤ mostNames (objectAt s o .kind)
@@ -158,7 +158,7 @@ pub record Valid (s : Store) : Type 0 where
   pub good-objects : GoodObjects s
   pub good-names : GoodNames s
   pub distinct : DistinctNames s
-  pub named : NamedOnce s
+  pub named : GoodNamings s
   pub used-once : BlocksUsedOnce s
   pub leads : LeadsToRoot s
 
@@ -622,28 +622,30 @@ names-distinct s d =
     let c = count (names s) (isNamed s (nameAt s n .directory) (nameAt s n .text)) in
     implies (isUsedName s n) (eqb c 1) (λ t. eq-eqb c 1 (d n l (used-true s n t))))
 
-named-once : (s : Store) → 1 ≤ objects s → every (objects s) (isNamedOnce s) ≡ true → NamedOnce s
-unfolding isNamedOnce
-named-once s p e =
+good-namings : (s : Store) → 1 ≤ objects s → every (objects s) (goodNamings s) ≡ true → GoodNamings s
+unfolding goodNamings
+good-namings s p e =
     record {
-      root = eqb-true (namings s 0) 0 (every-at (isNamedOnce s) (objects s) 0 e p);
-      named = λ o l d h. leb-true 1 (namings s o) (and-both (leb 1 (namings s o)) (leb (namings s o) 1) (both o l d h) .0);
-      few = λ o l d h. leb-true (namings s o) 1 (and-both (leb 1 (namings s o)) (leb (namings s o) 1) (both o l d h) .1);
+      root = eqb-true (namings s 0) 0 (every-at (goodNamings s) (objects s) 0 e p);
+      named = λ o l d h. leb-true 1 (namings s o) (both o l d h .0);
+      few = λ o l d h. leb-true (namings s o) (mostNames (objectAt s o .kind)) (both o l d h .1);
     }
   where
-    both : (o : ℕ) → o < objects s → o ≢ 0 → Live s o → leb 1 (namings s o) && leb (namings s o) 1 ≡ true
+    both : (o : ℕ) → o < objects s → o ≢ 0 → Live s o → (leb 1 (namings s o) ≡ true) × (leb (namings s o) (mostNames (objectAt s o .kind)) ≡ true)
     both o l d h =
-        implied (isLive s o) (leb 1 (namings s o) && leb (namings s o) 1) (rw (ne-eqb o 0 d) at (every-at (isNamedOnce s) (objects s) o e l)) (true-live s o h)
+        and-both (leb 1 (namings s o)) (leb (namings s o) (mostNames (objectAt s o .kind)))
+        (implied (isLive s o) _ (rw (ne-eqb o 0 d) at (every-at (goodNamings s) (objects s) o e l)) (true-live s o h))
 
-once-named : (s : Store) → NamedOnce s → every (objects s) (isNamedOnce s) ≡ true
-unfolding isNamedOnce
-once-named s h =
-    every-all (isNamedOnce s) (objects s) (λ o l.
+namings-good : (s : Store) → GoodNamings s → every (objects s) (goodNamings s) ≡ true
+unfolding goodNamings
+namings-good s h =
+    every-all (goodNamings s) (objects s) (λ o l.
     by-bool (eqb o 0)
     (λ t. rw (t, eqb-true o 0 t) (eq-eqb (namings s 0) 0 (h .root)))
     (λ t. let d = eqb-false o 0 t in
-    rw t (implies (isLive s o) (leb 1 (namings s o) && leb (namings s o) 1) (λ a. let v = live-true s o a in
-    and-true (leb 1 (namings s o)) (leb (namings s o) 1) (le-leb 1 (namings s o) (h .named o l d v)) (le-leb (namings s o) 1 (h .few o l d v))))))
+    let most = mostNames (objectAt s o .kind) in
+    rw t (implies (isLive s o) (leb 1 (namings s o) && leb (namings s o) most) (λ a. let v = live-true s o a in
+    and-true (leb 1 (namings s o)) (leb (namings s o) most) (le-leb 1 (namings s o) (h .named o l d v)) (le-leb (namings s o) most (h .few o l d v))))))
 
 blocks-once : (s : Store) → every (blocks s) (isUsedOnce s) ≡ true → BlocksUsedOnce s
 unfolding isUsedOnce
@@ -679,7 +681,7 @@ valid s e =
       good-objects = λ o (l : o < objects s). object-good s o (omega arith) (every-at (goodObject s) (objects s) o (d .good-objects) l);
       good-names = λ n (l : n < names s). name-record s n (omega arith) (every-at (goodNameRecord s) (names s) n (d .good-names) l);
       distinct = distinct-names s (d .distinct);
-      named = named-once s (w .some-object) (d .named);
+      named = good-namings s (w .some-object) (d .named);
       used-once = blocks-once s (d .used-once);
       leads = leads s (d .leads);
     }
@@ -696,7 +698,7 @@ passes-valid s v =
         good-objects = every-all (goodObject s) (objects s) (λ o (l : o < objects s). good-object s o (omega arith) (v .good-objects o l));
         good-names = every-all (goodNameRecord s) (names s) (λ n (l : n < names s). record-good s n (omega arith) (v .good-names n l));
         distinct = names-distinct s (v .distinct);
-        named = once-named s (v .named);
+        named = namings-good s (v .named);
         used-once = once-blocks s (v .used-once);
         leads = leading s (v .leads);
       };

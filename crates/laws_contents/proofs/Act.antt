@@ -4,7 +4,9 @@ use mathlib.Core.Logic.{_≢_, ⊎-elim, _⊎_}
 use mathlib.Core.List.{List}
 use Prim.Native.Nat.{ℕ, _^_, _<_, min}
 use native.Mathlib.Omega.{arith}
+use lib.Dec.{ltb}
 use lib.ListN.{take}
+use borrow.Author.Tests.{ltb-false}
 use Rattle.kinds.specs.Numbers.{REGULAR, DIRECTORY, mostTransferBytes}
 use Rattle.kinds.specs.declared.object.Context.{Context}
 use Rattle.kinds.specs.declared.call.Settable.{Settable}
@@ -13,36 +15,38 @@ use Rattle.kinds.specs.declared.call.How.{How}
 use Rattle.kinds.specs.declared.call.Arguments.{Arguments}
 use Rattle.kinds.specs.declared.call.Arguments.the-variants as Arguments
 use Rattle.spec.specs.Checked.{Checked, refused, passed}
-use Rattle.spec.specs.Edits.{removeObject}
+use Rattle.spec.specs.Edits.{removeName}
 use Rattle.spec.specs.Handles.{reach}
-use Rattle.spec.specs.Image.{Store, objects, objectAt}
+use Rattle.spec.specs.Image.{Store, objects, objectAt, nameAt}
 use Rattle.spec.specs.Procedures.{cut, act}
 use Rattle.spec.specs.Procedures.Attributes.{checkSetattr, setattrEdit, edited, setattr}
 use Rattle.spec.specs.Procedures.Data.{checkWrite, writeDone, write}
+use Rattle.spec.specs.Procedures.Link.{checkLink, linkEdit, failLinking, linkedTo, link}
 use Rattle.spec.specs.Procedures.Names.{newObject, touchDirectory, newEdit, createdIn, Target, new, existing}
 use Rattle.spec.specs.Procedures.Names.{settableIn, newFile, createEdit, checkCreate, create, checkMkdir, mkdir}
 use Rattle.spec.specs.Procedures.Removal.{checkRemove, checkRmdir, removeFrom, remove, rmdir, checkRename, renameEdit, failRenaming, renamedTo, rename}
 use Rattle.spec.specs.Results.{Result, Done, failChanging, settle}
+use Rattle.spec.specs.Room.{namings}
 use Rattle.spec.specs.Serve.{serve}
 use Rattle.laws.proofs.ActGood.{not-given}
 use Rattle.laws.proofs.ArgumentRange.{FitsHow, FitsArguments, arguments-fit}
-use Rattle.laws.proofs.Count.{true-false}
+use Rattle.laws.proofs.Count.{by-bool, true-false}
 use Rattle.laws.proofs.Error.{getattr-store, lookup-store, access-store, read-store, readdir-store, fsstat-store, fsinfo-store, pathconf-store, commit-store}
 use Rattle.laws.proofs.GoodRecords.{GoodRecords, GoodClock, used-at}
 use Rattle.laws.proofs.Handles.{reached-passes, directory-passes}
 use Rattle.laws.proofs.NewObject.{new-fresh, file-kind, file-fresh}
 use Rattle.laws.proofs.Passed.{setattr-passed, write-passed, CreatePassed, create-passed, mkdir-passed}
-use Rattle.laws.proofs.Passed.{remove-passed, rmdir-passed, rename-passed, found-record}
+use Rattle.laws.proofs.Passed.{remove-passed, rmdir-passed, rename-passed, link-passed, found-record}
 use Rattle.laws.proofs.Range.{Below}
 use Rattle.laws.proofs.RecordRange.{cut-below}
 use Rattle.laws.proofs.Served.{Ran, serve-ran}
 use Rattle.laws.proofs.SetAttributes.{FitsSettable}
-use Rattle.laws_contents.specs.Addressed.{Named, Addresses}
+use Rattle.laws_contents.specs.Addressed.{Named, LastNamed, Addresses}
 use Rattle.laws_contents.specs.Contents.{contents}
 use Rattle.laws_contents.specs.Written.{written, sizedTo}
 use Rattle.laws_contents.proofs.SizeSet.{MaySize}
 use Rattle.laws_contents.proofs.Procedures.{setattr-contents, setattr-others, write-passed-written, write-passed-others}
-use Rattle.laws_contents.proofs.Procedures.{existing-others, new-others, removed-others, renamed-contents}
+use Rattle.laws_contents.proofs.Procedures.{existing-others, new-others, removed-others, removed-one, renamed-contents, linked-contents}
 use Rattle.kinds.specs.declared.call.How.the-variants as How
 
 -- ---- the file that a call addresses
@@ -127,43 +131,57 @@ module _ (s : Store) (g : GoodRecords s) (c : Context) (k : GoodClock (c .clock)
       (λ given. true-false (sym given ∙ q .no-size)) (q .allowed .size) (rw (not-given (a .size) (q .no-size)) (q .room)) (q .reached .below)
       (q .directory) (q .good) w p l (not-new (x .1) (q .room .object-free)))
 
-  remove-frame : (h text : List ℕ) → ¬ Named s h text p → contents (remove s c h text .store) p ≡ contents s p
+  remove-frame : (h text : List ℕ) → ¬ LastNamed s h text p → contents (remove s c h text .store) p ≡ contents s p
   unfolding remove removeFrom
   remove-frame h text z =
-      settled (failChanging s h) (checkRemove s h text) (λ x. edited s (x .0) (touchDirectory (removeObject s (x .1)) c (x .0))) (λ x e.
+      settled (failChanging s h) (checkRemove s h text) (λ x. edited s (x .0) (touchDirectory (removeName s (c .clock) (x .1)) c (x .0))) (λ x e.
       let q = remove-passed s h text x e .entry in
-      let y = found-record s (x .0) text (x .1) (q .found) in
-      removed-others s g c k (x .0) (x .1) (y .0) (y .1) (q .reached .below) p l (λ a. z (record {
-        directory = x .0;
-        entry = x .1;
-        reached = directory-passes s h (x .0) (q .reached) (q .directory);
-        found = q .found;
-        child = sym a;
-      })))
+      let (i, u, _, _) = found-record s (x .0) text (x .1) (q .found) in
+      by-bool (ltb 1 (namings s (nameAt s (x .1) .child)))
+      (λ t. removed-one s g c k (x .1) i u t (x .0) (q .reached .below) p l)
+      (λ t. removed-others s g c k (x .1) i u (x .0) (q .reached .below) p l (λ a. z (record {
+        named = record {
+          directory = x .0;
+          entry = x .1;
+          reached = directory-passes s h (x .0) (q .reached) (q .directory);
+          found = q .found;
+          child = sym a;
+        };
+        last = rw a (ltb-false 1 (namings s (nameAt s (x .1) .child)) t);
+      }))))
 
   -- a file is no directory
   rmdir-frame : (h text : List ℕ) → contents (rmdir s c h text .store) p ≡ contents s p
   unfolding rmdir removeFrom
   rmdir-frame h text =
-      settled (failChanging s h) (checkRmdir s h text) (λ x. edited s (x .0) (touchDirectory (removeObject s (x .1)) c (x .0))) (λ x e.
+      settled (failChanging s h) (checkRmdir s h text) (λ x. edited s (x .0) (touchDirectory (removeName s (c .clock) (x .1)) c (x .0))) (λ x e.
       let q = rmdir-passed s h text x e in
       let y = found-record s (x .0) text (x .1) (q .entry .found) in
-      removed-others s g c k (x .0) (x .1) (y .0) (y .1) (q .entry .reached .below) p l
+      removed-others s g c k (x .1) (y .0) (y .1) (x .0) (q .entry .reached .below) p l
       (λ a. omega (arith, q .child-directory, ap (λ (i : ℕ). objectAt s i .kind) a)))
 
-  rename-frame : (h text j title : List ℕ) → Below 256 title → ¬ Named s j title p → contents (rename s c h text j title .store) p ≡ contents s p
+  rename-frame : (h text j title : List ℕ) → Below 256 title → ¬ LastNamed s j title p → contents (rename s c h text j title .store) p ≡ contents s p
   unfolding rename
   rename-frame h text j title w z =
       settled (failRenaming s h j) (checkRename s h text j title)
       (λ x. renamedTo s (x .0) (x .1) (renameEdit s c (x .0) (x .1) (x .2) (x .3) title)) (λ x e.
       let q = rename-passed s h text j title x e in
-      renamed-contents s g c k h text j title (x .0) (x .1) (x .2) (x .3) w q p l (λ m f a. z (record {
-        directory = x .1;
-        entry = m;
-        reached = directory-passes s j (x .1) (q .target-reached) (q .target-directory);
-        found = f;
-        child = sym a;
+      renamed-contents s g c k h text j title (x .0) (x .1) (x .2) (x .3) w q p l (λ m f a few. z (record {
+        named = record {
+          directory = x .1;
+          entry = m;
+          reached = directory-passes s j (x .1) (q .target-reached) (q .target-directory);
+          found = f;
+          child = sym a;
+        };
+        last = few;
       })))
+
+  link-frame : (h j text : List ℕ) → Below 256 text → contents (link s c h j text .store) p ≡ contents s p
+  unfolding link
+  link-frame h j text w =
+      settled (failLinking s h j) (checkLink s h j text) (λ x. linkedTo s (x .0) (x .1) (linkEdit s c (x .0) (x .1) (x .2) text)) (λ x e.
+      linked-contents s g c k h j text (x .0) (x .1) (x .2) w (link-passed s h j text x e) p l)
 
   kept : (t : Store) → t ≡ s → contents t p ≡ contents s p
   kept t e = rw e refl
@@ -185,6 +203,7 @@ module _ (s : Store) (g : GoodRecords s) (c : Context) (k : GoodClock (c .clock)
   act-others call (Arguments.Rmdir q) w f z = rmdir-frame (cut call (q .directory)) (cut call (q .name))
   act-others call (Arguments.Rename q j) w f z =
       rename-frame (cut call (q .directory)) (cut call (q .name)) (cut call (j .directory)) (cut call (j .name)) (cut-below call (j .name) w) z
+  act-others call (Arguments.Link h q) w f z = link-frame (cut call h) (cut call (q .directory)) (cut call (q .name)) (cut-below call (q .name) w)
   act-others call (Arguments.Readdir h cookie verifier count) w f z = kept _ (readdir-store s (cut call h) cookie verifier count)
   act-others call (Arguments.Fsstat h) w f z = kept _ (fsstat-store s (cut call h))
   act-others call (Arguments.Fsinfo h) w f z = kept _ (fsinfo-store s (cut call h))

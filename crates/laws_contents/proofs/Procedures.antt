@@ -1,4 +1,4 @@
--- The edits of SETATTR, WRITE, CREATE, MKDIR, REMOVE, RMDIR and RENAME, as the contents of files show them. Assumes nothing.
+-- The edits of SETATTR, WRITE, CREATE, MKDIR, REMOVE, RMDIR, RENAME and LINK, as the contents of files show them. Assumes nothing.
 use mathlib.Core.Path.{_≡_, refl, sym, ap, _∙_}
 use mathlib.Core.Logic.{_≢_}
 use mathlib.Core.Bool.{true}
@@ -6,8 +6,9 @@ use mathlib.Core.List.{List, []}
 use mathlib.Core.Option.{some}
 use Prim.Native.Nat.{ℕ, _^_, _≤_, _<_, min}
 use native.Mathlib.Omega.{arith}
-use lib.Dec.{lit<}
+use lib.Dec.{ltb, lit<}
 use lib.ListN.{length, take, length-take}
+use borrow.Author.Tests.{ltb-false}
 use Rattle.kinds.specs.Numbers.{REGULAR, DIRECTORY, mostFileBytes, mostTransferBytes}
 use Rattle.kinds.specs.declared.object.Object.{Object}
 use Rattle.kinds.specs.declared.object.Context.{Context}
@@ -15,30 +16,31 @@ use Rattle.kinds.specs.declared.call.SetSize.{SetSize}
 use Rattle.kinds.specs.declared.call.SetSize.the-variants as SetSize
 use Rattle.kinds.specs.declared.call.Settable.{Settable}
 use Rattle.kinds.specs.declared.call.Guard.{Guard}
-use Rattle.spec.specs.Edits.{setAttributes, onlyCtime, mtimeAndCtime, resize, withGeneration, createObject, removeObject, moveName}
+use Rattle.spec.specs.Edits.{setAttributes, onlyCtime, mtimeAndCtime, resize, withGeneration, addName, createObject, removeName, moveName}
 use Rattle.spec.specs.Image.{Store, objects, names, blocks, objectAt, nameAt}
 use Rattle.spec.specs.Procedures.Attributes.{isGiven, sizeSet, sizeTouches, resizeTo, setattrEdit}
 use Rattle.spec.specs.Procedures.Data.{writeStore}
+use Rattle.spec.specs.Procedures.Link.{linkEdit}
 use Rattle.spec.specs.Procedures.Names.{touchDirectory, newEdit, existingEdit}
 use Rattle.spec.specs.Procedures.Removal.{Onto, newName, sameObject, replacing, moveEdit, renameEdit}
-use Rattle.spec.specs.Room.{sizeOf, freeBlockCount, findName}
+use Rattle.spec.specs.Room.{sizeOf, freeBlockCount, namings, findName}
 use Rattle.laws.proofs.ActGood.{regular-of}
-use Rattle.laws.proofs.BlockLists.{held-range}
+use Rattle.laws.proofs.Count.{by-bool}
 use Rattle.laws.proofs.CreateObject.{create-object, create-object-uses}
 use Rattle.laws.proofs.GoodRecords.{GoodRecords, GoodClock, StillGood, clock-fits, live-at, free-size, used-at, create-object-still}
 use Rattle.laws.proofs.Kept.{Sound}
-use Rattle.laws.proofs.MoveName.{move-name}
 use Rattle.laws.proofs.NewObject.{FreshObject}
-use Rattle.laws.proofs.Passed.{SetattrPassed, WritePassed, NewRoom, RenamePassed, found-record}
+use Rattle.laws.proofs.Passed.{SetattrPassed, WritePassed, NewRoom, RenamePassed, LinkPassed, found-record}
+use Rattle.laws.proofs.PutName.{add-name, move-name}
 use Rattle.laws.proofs.Range.{Below, below-take}
-use Rattle.laws.proofs.RemoveObject.{remove-object}
+use Rattle.laws.proofs.RemoveName.{remove-one, remove-last, remove-name}
 use Rattle.laws.proofs.SameReads.{freeBlockCount-reads}
 use Rattle.laws.proofs.SetAttributes.{FitsSettable, set-attributes, only-ctime-fits, mtime-and-ctime-fits, size-touches-fits}
 use Rattle.laws.proofs.Valid.{GoodName, Used}
 use Rattle.laws_contents.specs.Contents.{contents}
 use Rattle.laws_contents.specs.Written.{written, sizedTo}
 use Rattle.laws_contents.proofs.RecordEdits.{set-attributes-contents, forget-verifier-contents, move-name-contents, create-object-others}
-use Rattle.laws_contents.proofs.RecordEdits.{create-object-none}
+use Rattle.laws_contents.proofs.RecordEdits.{create-object-none, add-name-contents, drop-name-contents}
 use Rattle.laws_contents.proofs.RemoveObject.{remove-object-others}
 use Rattle.laws_contents.proofs.SizeSet.{MaySize, resize-to-still, resize-to-contents, resize-to-others}
 use Rattle.laws_contents.proofs.WriteEdit.{write-store-written, write-store-others}
@@ -179,15 +181,42 @@ module _ (s : Store) (g : GoodRecords s) (c : Context) (k : GoodClock (c .clock)
         new-touched p l ∙ resize-to-others born (born-still .good) o x born-size p (rw (born-still .shape .objects) l) q
         ∙ create-object-others s o n v d text (g .sound) (room .object-below) (room .name-below) (fresh .fits) directory-word (good .short) w p l q
 
-  -- ---- REMOVE and RMDIR: every other file keeps its contents
-  pub removed-others : (d n : ℕ) → n < names s → Used s n → d < objects s → (p : ℕ) → p < objects s → p ≢ nameAt s n .child
-      → contents (touchDirectory (removeObject s n) c d) p ≡ contents s p
-  removed-others d n l u below p m q =
-      let o = nameAt s n .child in
-      let w = used-at s g n l u in
-      let v = live-at s g o (w .0) (w .1) in
-      let e = remove-object s n o refl (g .sound) l (w .0) (v .generation) (held-range s o v) in
-      touched (removeObject s n) (e .sound) d p (rw (e .shape .objects) below) (rw (e .shape .objects) m) ∙ remove-object-others s g n l u p m q
+  -- ---- a name is removed
+  module _ (n : ℕ) (l : n < names s) (u : Used s n) where
+    -- one of several: every file keeps its contents, the one that it named too
+    pub name-removed : ltb 1 (namings s (nameAt s n .child)) ≡ true → (p : ℕ) → p < objects s → contents (removeName s (c .clock) n) p ≡ contents s p
+    name-removed several p m =
+        let o = nameAt s n .child in
+        let below = used-at s g n l u .0 in
+        let t = setAttributes s (c .clock) o onlyCtime in
+        let e = set-attributes s (c .clock) o onlyCtime (g .sound) below (clock-fits (c .clock) k) only-ctime-fits in
+        rw (remove-one s g (c .clock) n k l u several)
+        (drop-name-contents t n (e .sound) (rw (e .shape .names) l) p (rw (e .shape .objects) m)
+        ∙ set-attributes-contents s (c .clock) o onlyCtime (g .sound) below (clock-fits (c .clock) k) only-ctime-fits p m)
+
+    -- every other file keeps its contents
+    name-removed-others : (p : ℕ) → p < objects s → p ≢ nameAt s n .child → contents (removeName s (c .clock) n) p ≡ contents s p
+    name-removed-others p m q =
+        by-bool (ltb 1 (namings s (nameAt s n .child)))
+        (λ t. name-removed t p m)
+        (λ t. rw (remove-last s g (c .clock) n k l u t) (remove-object-others s g n l u p m q))
+
+    -- ---- REMOVE and RMDIR: the times of the directory are set last
+    removed-touched : (d : ℕ) → d < objects s → (p : ℕ) → p < objects s
+        → contents (touchDirectory (removeName s (c .clock) n) c d) p ≡ contents (removeName s (c .clock) n) p
+    removed-touched d below p m =
+        let e = remove-name s g (c .clock) n k l u .set in
+        touched (removeName s (c .clock) n) (e .sound) d p (rw (e .shape .objects) below) (rw (e .shape .objects) m)
+
+    -- every other file keeps its contents
+    pub removed-others : (d : ℕ) → d < objects s → (p : ℕ) → p < objects s → p ≢ nameAt s n .child
+        → contents (touchDirectory (removeName s (c .clock) n) c d) p ≡ contents s p
+    removed-others d below p m q = removed-touched d below p m ∙ name-removed-others p m q
+
+    -- and so does the file, where it has other names
+    pub removed-one : ltb 1 (namings s (nameAt s n .child)) ≡ true → (d : ℕ) → d < objects s → (p : ℕ) → p < objects s
+        → contents (touchDirectory (removeName s (c .clock) n) c d) p ≡ contents s p
+    removed-one several d below p m = removed-touched d below p m ∙ name-removed several p m
 
   -- ---- RENAME: every file keeps its contents, but for the one that is replaced
   -- the move alone
@@ -215,22 +244,46 @@ module _ (s : Store) (g : GoodRecords s) (c : Context) (k : GoodClock (c .clock)
       ∙ set-attributes-contents t₁ (c .clock) o onlyCtime (m₁ .sound) b₁ clock only-ctime-fits p (rw (e₁ .objects) l)
       ∙ move-name-contents t n e title sound i word (good .short) w p l
 
-  -- p has not the second name
+  -- the move after the second name's record is free
+  replaced-moved : (h text j title : List ℕ) (d e n m : ℕ) → Below 256 title → RenamePassed s h text j title d e n (replacing m) → (p : ℕ) → p < objects s
+      → contents (renameEdit s c d e n (replacing m) title) p ≡ contents (removeName s (c .clock) m) p
+  replaced-moved h text j title d e n m w q p l =
+      let (i, u, x, y) = found-record s d text n (q .found) in
+      let (a, b, z, f) = found-record s e title m (q .target .found) in
+      let r = remove-name s g (c .clock) m k a b .set in
+      let kept = r .other-names n i (λ k. q .target .other (ap (λ (y : ℕ). nameAt s y .child) (sym k))) .all in
+      moved-contents (removeName s (c .clock) m) (r .sound) d e n title (rw (r .shape .names) i) (rw (kept, r .shape .objects) (used-at s g n i u .0))
+      (rw (r .shape .objects) (q .reached .below)) (rw (r .shape .objects) (q .target-reached .below)) (q .target-good) w p (rw (r .shape .objects) l)
+
+  -- the second name is not the last one that p has
   pub renamed-contents : (h text j title : List ℕ) (d e n : ℕ) (t : Onto) → Below 256 title → RenamePassed s h text j title d e n t
-      → (p : ℕ) → p < objects s → ((m : ℕ) → findName s e title ≡ some m → p ≢ nameAt s m .child) → contents (renameEdit s c d e n t title) p ≡ contents s p
+      → (p : ℕ) → p < objects s → ((m : ℕ) → findName s e title ≡ some m → p ≡ nameAt s m .child → namings s p ≤ 1 → ⊥)
+      → contents (renameEdit s c d e n t title) p ≡ contents s p
   renamed-contents h text j title d e n newName w q p l other =
       let (i, u, x, y) = found-record s d text n (q .found) in
       moved-contents s (g .sound) d e n title i (used-at s g n i u .0) (q .reached .below) (q .target-reached .below) (q .target-good) w p l
   renamed-contents h text j title d e n sameObject w q p l other = refl
   renamed-contents h text j title d e n (replacing m) w q p l other =
-      let (i, u, x, y) = found-record s d text n (q .found) in
       let (a, b, z, f) = found-record s e title m (q .target .found) in
-      let t = removeObject s m in
-      let o = nameAt s m .child in
-      let v = used-at s g m a b in
-      let live = live-at s g o (v .0) (v .1) in
-      let r = remove-object s m o refl (g .sound) a (v .0) (live .generation) (held-range s o live) in
-      let kept = r .other-names n i (λ k. q .target .other (ap (λ (y : ℕ). nameAt s y .child) (sym k))) .all in
-      moved-contents t (r .sound) d e n title (rw (r .shape .names) i) (rw (kept, r .shape .objects) (used-at s g n i u .0))
-      (rw (r .shape .objects) (q .reached .below)) (rw (r .shape .objects) (q .target-reached .below)) (q .target-good) w p (rw (r .shape .objects) l)
-      ∙ remove-object-others s g m a b p l (other m (q .target .found))
+      replaced-moved h text j title d e n m w q p l
+      ∙ by-bool (ltb 1 (namings s (nameAt s m .child)))
+      (λ t. name-removed m a b t p l)
+      (λ t. name-removed-others m a b p l (λ x. other m (q .target .found) x (rw x (ltb-false 1 (namings s (nameAt s m .child)) t))))
+
+  -- ---- LINK: every file keeps its contents
+  pub linked-contents : (h j text : List ℕ) (o d n : ℕ) → Below 256 text → LinkPassed s h j text o d n → (p : ℕ) → p < objects s
+      → contents (linkEdit s c o d n text) p ≡ contents s p
+  unfolding linkEdit
+  linked-contents h j text o d n w q p l =
+      let clock = clock-fits (c .clock) k in
+      let z = g .sound .shaped in
+      let file = q .reached .below in
+      let below = q .directory-reached .below in
+      let t = setAttributes s (c .clock) o onlyCtime in
+      let e = set-attributes s (c .clock) o onlyCtime (g .sound) file clock only-ctime-fits in
+      let m : n < names t = rw (e .shape .names) (q .name-below) in
+      let a = add-name t n d text (e .sound) m (omega arith) (q .good .short) w o (omega arith) in
+      let shape = e .shape in
+      touched (addName t n o d text) (a .sound) d p (rw (a .shape .objects, shape .objects) below) (rw (a .shape .objects, shape .objects) l)
+      ∙ add-name-contents t n o d text (e .sound) m (omega arith) (omega arith) (q .good .short) w p (rw (shape .objects) l)
+      ∙ set-attributes-contents s (c .clock) o onlyCtime (g .sound) file clock only-ctime-fits p l

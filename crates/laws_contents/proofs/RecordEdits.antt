@@ -9,13 +9,13 @@ use Rattle.kinds.specs.declared.object.Time.{Time}
 use Rattle.kinds.specs.declared.object.Object.{Object}
 use Rattle.kinds.specs.declared.call.Settable.{Settable}
 use Rattle.spec.specs.Bytes.{part}
-use Rattle.spec.specs.Edits.{setAttributes, forgetVerifier, createObject, moveName, withGeneration}
-use Rattle.spec.specs.Image.{Store, objects, names, blockStart, objectAt}
+use Rattle.spec.specs.Edits.{setAttributes, forgetVerifier, addName, createObject, dropName, moveName, withGeneration}
+use Rattle.spec.specs.Image.{Store, objects, names, blockStart, objectAt, Name, freeName}
 use Rattle.spec.specs.Room.{sizeOf, byteAt}
 use Rattle.laws.proofs.CreateObject.{create-object, create-object-data}
 use Rattle.laws.proofs.FileBytes.{readFile-none}
-use Rattle.laws.proofs.Kept.{Sound}
-use Rattle.laws.proofs.MoveName.{move-name, move-name-data}
+use Rattle.laws.proofs.Kept.{Sound, NameSet}
+use Rattle.laws.proofs.PutName.{newName, movedName, add-name, add-name-data, move-name, move-name-data, drop-name, drop-name-data}
 use Rattle.laws.proofs.Range.{Below}
 use Rattle.laws.proofs.Records.{FitsTime, FitsObject}
 use Rattle.laws.proofs.SameReads.{sizeOf-reads, byteAt-reads}
@@ -57,18 +57,32 @@ forget-verifier-contents s o h l p m =
     let e = forget-verifier-structure s o h l in
     contents-data s (forgetVerifier s o) (e .tree .shape) p (e .size p m) (e .blocks p m) (forget-verifier-data s o h l)
 
--- SIXTH EDIT: a name is in no file's contents
+-- a name is in no file's contents: where only a name record is written, every file keeps them
+named-contents : (s t : Store) (n : ℕ) (x : Name) → NameSet s n x t → ((at k : ℕ) → blockStart s 0 ≤ at → part t at k ≡ part s at k)
+    → (p : ℕ) → p < objects s → contents t p ≡ contents s p
+named-contents s t n x e f p m =
+    let w = e .each-object p m in
+    contents-data s t (e .shape) p (ap (λ (v : Object). v .size) w) (ap (λ (v : Object). v .blocks) w) f
+
+-- FOURTH EDIT: a name is added
+pub add-name-contents : (s : Store) (n o d : ℕ) (text : List ℕ) → Sound s → n < names s → o < 2 ^ 32 → d < 2 ^ 32 → length text ≤ mostNameBytes
+    → Below 256 text → (p : ℕ) → p < objects s → contents (addName s n o d text) p ≡ contents s p
+add-name-contents s n o d text h l k c f b =
+    named-contents s (addName s n o d text) n (newName o d text) (add-name s n d text h l c f b o k) (add-name-data s n d text h l c f b o)
+
+-- SIXTH EDIT: a name record is free
+pub drop-name-contents : (s : Store) (n : ℕ) → Sound s → n < names s → (p : ℕ) → p < objects s → contents (dropName s n) p ≡ contents s p
+drop-name-contents s n h l = named-contents s (dropName s n) n freeName (drop-name s n h l) (drop-name-data s n h l)
+
+-- EIGHTH EDIT: a name is moved
 pub move-name-contents : (s : Store) (n d : ℕ) (text : List ℕ) → Sound s → n < names s → d < 2 ^ 32 → length text ≤ mostNameBytes → Below 256 text
     → (p : ℕ) → p < objects s → contents (moveName s n d text) p ≡ contents s p
-move-name-contents s n d text h l c f b p m =
-    let t = moveName s n d text in
-    let e = move-name s n d text h l c f b in
-    let w = e .each-object p m in
-    contents-data s t (e .shape) p (ap (λ (v : Object). v .size) w) (ap (λ (v : Object). v .blocks) w) (move-name-data s n d text h l c f b)
+move-name-contents s n d text h l c f b =
+    named-contents s (moveName s n d text) n (movedName s n d text) (move-name s n d text h l c f b) (move-name-data s n d text h l c f b)
 
 module _ (s : Store) (o n : ℕ) (v : Object) (d : ℕ) (text : List ℕ) (h : Sound s) (l : o < objects s) (k : n < names s)
     (f : FitsObject v) (c : d < 2 ^ 32) (g : length text ≤ mostNameBytes) (b : Below 256 text) where
-  -- FOURTH EDIT: every other file keeps its contents
+  -- FIFTH EDIT: every other file keeps its contents
   pub create-object-others : (p : ℕ) → p < objects s → p ≢ o → contents (createObject s o n v d text) p ≡ contents s p
   create-object-others p m q =
       let t = createObject s o n v d text in

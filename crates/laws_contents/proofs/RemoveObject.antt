@@ -1,4 +1,4 @@
--- The fifth edit: an object is removed, and every other file keeps its contents. Assumes nothing.
+-- The seventh edit: an object is removed, and every other file keeps its contents. Assumes nothing.
 use mathlib.Core.Path.{_≡_, refl, ap, _∙_}
 use mathlib.Core.Logic.{_≢_}
 use Prim.Native.Nat.{ℕ, _+_, _%_, _≤_, _<_}
@@ -44,7 +44,7 @@ module _ (s : Store) (g : GoodRecords s) (n : ℕ) (l : n < names s) (u : Used s
       (rw (f .objects, f .names, e .objects, e .names) z)
       ∙ object-written t o x (omega (arith, c .sound .shaped)) k .blocks at m (rw (e .objects, e .names) z)
 
-  -- FIFTH EDIT: every other file keeps its contents
+  -- SEVENTH EDIT: every other file keeps its contents
   pub remove-object-others : (p : ℕ) → p < objects s → p ≢ nameAt s n .child → contents (removeObject s n) p ≡ contents s p
   unfolding byteAt
   remove-object-others p m d =

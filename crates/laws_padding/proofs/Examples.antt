@@ -22,11 +22,12 @@ abbrev pub handleFirst : Part
 handleFirst = at 44 12
 
 pub record Examples : Type 0 where
-  -- handles, names, data, both names of RENAME; credential and verifier
+  -- handles, names, data, both names of RENAME, LINK's name behind its handle; credential and verifier
   pub handle-alone : fieldsOf (getattrCall 0) ≡ heads ++ (handleFirst ∷ [])
   pub name-too : fieldsOf (lookupCall nameA) ≡ heads ++ (handleFirst ∷ at 60 1 ∷ [])
   pub data-too : fieldsOf (writeCall 1 0 nameA) ≡ heads ++ (handleFirst ∷ at 76 1 ∷ [])
   pub both-names : fieldsOf (renameCall 0 nameA 0 nameB) ≡ heads ++ (handleFirst ∷ at 60 1 ∷ at 68 12 ∷ at 84 1 ∷ [])
+  pub name-behind : fieldsOf (callTo 15 (handleTo 1 ++ handleTo 0 ++ opaqueBytes nameB)) ≡ heads ++ (handleFirst ∷ at 60 12 ∷ at 76 1 ∷ [])
   pub header-alone : fieldsOf (nullWith (1 ∷ 2 ∷ 3 ∷ []) (4 ∷ 5 ∷ [])) ≡ at 32 1 ∷ at 44 2 ∷ []
   -- the padding of the name "a" is the three bytes behind it, and no other byte
   pub name-byte : isPad (lookupCall nameA) 60 ≡ false
@@ -38,7 +39,7 @@ pub record Examples : Type 0 where
   pub long-handle : fieldsOf (callTo 3 (opaqueBytes (replicate 65 0) ++ opaqueBytes nameA)) ≡ heads
   pub unknown-stable : fieldsOf (callTo 7 (handleTo 1 ++ words (0 ∷ 0 ∷ 1 ∷ 3 ∷ []) ++ opaqueBytes nameA)) ≡ heads ++ (handleFirst ∷ [])
   -- arguments that stay unread have none: an unserved procedure, another program, another RPC version
-  pub unserved : fieldsOf (callTo 15 (handleTo 0 ++ handleTo 0 ++ opaqueBytes nameA)) ≡ heads
+  pub unserved : fieldsOf (callTo 17 (handleTo 0 ++ handleTo 0 ++ opaqueBytes nameA)) ≡ heads
   pub other-program : fieldsOf (words (7 ∷ 0 ∷ 2 ∷ 100005 ∷ 3 ∷ 1 ∷ 0 ∷ 0 ∷ 0 ∷ 0 ∷ []) ++ handleTo 0) ≡ heads
   pub other-rpc : fieldsOf (words (7 ∷ 0 ∷ 3 ∷ 100003 ∷ 3 ∷ 1 ∷ 0 ∷ 0 ∷ 0 ∷ 0 ∷ []) ++ handleTo 0) ≡ []
 
@@ -50,6 +51,7 @@ examples =
       name-too = refl;
       data-too = refl;
       both-names = refl;
+      name-behind = refl;
       header-alone = refl;
       name-byte = refl;
       first-pad = refl;

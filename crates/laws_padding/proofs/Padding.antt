@@ -152,6 +152,7 @@ module _ (s t : List ℕ) where
   act-same store c (Call.Remove x) e = rw (e .0, e .1 .0)
   act-same store c (Call.Rmdir x) e = rw (e .0, e .1 .0)
   act-same store c (Call.Rename x y) e = rw (e .0, e .1 .0, e .1 .1 .0, e .1 .1 .1 .0)
+  act-same store c (Call.Link f x) e = rw (e .0, e .1 .0, e .1 .1 .0)
   act-same store c (Call.Readdir d cookie verifier count) e = rw (e .0)
   act-same store c (Call.Fsstat o) e = rw (e .0)
   act-same store c (Call.Fsinfo o) e = rw (e .0)
@@ -173,6 +174,7 @@ module _ (s t : List ℕ) where
   noted-same reply L (Call.Remove x) e = rw (e .0, e .1 .0)
   noted-same reply L (Call.Rmdir x) e = rw (e .0, e .1 .0)
   noted-same reply L (Call.Rename x y) e = rw (e .0, e .1 .0, e .1 .1 .0, e .1 .1 .1 .0)
+  noted-same reply L (Call.Link f x) e = rw (e .0, e .1 .0, e .1 .1 .0)
   noted-same reply L (Call.Readdir d cookie verifier count) e = refl
   noted-same reply L (Call.Fsstat o) e = refl
   noted-same reply L (Call.Fsinfo o) e = refl

@@ -13,7 +13,7 @@ use Rattle.kinds.specs.declared.call.Arguments.{Arguments}
 use Rattle.kinds.specs.declared.call.Arguments.the-variants as Call
 use Rattle.spec.specs.Arguments.{handle, unbounded, nameIn, settable, guard, how}
 use Rattle.spec.specs.Arguments.{setattrArguments, accessArguments, readArguments, writeArguments, createArguments, mkdirArguments, renameArguments}
-use Rattle.spec.specs.Arguments.{readdirArguments, commitArguments, alone, handleThen, nameThen, formed, whole, arguments}
+use Rattle.spec.specs.Arguments.{linkArguments, readdirArguments, commitArguments, alone, handleThen, nameThen, formed, whole, arguments}
 use Rattle.spec.specs.Header.{credential, callHeader, header}
 use Rattle.spec.specs.Xdr.{Reader, _>>=_, done, word, long, choice, end, noMaximum}
 use Rattle.laws.proofs.Arguments.{Rows, by-procedure}
@@ -137,10 +137,12 @@ module _ (s t : List ℕ) (same : length t ≡ length s) where
       alike-plain s t same unbounded _ (opaqueField noMaximum) (file ∷ []) (λ bytes. file ∷ bytes ∷ []) argumentParts (alike-unbounded (file ∷ [])) (λ bytes.
       alike-done s t same (Call.Write file offset count bytes) _ argumentParts refl))))
 
-  rename-other : (old : NameIn) → ReadsAlike s t (renameArguments old) nameInFields (nameParts old) argumentParts
-  rename-other old =
-      alike-plain s t same nameIn _ nameInFields (nameParts old) (λ new. nameParts old ++ nameParts new) argumentParts (alike-name (nameParts old)) (λ new.
-      alike-done s t same (Call.Rename old new) _ argumentParts refl)
+  -- a name that comes last
+  name-last : (make : NameIn → Arguments) (before : List Part) → ((place : NameIn) → before ++ nameParts place ≡ argumentParts (make place))
+      → ReadsAlike s t (nameIn >>= (λ place. done (make place))) nameInFields before argumentParts
+  name-last make before e =
+      alike-plain s t same nameIn _ nameInFields before (λ place. before ++ nameParts place) argumentParts (alike-name before) (λ place.
+      alike-done s t same (make place) _ argumentParts (e place))
 
   rows : Rows (λ p f. ReadsAlike s t (formed f) (formedFields p f) [] argumentParts)
   rows =
@@ -160,7 +162,8 @@ module _ (s t : List ℕ) (same : length t ≡ length s) where
         mkdir = by-name mkdirArguments noFields (λ place. alike-last (Call.Mkdir place) (nameParts place) (λ a. refl) plain-settable);
         remove = name-alone Call.Remove (λ place. refl);
         rmdir = name-alone Call.Rmdir (λ place. refl);
-        rename = by-name renameArguments nameInFields rename-other;
+        rename = by-name renameArguments nameInFields (λ old. name-last (Call.Rename old) (nameParts old) (λ new. refl));
+        link = by-handle linkArguments nameInFields (λ file. name-last (Call.Link file) (file ∷ []) (λ place. refl));
         readdir = by-handle readdirArguments noFields (λ directory.
             alike-plain s t same long _ noFields (directory ∷ []) (λ _. directory ∷ []) argumentParts (plain-long (directory ∷ [])) (λ cookie.
             alike-plain s t same long _ noFields (directory ∷ []) (λ _. directory ∷ []) argumentParts (plain-long (directory ∷ [])) (λ verifier.

@@ -87,9 +87,9 @@ dataFields = do
   stable ← choice 2
   opaqueField noMaximum
 
--- behind a procedure's first handle or name: WRITE has data, RENAME another name, no other procedure has any
+-- behind a procedure's first handle or name: WRITE has data, RENAME another name, LINK a name, no other procedure has any
 abbrev pub laterFields : ℕ → Fields
-laterFields p = cond (eqb p 7) dataFields (cond (eqb p 14) nameInFields noFields)
+laterFields p = cond (eqb p 7) dataFields (cond (eqb p 14) nameInFields (cond (eqb p 15) nameInFields noFields))
 
 abbrev pub formedFields : ℕ → Form → Fields
 formedFields p none = noFields
@@ -140,6 +140,7 @@ argumentParts (Call.Mkdir place attributes) = nameParts place
 argumentParts (Call.Remove place) = nameParts place
 argumentParts (Call.Rmdir place) = nameParts place
 argumentParts (Call.Rename old new) = nameParts old ++ nameParts new
+argumentParts (Call.Link file place) = file ∷ nameParts place
 argumentParts (Call.Readdir directory cookie verifier count) = directory ∷ []
 argumentParts (Call.Fsstat object) = object ∷ []
 argumentParts (Call.Fsinfo object) = object ∷ []

@@ -31,7 +31,8 @@ pub fn open(call: &[u8], store: &[u8], table: &[u8], reply: &[u8]) -> MountOpene
     }
     let mut used = [0u8; Limit::MOST_BLOCKS];
     let mut parents = [0u8; Limit::MOST_OBJECTS];
-    let found = check_store(store, &mut used, &mut parents);
+    let mut links = [0u8; Limit::MOST_OBJECTS];
+    let found = check_store(store, &mut used, &mut parents, &mut links);
     let Found::Good(_) = found else {
         return MountOpened::Refused(Answer::STORE, 0);
     };

@@ -52,7 +52,8 @@ pub extern "C" fn nfs3_check(store: &[u8]) -> Answer
 {
     let mut used = [0u8; Limit::MOST_BLOCKS];
     let mut parents = [0u8; Limit::MOST_OBJECTS];
-    let found = check_store(store, &mut used, &mut parents);
+    let mut links = [0u8; Limit::MOST_OBJECTS];
+    let found = check_store(store, &mut used, &mut parents, &mut links);
     match found {
         Found::Bad => Answer {
             number: Answer::STORE,

@@ -10,9 +10,9 @@ ghost use Rattle.spec.specs.Count.{bit};
 ghost use Rattle.spec.specs.Edits.{readFile};
 ghost use Rattle.spec.specs.Handles.{attributes, handleOf};
 ghost use Rattle.spec.specs.Procedures.Listing.{entries, entriesAbove};
-ghost use Rattle.spec.specs.Replies.{hyper, fattr3, postOp, wccData, wccOption, entriesBytes};
-ghost use Rattle.results.specs.Meaning.{changeIn, handleChangeIn};
-ghost use Rattle.results.specs.Writable.{Showable, ShowableChange, Readable, Listable};
+ghost use Rattle.spec.specs.Replies.{hyper, fattr3, postOp, postOpOption, wccData, wccOption, entriesBytes};
+ghost use Rattle.results.specs.Meaning.{changeIn, handleAttributesIn, handleChangeIn};
+ghost use Rattle.results.specs.Writable.{Showable, ShowableObject, ShowableChange, Readable, Listable};
 ghost use Rattle.xdr.specs.Wrote.{Wrote};
 use kinds::numbers::Limit;
 use kinds::numbers::ObjectNumber;
@@ -21,10 +21,12 @@ use reply_entries::put_entries;
 use reply_fields::attributes::put_fattr3_of;
 use reply_fields::attributes::put_nfs_fh3;
 use reply_fields::attributes::put_post_op_attr;
+use reply_fields::attributes::put_post_op_option;
 use reply_fields::attributes::put_wcc_data;
 use reply_fields::attributes::put_wcc_option;
 use reply_file::put_file_bytes;
 use results::HandleChange;
+use results::HandleObject;
 use results::ObjectChange;
 use xdr::write::put_word;
 use xdr::write::put_words;
@@ -105,6 +107,25 @@ pub fn put_renamed(
     let next = put_word(reply, at, status.0);
     let behind = put_wcc_option(reply, next, store, c);
     put_wcc_option(reply, behind, store, d)
+}
+
+// LINK, whole: the status, the post_op_attr of the file and the wcc_data of the directory.
+pub fn put_linked(
+    reply: &mut [u8],
+    at: usize,
+    store: &[u8],
+    status: Status,
+    o: HandleObject,
+    c: HandleChange,
+) -> usize
+    requires { ⌜ at + 208 ≤ length (now reply) ⌝ }
+    requires { ⌜ ShowableObject (now store) o ⌝ }
+    requires { ⌜ ShowableChange (now store) c ⌝ }
+    ensures { λ r. ⌜ Wrote (4 + 4 * length (postOpOption (handleAttributesIn (now (store .entry)) o)) + 4 * length (wccOption (handleChangeIn (now (store .entry)) c))) (now (reply .entry)) (now (reply .exit)) at r (words (status .0 ∷ postOpOption (handleAttributesIn (now (store .entry)) o) ++ wccOption (handleChangeIn (now (store .entry)) c))) ⌝ }
+{
+    let next = put_word(reply, at, status.0);
+    let behind = put_post_op_option(reply, next, store, o);
+    put_wcc_option(reply, behind, store, c)
 }
 
 // GETATTR, whole: OK, and the fattr3 of the object.

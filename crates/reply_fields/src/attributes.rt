@@ -3,16 +3,17 @@ ghost use Prim.Native.Nat.{_+_, _*_, _≤_};
 ghost use lib.ListN.{length};
 ghost use Rattle.kinds.specs.Numbers.{handleLength};
 ghost use Rattle.spec.specs.Bytes.{words, opaqueBytes};
-ghost use Rattle.spec.specs.Replies.{fattr3, postOp, preOp, wccData, wccOption};
+ghost use Rattle.spec.specs.Replies.{fattr3, postOp, postOpOption, preOp, wccData, wccOption};
 ghost use Rattle.spec.specs.Handles.{attributes, handleOf};
-ghost use Rattle.results.specs.Meaning.{changeIn, handleChangeIn};
-ghost use Rattle.results.specs.Writable.{Showable, ShowableChange};
+ghost use Rattle.results.specs.Meaning.{changeIn, handleAttributesIn, handleChangeIn};
+ghost use Rattle.results.specs.Writable.{Showable, ShowableObject, ShowableChange};
 ghost use Rattle.xdr.specs.Wrote.{Wrote};
 use kinds::numbers::Limit;
 use kinds::numbers::ObjectNumber;
 use kinds::object::Attributes;
 use kinds::object::Before;
 use results::HandleChange;
+use results::HandleObject;
 use results::ObjectChange;
 use store_attributes::attributes;
 use store_records::counts::stamp_of;
@@ -70,6 +71,18 @@ pub fn put_post_op_attr(reply: &mut [u8], at: usize, store: &[u8], o: ObjectNumb
 {
     let next = put_word(reply, at, 1);
     put_fattr3_of(reply, next, store, o)
+}
+
+// post_op_attr of a handle: present, or absent.
+pub fn put_post_op_option(reply: &mut [u8], at: usize, store: &[u8], o: HandleObject) -> usize
+    requires { ⌜ at + 88 ≤ length (now reply) ⌝ }
+    requires { ⌜ ShowableObject (now store) o ⌝ }
+    ensures { λ r. ⌜ Wrote (4 * length (postOpOption (handleAttributesIn (now (store .entry)) o))) (now (reply .entry)) (now (reply .exit)) at r (words (postOpOption (handleAttributesIn (now (store .entry)) o))) ⌝ }
+{
+    match o {
+        HandleObject::Absent => put_word(reply, at, 0),
+        HandleObject::Present(object) => put_post_op_attr(reply, at, store, object),
+    }
 }
 
 // pre_op_attr, present.

@@ -13,6 +13,7 @@ use reply_bodies::put_created;
 use reply_bodies::put_found;
 use reply_bodies::put_got_attributes;
 use reply_bodies::put_limits;
+use reply_bodies::put_linked;
 use reply_bodies::put_listing;
 use reply_bodies::put_naming;
 use reply_bodies::put_read_bytes;
@@ -41,6 +42,7 @@ pub fn put_result(reply: &mut [u8], store: &[u8], procedure: u32, xid: u32, r: R
         Reply::Failed(status, o) => put_status_post_op_attr(reply, at, store, status, o),
         Reply::Changed(status, c) => put_status_wcc_data(reply, at, store, status, c),
         Reply::Renamed(status, c, d) => put_renamed(reply, at, store, status, c, d),
+        Reply::Linked(status, o, c) => put_linked(reply, at, store, status, o, c),
         Reply::GotAttributes(o) => put_got_attributes(reply, at, store, o),
         Reply::Found(o, d) => put_found(reply, at, store, o, d),
         Reply::Granted(o, bits) => {

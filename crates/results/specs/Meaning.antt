@@ -1,17 +1,20 @@
 -- What each reply value stands for, by the store that it is written from.
 use mathlib.Core.Option.{Option, some, none}
 use lib.ListN.{take}
+use Rattle.kinds.specs.declared.object.Attributes.{Attributes}
 use Rattle.kinds.specs.declared.object.Change.{Change}
 use Rattle.kinds.specs.declared.numbers.ObjectNumber.{ObjectNumber}
 use Rattle.spec.specs.Image.{Store}
 use Rattle.spec.specs.Handles.{handleOf, attributes, before}
 use Rattle.spec.specs.Edits.{readFile}
 use Rattle.spec.specs.Procedures.Listing.{entries, entriesAbove}
-use Rattle.spec.specs.Results.{Result, null, dead, failed, changed, renamed, gotAttributes, found, granted, gotBytes, wrote, created, listed, gotRoom}
+use Rattle.spec.specs.Results.{Result, null, dead, failed, changed, renamed, linked, gotAttributes, found, granted, gotBytes, wrote, created, listed, gotRoom}
 use Rattle.spec.specs.Results.{gotLimits, gotNaming, committed}
 use Rattle.results.specs.declared.ObjectChange.{ObjectChange}
 use Rattle.results.specs.declared.HandleChange.{HandleChange}
 use Rattle.results.specs.declared.HandleChange.the-variants as HandleChange
+use Rattle.results.specs.declared.HandleObject.{HandleObject}
+use Rattle.results.specs.declared.HandleObject.the-variants as HandleObject
 use Rattle.results.specs.declared.Reply.{Reply}
 use Rattle.results.specs.declared.Reply.the-variants as Reply
 
@@ -22,6 +25,10 @@ changeIn t c = record { before = c .before; after = attributes t (c .object .0) 
 abbrev pub handleChangeIn : Store → HandleChange → Option Change
 handleChangeIn t HandleChange.Absent = none
 handleChangeIn t (HandleChange.Present c) = some (changeIn t c)
+
+abbrev pub handleAttributesIn : Store → HandleObject → Option Attributes
+handleAttributesIn t HandleObject.Absent = none
+handleAttributesIn t (HandleObject.Present o) = some (attributes t (o .0))
 
 -- an object that a call has not changed
 abbrev pub asItIs : Store → ObjectNumber → ObjectChange
@@ -34,6 +41,7 @@ resultOf s (Reply.Dead status) = dead (status .0)
 resultOf s (Reply.Failed status o) = failed (status .0) (attributes s (o .0))
 resultOf s (Reply.Changed status c) = changed (status .0) (changeIn s c)
 resultOf s (Reply.Renamed status c d) = renamed (status .0) (handleChangeIn s c) (handleChangeIn s d)
+resultOf s (Reply.Linked status o c) = linked (status .0) (handleAttributesIn s o) (handleChangeIn s c)
 resultOf s (Reply.GotAttributes o) = gotAttributes (attributes s (o .0))
 resultOf s (Reply.Found o d) = found (handleOf s (o .0)) (attributes s (o .0)) (attributes s (d .0))
 resultOf s (Reply.Granted o bits) = granted (attributes s (o .0)) bits

@@ -9,6 +9,8 @@ use Rattle.spec.specs.Procedures.Listing.{entries, entriesAbove}
 use Rattle.laws.proofs.GoodRecords.{GoodRecords}
 use Rattle.results.specs.declared.HandleChange.{HandleChange}
 use Rattle.results.specs.declared.HandleChange.the-variants as HandleChange
+use Rattle.results.specs.declared.HandleObject.{HandleObject}
+use Rattle.results.specs.declared.HandleObject.the-variants as HandleObject
 use Rattle.results.specs.declared.Reply.{Reply}
 use Rattle.results.specs.declared.Reply.the-variants as Reply
 
@@ -16,6 +18,10 @@ use Rattle.results.specs.declared.Reply.the-variants as Reply
 pub record Showable (s : Store) (o : ℕ) : Type 0 where
   pub good : GoodRecords s
   pub object : o < objects s
+
+abbrev pub ShowableObject : Store → HandleObject → Type 0
+ShowableObject s HandleObject.Absent = Unit {0}
+ShowableObject s (HandleObject.Present o) = Showable s (o .0)
 
 abbrev pub ShowableChange : Store → HandleChange → Type 0
 ShowableChange s HandleChange.Absent = Unit {0}
@@ -42,6 +48,7 @@ Writable s (Reply.Dead status) = Unit {0}
 Writable s (Reply.Failed status o) = Showable s (o .0)
 Writable s (Reply.Changed status c) = Showable s (c .object .0)
 Writable s (Reply.Renamed status c d) = ShowableChange s c × ShowableChange s d
+Writable s (Reply.Linked status o c) = ShowableObject s o × ShowableChange s c
 Writable s (Reply.GotAttributes o) = Showable s (o .0)
 Writable s (Reply.Found o d) = Showable s (o .0) × Showable s (d .0)
 Writable s (Reply.Granted o bits) = Showable s (o .0)

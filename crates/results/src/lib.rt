@@ -15,6 +15,12 @@ pub enum HandleChange {
     Present(ObjectChange),
 }
 
+// post_op_attr: present exactly where its handle is live.
+pub enum HandleObject {
+    Absent,
+    Present(ObjectNumber),
+}
+
 // An object number stands for the attributes of the object in the store.
 pub enum Reply {
     Null,
@@ -25,6 +31,8 @@ pub enum Reply {
     // SETATTR, REMOVE and RMDIR, and every failure that shows a change.
     Changed(Status, ObjectChange),
     Renamed(Status, HandleChange, HandleChange),
+    // The file, and the change of the directory.
+    Linked(Status, HandleObject, HandleChange),
     GotAttributes(ObjectNumber),
     // The object, whose handle is given too, and its directory.
     Found(ObjectNumber, ObjectNumber),

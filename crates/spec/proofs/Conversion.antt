@@ -22,6 +22,12 @@ newImage =
     ++ words (1 ∷ 3 ∷ 420 ∷ 7 ∷ 8 ∷ 1 ∷ 1 ∷ 2 ∷ 3 ∷ 4 ∷ 5 ∷ 6 ∷ []) ++ zeros 2 ++ replicate 30 255 ++ zeros 12
     ++ words (1 ∷ 0 ∷ 1 ∷ 1 ∷ 0x61000000 ∷ []) ++ zeros 28 ++ words (1 ∷ 0x41000000 ∷ []) ++ zeros 508
 
+-- an old image of stamp 9 up to its names: a root and an empty file
+abbrev pub oldRecords : List ℕ
+oldRecords =
+    words (1 ∷ 9 ∷ 2 ∷ 2 ∷ 0 ∷ 493 ∷ 0 ∷ 0 ∷ 0 ∷ 5 ∷ 6 ∷ 5 ∷ 6 ∷ 5 ∷ 6 ∷ []) ++ replicate 32 255
+    ++ words (1 ∷ 0 ∷ 0 ∷ 0 ∷ 0 ∷ 0 ∷ 5 ∷ 6 ∷ 5 ∷ 6 ∷ 5 ∷ 6 ∷ []) ++ replicate 32 255
+
 -- refused with a number, the target as it was
 abbrev pub refusedWith : ℕ → Store → Written
 refusedWith number s = record { number = number; store = s }

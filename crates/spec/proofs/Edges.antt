@@ -24,8 +24,8 @@ pub record Edges : Type 0 where
   pub other-version : served (words (7 ∷ 0 ∷ 2 ∷ 100003 ∷ 2 ∷ 22 ∷ 0 ∷ 0 ∷ 0 ∷ 0 ∷ [])) rootAlone
       ≡ replied (words (7 ∷ 1 ∷ 0 ∷ 0 ∷ 0 ∷ 2 ∷ 3 ∷ 3 ∷ [])) rootAlone
   pub other-procedure : served (callTo 22 []) rootAlone ≡ replied (words (7 ∷ 1 ∷ 0 ∷ 0 ∷ 0 ∷ 3 ∷ [])) rootAlone
-  -- "The other five answer NOTSUPP with their arguments unread." with the table's zero words; "Other length .. BADHANDLE"
-  pub not-served : served (callTo 15 (words (9 ∷ []))) rootAlone ≡ replied (answered (10004 ∷ 0 ∷ 0 ∷ 0 ∷ [])) rootAlone
+  -- "The other five answer NOTSUPP with their arguments unread.", SYMLINK among them, with the table's zero words; "Other length .. BADHANDLE"
+  pub not-served : served (callTo 10 (words (9 ∷ []))) rootAlone ≡ replied (answered (10004 ∷ 0 ∷ 0 ∷ [])) rootAlone
   pub bad-handle : served (callTo 14 (words (0 ∷ 0 ∷ 0 ∷ 0 ∷ []))) rootAlone ≡ replied (answered (10001 ∷ 0 ∷ 0 ∷ 0 ∷ 0 ∷ [])) rootAlone
   pub object-past-end : statusSent (served (getattrCall 1) rootAlone) ≡ 10001
   -- SETATTR: "guard differs, NOT_SYNC; then INVAL for mode over 4,095"; "size on a directory"
@@ -68,8 +68,8 @@ pub record Edges : Type 0 where
   pub fsstat : served (callTo 18 (handleTo 0)) (fresh 1 0 0)
       ≡ replied (answered (0 ∷ 1 ∷ rootWords ++ (0 ∷ 0 ∷ 0 ∷ 0 ∷ 0 ∷ 0 ∷ 0 ∷ 1 ∷ 0 ∷ 0 ∷ 0 ∷ 0 ∷ 0 ∷ []))) rootAlone
   pub fsinfo : served (callTo 19 (handleTo 0)) rootAlone
-      ≡ replied (answered (0 ∷ 1 ∷ rootWords ++ (4096 ∷ 4096 ∷ 1 ∷ 4096 ∷ 4096 ∷ 1 ∷ 4096 ∷ 0 ∷ 8192 ∷ 0 ∷ 1 ∷ 0x18 ∷ []))) rootAlone
-  pub pathconf : served (callTo 20 (handleTo 0)) rootAlone ≡ replied (answered (0 ∷ 1 ∷ rootWords ++ (1 ∷ 32 ∷ 1 ∷ 0 ∷ 0 ∷ 1 ∷ []))) rootAlone
+      ≡ replied (answered (0 ∷ 1 ∷ rootWords ++ (4096 ∷ 4096 ∷ 1 ∷ 4096 ∷ 4096 ∷ 1 ∷ 4096 ∷ 0 ∷ 8192 ∷ 0 ∷ 1 ∷ 0x19 ∷ []))) rootAlone
+  pub pathconf : served (callTo 20 (handleTo 0)) rootAlone ≡ replied (answered (0 ∷ 1 ∷ rootWords ++ (16 ∷ 32 ∷ 1 ∷ 0 ∷ 0 ∷ 1 ∷ []))) rootAlone
   -- format: 3, then 6
   pub format-clock : format (zeros 99) 9 0 0 0 (record { seconds = 0; nanoseconds = 1000000000 }) .number ≡ 3
   pub format-count : format (zeros 20) 9 0 0 0 (record { seconds = 0; nanoseconds = 0 }) .number ≡ 6

@@ -105,7 +105,7 @@ pub record BrokenArguments : Type 0 where
   -- a handle that is read is judged only where all arguments are of their types
   pub before-status : GarbageAt 48 (callTo 4 (words (4 ∷ 0 ∷ []) ++ zeros 1))
   -- "in all other cases it is 0": arguments that stay unread, and an error status
-  pub unread : broken (callTo 15 (zeros 7)) ≡ fault 0 0
+  pub unread : broken (callTo 10 (zeros 7)) ≡ fault 0 0
   pub error-status : served (callTo 1 (words (0 ∷ []))) rootAlone ≡ replied (answered (10001 ∷ [])) rootAlone
 
 pub broken-arguments : BrokenArguments

@@ -2,6 +2,7 @@ pub mod Conversion
 pub mod Edges
 pub mod Exclusive
 pub mod Faults
+pub mod Linking
 pub mod Padding
 pub mod Replacing
 pub mod Searching

@@ -6,12 +6,13 @@ use Rattle.kinds.specs.declared.object.Context.{Context}
 use Rattle.spec.specs.Arguments.{handle, unbounded, nameIn, time, setNumber, setSize, setTime, settable, guard, how, form, arguments}
 use Rattle.spec.specs.Bytes.{part, overlay, zeros, digits, beOf, bytesOf, beAt, words, opaqueBytes, sameBytes, pairs, allBytes}
 use Rattle.spec.specs.Check.{isZero, goodCounts, goodShape, goodTime, goodBlock, goodSize, goodVerifier, goodLive, goodFree, goodObject, goodRoot}
-use Rattle.spec.specs.Check.{goodUsed, goodNameRecord, isDistinct, isNamedOnce, isUsedOnce, leadsToRoot, recordsPass, passes}
-use Rattle.spec.specs.Convert.{oldNames, oldBlocks, oldShape, lengthened, converted, goodOld}
+use Rattle.spec.specs.Check.{goodUsed, goodNameRecord, isDistinct, goodNamings, isUsedOnce, leadsToRoot, recordsPass, passes}
+use Rattle.spec.specs.Convert.{oldNames, oldBlocks, oldShape, lengthened, converted, isNamedOnce, goodOld}
 use Rattle.spec.specs.Count.{sum, count, every, some-below, passing, lowest, times, iterate}
 use Rattle.spec.specs.Edits.{withAttributes, setAttributes, withVerifier, forgetVerifier, clearBlocks, clearTail, blockNumbers, withSize, resize}
-use Rattle.spec.specs.Edits.{withGeneration, createObject, removeObject, moveName, writeThrough, readThrough, writeFile, readFile}
-use Rattle.spec.specs.Handles.{handleOf, reach, reachDirectory, checkName, sizeAttribute, usedBytes, linkCount, attributes, before, change, handleChange}
+use Rattle.spec.specs.Edits.{withGeneration, createObject, removeObject, removeName, moveName, writeThrough, readThrough, writeFile, readFile}
+use Rattle.spec.specs.Handles.{handleOf, reach, reachDirectory, checkName, sizeAttribute, usedBytes, linkCount, attributes, before, change}
+use Rattle.spec.specs.Handles.{handleAttributes, handleChange}
 use Rattle.spec.specs.Header.{credential, callHeader, header, headerFault}
 use Rattle.spec.specs.Image.{Store, volumes, stamp, objects, names, blocks, halvesAt, halvesBytes, timeAt, timeBytes, objectFrom, headBytes}
 use Rattle.spec.specs.Image.{timesBytes, verifierBytes, objectBytes, objectAt, putObject, nameFrom, nameBytes, nameAt, nameLength, putName}
@@ -19,6 +20,7 @@ use Rattle.spec.specs.Names.{isDot, isDotDot, goodByte, goodBytes, goodN
 use Rattle.spec.specs.Procedures.{act}
 use Rattle.spec.specs.Procedures.Attributes.{badAttributes, lacksRoom, sizeTouches, getattr, checkSetattr, setattrEdit, setattr, grantedBits, access}
 use Rattle.spec.specs.Procedures.Data.{reachRegular, readLength, readResult, read, checkWrite, writeEdit, writeStore, writeDone, write, commit}
+use Rattle.spec.specs.Procedures.Link.{checkAdded, checkLink, linkEdit, failLinking, link}
 use Rattle.spec.specs.Procedures.Listing.{entryOf, dotEntries, entries, entriesAbove, fitting, checkListing, checkReaddirIn, checkReaddir, readdir}
 use Rattle.spec.specs.Procedures.Names.{lookIn, checkIn, checkLookup, lookup, roomForNew, newObject, newEdit, isMadeBy, checkExisting, checkNew}
 use Rattle.spec.specs.Procedures.Names.{checkHow, checkCreate, create, checkMkdir, mkdir}
@@ -161,6 +163,10 @@ rmdirCall name = callTo 13 (handleTo 0 ++ opaqueBytes name)
 abbrev pub renameCall : ℕ → List ℕ → ℕ → List ℕ → List ℕ
 renameCall d name e title = callTo 14 (handleTo d ++ opaqueBytes name ++ handleTo e ++ opaqueBytes title)
 
+-- LINK of object o to a name in directory d
+abbrev pub linkCall : ℕ → ℕ → List ℕ → List ℕ
+linkCall o d name = callTo 15 (handleTo o ++ handleTo d ++ opaqueBytes name)
+
 abbrev pub nameB : List ℕ
 nameB = 0x62 ∷ []
 
@@ -197,16 +203,16 @@ wordAfter call s at = beAt (served call s .store) at 4
 unfoldable pub computing : ℕ
 unfolding handle unbounded nameIn time setNumber setSize setTime settable guard how form arguments part overlay digits beOf bytesOf beAt words
     opaqueBytes sameBytes pairs allBytes isZero goodCounts goodShape goodTime goodBlock goodSize goodVerifier goodLive goodFree goodObject goodRoot goodUsed
-    goodNameRecord isDistinct isNamedOnce isUsedOnce leadsToRoot recordsPass passes oldNames oldBlocks oldShape lengthened converted goodOld sum every
+    goodNameRecord isDistinct goodNamings isUsedOnce leadsToRoot recordsPass passes oldNames oldBlocks oldShape lengthened converted isNamedOnce goodOld sum every
     some-below passing lowest times iterate withAttributes setAttributes withVerifier forgetVerifier clearBlocks clearTail blockNumbers withSize
-    resize withGeneration createObject removeObject moveName writeThrough readThrough writeFile readFile handleOf reach reachDirectory checkName
-    sizeAttribute usedBytes linkCount attributes before change handleChange credential callHeader header headerFault volumes stamp objects names blocks halvesAt
+    resize withGeneration createObject removeObject removeName moveName writeThrough readThrough writeFile readFile handleOf reach reachDirectory checkName
+    sizeAttribute usedBytes linkCount attributes before change handleAttributes handleChange credential callHeader header headerFault volumes stamp objects names blocks halvesAt
     halvesBytes timeAt timeBytes objectFrom headBytes timesBytes verifierBytes objectBytes objectAt putObject nameFrom nameBytes nameAt nameLength
     putName isDot isDotDot goodByte goodBytes goodName act badAttributes lacksRoom sizeTouches getattr checkSetattr setattrEdit setattr grantedBits
     access reachRegular readLength readResult read checkWrite writeEdit writeStore writeDone write commit entryOf dotEntries entries entriesAbove
     fitting checkListing checkReaddirIn checkReaddir readdir lookIn checkIn checkLookup lookup roomForNew newObject newEdit isMadeBy checkExisting
     checkNew checkHow checkCreate create checkMkdir mkdir checkEntry checkRemove hasEntries checkRmdir removeFrom remove rmdir isWithin isReplaceable
-    checkReplace checkMove checkRename moveEdit failRenaming rename fsstat fsinfo pathconf fattr3 postOp preOp wccData entryBytes entriesBytes resultBytes
+    checkReplace checkMove checkRename moveEdit failRenaming rename checkAdded checkLink linkEdit failLinking link fsstat fsinfo pathconf fattr3 postOp preOp wccData entryBytes entriesBytes resultBytes
     failShowing failChanging isLive isRegular isDirectory sizeOf held uses isFreeBlock freeBlocks freeBlockCount isAvailable availableCount availableObject
     isUsedName availableName freeNameCount isNaming namings isIn isNamed findName comparedAt compared subdirectories parent above byteAt denied accepted
     judge mismatch serve check formatted format convert number word long choice flag bytes opaque end

@@ -134,6 +134,12 @@ renameArguments old = do
   new ← nameIn
   done (Call.Rename old new)
 
+-- LINK3args: file, link
+abbrev pub linkArguments : Part → Reader Arguments
+linkArguments file = do
+  place ← nameIn
+  done (Call.Link file place)
+
 -- READDIR3args: dir, cookie, cookieverf, count
 abbrev pub readdirArguments : Part → Reader Arguments
 readdirArguments directory = do
@@ -161,7 +167,7 @@ pub data Form : Type 0 where
   nameThen : (NameIn → Reader Arguments) → Form
   unread : Form
 
--- the procedures 0 to 21; "The other five answer NOTSUPP with their arguments unread."
+-- the procedures 0 to 21; "The other five answer NOTSUPP with their arguments unread.", which are four since E7 serves LINK
 unfoldable pub form : ℕ → Form
 form p =
     cond (eqb p 0) none
@@ -176,12 +182,13 @@ form p =
     (cond (eqb p 12) (nameThen (alone Call.Remove))
     (cond (eqb p 13) (nameThen (alone Call.Rmdir))
     (cond (eqb p 14) (nameThen renameArguments)
+    (cond (eqb p 15) (handleThen linkArguments)
     (cond (eqb p 16) (handleThen readdirArguments)
     (cond (eqb p 18) (handleThen (alone Call.Fsstat))
     (cond (eqb p 19) (handleThen (alone Call.Fsinfo))
     (cond (eqb p 20) (handleThen (alone Call.Pathconf))
     (cond (eqb p 21) (handleThen commitArguments)
-    unread))))))))))))))))
+    unread)))))))))))))))))
 
 -- "arguments not exactly the XDR type": a type of RFC 1813, and then the end of the call
 abbrev pub whole : Reader Arguments → Reader Arguments

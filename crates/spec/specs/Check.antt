@@ -6,7 +6,7 @@ use lib.Dec.{eqb, leb, ltb}
 use lib.ListN.{length, getD}
 use Rattle.kinds.specs.Layout.{blocksHead, modeOffset, objectLength, textOffset, nameRecordLength, blockLength}
 use Rattle.kinds.specs.Numbers.{REGULAR, DIRECTORY, nanosecondsEnd, mostObjects, mostNameRecords, mostBlocks, fileBlocks, unusedBlock, keptFlag}
-use Rattle.kinds.specs.Numbers.{mostFileBytes, spentGeneration, mostMode, mostNameBytes}
+use Rattle.kinds.specs.Numbers.{mostFileBytes, spentGeneration, mostMode, mostNameBytes, mostLinks}
 use Rattle.kinds.specs.declared.object.Time.{Time}
 use Rattle.kinds.specs.declared.object.Object.{Object}
 use Rattle.spec.specs.Bytes.{part, allBytes}
@@ -79,13 +79,13 @@ goodNameRecord s n = cond (isUsedName s n) (goodUsed s n) (isZero (part s (nameS
 unfoldable pub isDistinct : Store → ℕ → Bool
 isDistinct s n = not (isUsedName s n) || eqb (count (names s) (isNamed s (nameAt s n .directory) (nameAt s n .text))) 1
 
--- the most names that an object of a type may have
+-- E7: "The store check admits 1 to 16 names per file and one per directory"
 abbrev pub mostNames : ℕ → ℕ
-mostNames kind = 1
+mostNames kind = cond (eqb kind REGULAR) mostLinks 1
 
--- "every live object but the root named once, the root never"
-unfoldable pub isNamedOnce : Store → ℕ → Bool
-isNamedOnce s o =
+-- "every live object but the root named .., the root never", as often as its type allows
+unfoldable pub goodNamings : Store → ℕ → Bool
+goodNamings s o =
     cond (eqb o 0) (eqb (namings s o) 0)
     (not (isLive s o) || leb 1 (namings s o) && leb (namings s o) (mostNames (objectAt s o .kind)))
 
@@ -101,7 +101,7 @@ leadsToRoot s o = not (isLive s o) || eqb (above s (objects s) o) 0
 unfoldable pub recordsPass : Store → Bool
 recordsPass s =
     goodRoot s && every (objects s) (goodObject s) && every (names s) (goodNameRecord s) && every (names s) (isDistinct s)
-    && every (objects s) (isNamedOnce s) && every (blocks s) (isUsedOnce s) && every (objects s) (leadsToRoot s)
+    && every (objects s) (goodNamings s) && every (blocks s) (isUsedOnce s) && every (objects s) (leadsToRoot s)
 
 -- the store check
 unfoldable pub passes : Store → Bool

@@ -2,7 +2,7 @@
 use Prim.Native.Nat.{ℕ, zero, suc, _+_, _*_, _-_}
 use mathlib.Core.List.{List, [], _∷_, _++_}
 use mathlib.Core.Bool.{Bool, _&&_}
-use lib.Dec.{eqb}
+use lib.Dec.{eqb, leb}
 use lib.ListN.{length, drop}
 use Rattle.kinds.specs.Numbers.{fileBlocks}
 use Rattle.kinds.specs.Layout.{objectsHead, namesHead, blocksHead, generationOffset, modeOffset, uidOffset, gidOffset, sizeOffset, atimeOffset}
@@ -11,6 +11,8 @@ use Rattle.kinds.specs.declared.object.Object.{Object}
 use Rattle.spec.specs.Bytes.{part, zeros, beAt}
 use Rattle.spec.specs.Image.{Store, volumes, objects, halvesAt, timeAt}
 use Rattle.spec.specs.Check.{goodCounts, passes}
+use Rattle.spec.specs.Count.{every}
+use Rattle.spec.specs.Room.{namings}
 
 -- where object o starts in the old layout, and Q and R there; the counts before them stand at the same places
 abbrev pub oldStart : ℕ → ℕ
@@ -57,6 +59,10 @@ lengthened b (suc k) = lengthened b k ++ part b (oldStart k) oldObjectLength ++ 
 unfoldable pub converted : List ℕ → Store
 converted b = part b 0 objectsHead ++ lengthened b (objects b) ++ drop (oldStart (objects b)) b
 
--- document 01's own check: the old shape, and each of its demands on the fields, which are those of the image that it becomes
+-- "every live object .. named once": no object has more than one name
+unfoldable pub isNamedOnce : Store → ℕ → Bool
+isNamedOnce s o = leb (namings s o) 1
+
+-- document 01's own check: the old shape, each of its demands on the fields, which are those of the image that it becomes, and one name for each object
 unfoldable pub goodOld : List ℕ → Bool
-goodOld b = oldShape b && passes (converted b)
+goodOld b = oldShape b && passes (converted b) && every (objects b) (isNamedOnce (converted b))

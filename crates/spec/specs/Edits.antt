@@ -2,7 +2,7 @@
 use Prim.Native.Nat.{ℕ, zero, suc, _+_, _-_, _%_, min, max}
 use mathlib.Core.List.{List, [], _∷_, _++_}
 use mathlib.Core.Bool.{cond}
-use lib.Dec.{eqb}
+use lib.Dec.{eqb, ltb}
 use lib.ListN.{getD, take, drop, replicate}
 use Rattle.kinds.specs.Numbers.{fileBlocks, unusedBlock}
 use Rattle.kinds.specs.Layout.{blockLength}
@@ -18,7 +18,7 @@ use Rattle.kinds.specs.declared.call.SetTime.the-variants as SetTime
 use Rattle.kinds.specs.declared.call.Settable.{Settable}
 use Rattle.spec.specs.Bytes.{overlay, zeros}
 use Rattle.spec.specs.Image.{Store, blockStart, objectAt, putObject, nameAt, putName, freeName}
-use Rattle.spec.specs.Room.{sizeOf, need, held, freeBlocks, byteAt}
+use Rattle.spec.specs.Room.{sizeOf, need, held, freeBlocks, namings, byteAt}
 
 -- a number that a call may set
 abbrev pub numberSet : SetNumber → ℕ → ℕ
@@ -146,18 +146,31 @@ withGeneration generation v =
       exclusive = v .exclusive;
     }
 
--- FOURTH EDIT: object v in the free record o, named `text` in directory d by the free name record n
-unfoldable pub createObject : Store → ℕ → ℕ → Object → ℕ → List ℕ → Store
-createObject s o n v d text =
-    putName (putObject s o (withGeneration (objectAt s o .generation) v)) n (record { directory = d; child = o; text = text })
+-- FOURTH EDIT: the free name record n names object o `text` in directory d
+abbrev pub addName : Store → ℕ → ℕ → ℕ → List ℕ → Store
+addName s n o d text = putName s n (record { directory = d; child = o; text = text })
 
--- FIFTH EDIT: the object that name record n names, its blocks and the name record are free. "Freeing an object raises its generation by one"
+-- FIFTH EDIT: object v in the free record o, with its first name
+unfoldable pub createObject : Store → ℕ → ℕ → Object → ℕ → List ℕ → Store
+createObject s o n v d text = addName (putObject s o (withGeneration (objectAt s o .generation) v)) n o d text
+
+-- SIXTH EDIT: name record n is free
+abbrev pub dropName : Store → ℕ → Store
+dropName s n = putName s n freeName
+
+-- SEVENTH EDIT: the object that name record n names, its blocks and the name record are free. "Freeing an object raises its generation by one"
 unfoldable pub removeObject : Store → ℕ → Store
 removeObject s n =
     let o = nameAt s n .child in
-    putName (putObject (clearBlocks s (held s o)) o (freeObject (objectAt s o .generation + 1))) n freeName
+    dropName (putObject (clearBlocks s (held s o)) o (freeObject (objectAt s o .generation + 1))) n
 
--- SIXTH EDIT: "The name record is rewritten in place"
+-- E7: "REMOVE, or a RENAME onto it, frees the object only with its last name, and otherwise sets its ctime."
+unfoldable pub removeName : Store → Time → ℕ → Store
+removeName s clock n =
+    let o = nameAt s n .child in
+    cond (ltb 1 (namings s o)) (dropName (setAttributes s clock o onlyCtime) n) (removeObject s n)
+
+-- EIGHTH EDIT: "The name record is rewritten in place"
 unfoldable pub moveName : Store → ℕ → ℕ → List ℕ → Store
 moveName s n d text = putName s n (record { directory = d; child = nameAt s n .child; text = text })
 

@@ -12,7 +12,7 @@ use Rattle.kinds.specs.declared.object.Before.{Before}
 use Rattle.kinds.specs.declared.object.Change.{Change}
 use Rattle.spec.specs.Bytes.{words, beAt}
 use Rattle.spec.specs.Image.{Store, stamp, objects, objectAt}
-use Rattle.spec.specs.Room.{isLive, isDirectory, sizeOf, need, subdirectories}
+use Rattle.spec.specs.Room.{isLive, isDirectory, sizeOf, need, namings, subdirectories}
 use Rattle.spec.specs.Names.{goodBytes}
 use Rattle.spec.specs.Checked.{Checked, refused, passed, _>>=_, _>>_, refuseIf}
 
@@ -52,9 +52,9 @@ sizeAttribute s o = cond (isDirectory s o) 512 (sizeOf s o)
 unfoldable pub usedBytes : Store → ℕ → ℕ
 usedBytes s o = blockLength * need (sizeOf s o)
 
--- "nlink: file 1, directory 2 plus its subdirectories."
+-- "nlink: .. directory 2 plus its subdirectories."; E7: "A file's nlink counts its names"
 unfoldable pub linkCount : Store → ℕ → ℕ
-linkCount s o = cond (isDirectory s o) (2 + subdirectories s o) 1
+linkCount s o = cond (isDirectory s o) (2 + subdirectories s o) (namings s o)
 
 -- "fsid is the stamp, fileid object plus 1"
 unfoldable pub attributes : Store → ℕ → Attributes
@@ -86,5 +86,12 @@ changeOf s t (refused status) = none
 changeOf s t (passed o) = some (change s t o)
 
 -- "Every optional attribute is present exactly when its handle .. is live"
+abbrev pub attributesOf : Store → Checked ℕ → Option Attributes
+attributesOf s (refused status) = none
+attributesOf s (passed o) = some (attributes s o)
+
+unfoldable pub handleAttributes : Store → List ℕ → Option Attributes
+handleAttributes s h = attributesOf s (reach s h)
+
 unfoldable pub handleChange : Store → Store → List ℕ → Option Change
 handleChange s t h = changeOf s t (reach s h)

@@ -10,7 +10,7 @@ use Rattle.kinds.specs.declared.object.Before.{Before}
 use Rattle.kinds.specs.declared.object.Change.{Change}
 use Rattle.spec.specs.Bytes.{words, opaqueBytes}
 use Rattle.spec.specs.Count.{bit}
-use Rattle.spec.specs.Results.{Entry, Result, null, dead, failed, changed, renamed, gotAttributes, found, granted, gotBytes, wrote, created}
+use Rattle.spec.specs.Results.{Entry, Result, null, dead, failed, changed, renamed, linked, gotAttributes, found, granted, gotBytes, wrote, created}
 use Rattle.spec.specs.Results.{listed, gotRoom, gotLimits, gotNaming, committed}
 
 -- uint64, as two words
@@ -30,6 +30,10 @@ fattr3 a =
 -- post_op_attr, where it is present
 unfoldable pub postOp : Attributes → List ℕ
 postOp a = 1 ∷ fattr3 a
+
+abbrev pub postOpOption : Option Attributes → List ℕ
+postOpOption none = 0 ∷ []
+postOpOption (some a) = postOp a
 
 -- pre_op_attr, where it is present: wcc_attr
 unfoldable pub preOp : Before → List ℕ
@@ -59,6 +63,7 @@ resultBytes p (dead status) = words (status ∷ replicate (getD zeroWords p 0) 0
 resultBytes p (failed status a) = words (status ∷ postOp a)
 resultBytes p (changed status c) = words (status ∷ wccData c)
 resultBytes p (renamed status c d) = words (status ∷ wccOption c ++ wccOption d)
+resultBytes p (linked status a c) = words (status ∷ postOpOption a ++ wccOption c)
 resultBytes p (gotAttributes a) = words (OK ∷ fattr3 a)
 resultBytes p (found h a d) = words (OK ∷ []) ++ opaqueBytes h ++ words (postOp a ++ postOp d)
 resultBytes p (granted a bits) = words (OK ∷ postOp a ++ (bits ∷ []))
@@ -70,10 +75,10 @@ resultBytes p (created h a d) = words (OK ∷ 1 ∷ []) ++ opaqueBytes h ++ word
 resultBytes p (listed a es eof) = words (OK ∷ postOp a ++ hyper 0) ++ entriesBytes es ++ words (0 ∷ bit eof ∷ [])
 resultBytes p (gotRoom a total free objects available) =
     words (OK ∷ postOp a ++ hyper total ++ hyper free ++ hyper free ++ hyper objects ++ hyper available ++ hyper available ++ (0 ∷ []))
--- "FSINFO: 4096, 4096, 1 for read and write, 4096, 8192, delta 0 s 1 ns, properties 0x18."
+-- "FSINFO: 4096, 4096, 1 for read and write, 4096, 8192, delta 0 s 1 ns"; E7: "properties 0x19"
 resultBytes p (gotLimits a) =
     words (OK ∷ postOp a ++ (mostTransferBytes ∷ mostTransferBytes ∷ 1 ∷ mostTransferBytes ∷ mostTransferBytes ∷ 1 ∷ mostTransferBytes ∷ hyper mostFileBytes)
     ++ (0 ∷ 1 ∷ fileSystemProperties ∷ []))
--- "PATHCONF: 1, 32, true, false, false, true."
+-- E7: "linkmax becomes 16"; "PATHCONF: .., 32, true, false, false, true."
 resultBytes p (gotNaming a) = words (OK ∷ postOp a ++ (mostLinks ∷ mostNameBytes ∷ 1 ∷ 0 ∷ 0 ∷ 1 ∷ []))
 resultBytes p (committed c verifier) = words (OK ∷ wccData c ++ hyper verifier)

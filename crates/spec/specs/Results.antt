@@ -26,6 +26,8 @@ pub data Result : Type 0 where
   changed : ℕ → Change → Result
   -- RENAME: the status and what became of both directories
   renamed : ℕ → Option Change → Option Change → Result
+  -- LINK: the status, the file's attributes and what became of the directory
+  linked : ℕ → Option Attributes → Option Change → Result
   -- GETATTR
   gotAttributes : Attributes → Result
   -- LOOKUP: the object's handle and attributes, and the directory's attributes

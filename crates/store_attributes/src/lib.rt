@@ -19,6 +19,7 @@ use store_records::object::mode_of;
 use store_records::object::mtime_of;
 use store_records::object::size_of;
 use store_records::object::uid_of;
+use store_search::name::naming_count;
 use store_search::name::subdirectory_count;
 
 // The size that is shown of a directory.
@@ -45,7 +46,7 @@ pub fn used_bytes(store: &[u8], o: ObjectNumber) -> u32
     (Block::BYTES * need(size_of(store, o) as usize)) as u32
 }
 
-// The links to an object: 1 to a file, 2 and its subdirectories to a directory.
+// The links to an object: the names of a file, 2 and its subdirectories to a directory.
 pub fn link_count(store: &[u8], o: ObjectNumber) -> u32
     requires { ⌜ GoodRecords (now store) ⌝ }
     requires { ⌜ o .0 < objects (now store) ⌝ }
@@ -54,7 +55,7 @@ pub fn link_count(store: &[u8], o: ObjectNumber) -> u32
     if is_directory(store, o) {
         return (2 + subdirectory_count(store, o)) as u32;
     }
-    1
+    naming_count(store, o) as u32
 }
 
 // The attributes of an object.

@@ -7,7 +7,7 @@ use native.Mathlib.Omega.{arith}
 use Rattle.kinds.specs.Numbers.{mostFileBytes}
 use Rattle.kinds.specs.declared.object.Object.{Object}
 use Rattle.spec.specs.Image.{Store, objects, names, blocks, objectAt, nameAt}
-use Rattle.spec.specs.Room.{isDirectory, isIn, isUsedName, sizeOf, subdirectories}
+use Rattle.spec.specs.Room.{isDirectory, isIn, isUsedName, sizeOf, isNaming, namings, subdirectories}
 use Rattle.laws.proofs.Count.{count-bound}
 use Rattle.laws.proofs.GoodKept.{used-of}
 use Rattle.laws.proofs.GoodRecords.{GoodRecords}
@@ -17,6 +17,10 @@ use Rattle.store_records.specs.Shaped.{Shaped, SoundNames}
 small : (r : ℕ) (v : Object) → GoodObject r v → v .size ≤ mostFileBytes
 small r v (_⊎_.inl f) = omega (arith, ap (λ (x : Object). x .size) f)
 small r v (_⊎_.inr l) = live-size r v l
+
+pub namings-few : (s : Store) (o : ℕ) → namings s o ≤ names s
+unfolding namings
+namings-few s o = count-bound (names s) (isNaming s o)
 
 pub subdirectories-few : (s : Store) (d : ℕ) → subdirectories s d ≤ names s
 unfolding subdirectories

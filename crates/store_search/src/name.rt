@@ -6,7 +6,7 @@ ghost use lib.ListN.{length};
 ghost use Rattle.kinds.specs.Layout.{nameRecordLength};
 ghost use Rattle.spec.specs.Count.{lowest};
 ghost use Rattle.spec.specs.Image.{names, nameStart, nameAt};
-ghost use Rattle.spec.specs.Room.{isUsedName, isNaming, isIn, isDirectory, availableName, subdirectories, parent};
+ghost use Rattle.spec.specs.Room.{isUsedName, isNaming, namings, isIn, isDirectory, availableName, subdirectories, parent};
 ghost use Rattle.store_records.specs.Shaped.{Shaped, SoundNames};
 ghost use Rattle.store_search.specs.Found.{foundName};
 ghost use Rattle.store_search.specs.Parents.{ParentTable};
@@ -46,16 +46,17 @@ pub fn find_free_name(store: &[u8]) -> FoundName
     FoundName::Nothing
 }
 
-// Whether a record is used, and names an object.
-fn is_naming(store: &[u8], n: NameNumber, o: ObjectNumber) -> bool
-    requires { ⌜ nameStart (now store) (n .0) + nameRecordLength ≤ length (now store) ⌝ }
+// Whether the record n, which starts at `at`, is used, and names an object.
+fn is_naming(store: &[u8], n: NameNumber, at: usize, o: ObjectNumber) -> bool
+    requires { ⌜ at ≡ nameStart (now store) (n .0) ⌝ }
+    requires { ⌜ at + nameRecordLength ≤ length (now store) ⌝ }
     ensures { λ r. ⌜ r ≡ isNaming (now (store .entry)) (o .0) (n .0) ⌝ }
 {
-    let child = name_child(store, n);
-    if child.0 != o.0 {
+    let child = wire::get_u32(store, at + NameRecord::CHILD) as usize;
+    if child != o.0 {
         return false;
     }
-    is_used_name(store, n)
+    wire::get_u32(store, at + NameRecord::LENGTH) != 0
 }
 
 // The lowest-numbered record that names an object.
@@ -64,14 +65,33 @@ pub fn find_naming(store: &[u8], o: ObjectNumber) -> FoundName
     ensures { λ r. ⌜ foundName r ≡ lowest (names (now (store .entry))) (isNaming (now (store .entry)) (o .0)) ⌝ }
 {
     let total = name_count(store);
+    let mut at = names_start(store);
     let mut i = 0;
     while i < total {
-        if is_naming(store, NameNumber(i), o) {
+        if is_naming(store, NameNumber(i), at, o) {
             return FoundName::At(NameNumber(i));
         }
+        at += NameRecord::BYTES;
         i += 1;
     }
     FoundName::Nothing
+}
+
+// The names of an object.
+pub fn naming_count(store: &[u8], o: ObjectNumber) -> usize
+    requires { ⌜ Shaped (now store) ⌝ }
+    ensures { λ r. ⌜ r ≡ namings (now (store .entry)) (o .0) ⌝ }
+{
+    let total = name_count(store);
+    let mut at = names_start(store);
+    let mut found = 0;
+    let mut i = 0;
+    while i < total {
+        found += one_if(is_naming(store, NameNumber(i), at, o));
+        at += NameRecord::BYTES;
+        i += 1;
+    }
+    found
 }
 
 // The directory that an object is in; the root, which has no name, is in itself.

@@ -25,7 +25,8 @@ fn narrow(n: usize) -> u32
 pub fn search(numbers: &mut Numbers, store: &[u8], call: &[u8]) -> Answer {
     let mut used = [0u8; Limit::MOST_BLOCKS];
     let mut parents = [0u8; Limit::MOST_OBJECTS];
-    let Found::Good(_) = check_store(store, &mut used, &mut parents) else {
+    let mut links = [0u8; Limit::MOST_OBJECTS];
+    let Found::Good(_) = check_store(store, &mut used, &mut parents, &mut links) else {
         return Answer {
             number: NO_ENTRY,
             length: 0,

@@ -115,35 +115,35 @@ rename-requires c κs =
 enum-known-a-12 : tie.Need-enum-known-a-12
 enum-known-a-12 c = search needs
 
-readdir-requires : tie.Need-readdir-requires
-readdir-requires c κs =
+link-requires : tie.Need-link-requires
+link-requires c κs =
     let st = c .before .before .before .before .before .before in
     let w = subst (Within (length (st .args .call .now))) (c .before .before .a12 .given .1) (st .pre .1 .0) in
-    (ready-records (st .pre .0), w)
+    (st .pre .0 .valid, (ready-records (st .pre .0), (st .pre .0 .clock, w)))
 
 enum-known-a-13 : tie.Need-enum-known-a-13
 enum-known-a-13 c = search needs
 
-fsstat-requires : tie.Need-fsstat-requires
-fsstat-requires c κs =
+readdir-requires : tie.Need-readdir-requires
+readdir-requires c κs =
     let st = c .before .before .before .before .before .before in
     let w = subst (Within (length (st .args .call .now))) (c .before .before .a13 .given .1) (st .pre .1 .0) in
-    (ready-records (st .pre .0), (w, st .pre .0 .map))
+    (ready-records (st .pre .0), w)
 
 enum-known-a-14 : tie.Need-enum-known-a-14
 enum-known-a-14 c = search needs
 
-fsinfo-requires : tie.Need-fsinfo-requires
-fsinfo-requires c κs =
+fsstat-requires : tie.Need-fsstat-requires
+fsstat-requires c κs =
     let st = c .before .before .before .before .before .before in
     let w = subst (Within (length (st .args .call .now))) (c .before .before .a14 .given .1) (st .pre .1 .0) in
-    (ready-records (st .pre .0), w)
+    (ready-records (st .pre .0), (w, st .pre .0 .map))
 
 enum-known-a-15 : tie.Need-enum-known-a-15
 enum-known-a-15 c = search needs
 
-pathconf-requires : tie.Need-pathconf-requires
-pathconf-requires c κs =
+fsinfo-requires : tie.Need-fsinfo-requires
+fsinfo-requires c κs =
     let st = c .before .before .before .before .before .before in
     let w = subst (Within (length (st .args .call .now))) (c .before .before .a15 .given .1) (st .pre .1 .0) in
     (ready-records (st .pre .0), w)
@@ -151,10 +151,19 @@ pathconf-requires c κs =
 enum-known-a-16 : tie.Need-enum-known-a-16
 enum-known-a-16 c = search needs
 
+pathconf-requires : tie.Need-pathconf-requires
+pathconf-requires c κs =
+    let st = c .before .before .before .before .before .before in
+    let w = subst (Within (length (st .args .call .now))) (c .before .before .a16 .given .1) (st .pre .1 .0) in
+    (ready-records (st .pre .0), w)
+
+enum-known-a-17 : tie.Need-enum-known-a-17
+enum-known-a-17 c = search needs
+
 commit-requires : tie.Need-commit-requires
 commit-requires c κs =
     let st = c .before .before .before .before .before .before in
-    let w = subst (Within (length (st .args .call .now))) (c .before .before .a16 .given .1) (st .pre .1 .0) in
+    let w = subst (Within (length (st .args .call .now))) (c .before .before .a17 .given .1) (st .pre .1 .0) in
     (ready-records (st .pre .0), w)
 
 enum-told-2 : tie.Need-enum-told-2
@@ -282,9 +291,9 @@ same-length-12 c = search needs
 returns-13 : tie.Need-returns-13
 unfolding act
 returns-13 c =
-    let a = c .before .before .before .before .before .before .before .args in
-    reading (a .store .now) (a .context) (a .call .now) (a .a) _ (c .readdir .result) (c .before .before .before .a12 .given .1) (readdir-store _ _ _ _ _)
-    (c .readdir .ensures)
+    let a = c .before .before .before .before .before .before .before .before .before .args in
+    told (a .store .now) (a .context) (a .call .now) (a .a) _ _ _ (c .before .before .before .before .before .a12 .given .1)
+    (c .before .before .link .ensures)
 
 same-length-13 : tie.Need-same-length-13
 same-length-13 c = search needs
@@ -293,8 +302,8 @@ returns-14 : tie.Need-returns-14
 unfolding act
 returns-14 c =
     let a = c .before .before .before .before .before .before .before .args in
-    reading (a .store .now) (a .context) (a .call .now) (a .a) _ (c .fsstat .result) (c .before .before .before .a13 .given .1) (fsstat-store _ _)
-    (c .fsstat .ensures)
+    reading (a .store .now) (a .context) (a .call .now) (a .a) _ (c .readdir .result) (c .before .before .before .a13 .given .1) (readdir-store _ _ _ _ _)
+    (c .readdir .ensures)
 
 same-length-14 : tie.Need-same-length-14
 same-length-14 c = search needs
@@ -303,8 +312,8 @@ returns-15 : tie.Need-returns-15
 unfolding act
 returns-15 c =
     let a = c .before .before .before .before .before .before .before .args in
-    reading (a .store .now) (a .context) (a .call .now) (a .a) _ (c .fsinfo .result) (c .before .before .before .a14 .given .1) (fsinfo-store _ _)
-    (c .fsinfo .ensures)
+    reading (a .store .now) (a .context) (a .call .now) (a .a) _ (c .fsstat .result) (c .before .before .before .a14 .given .1) (fsstat-store _ _)
+    (c .fsstat .ensures)
 
 same-length-15 : tie.Need-same-length-15
 same-length-15 c = search needs
@@ -313,8 +322,8 @@ returns-16 : tie.Need-returns-16
 unfolding act
 returns-16 c =
     let a = c .before .before .before .before .before .before .before .args in
-    reading (a .store .now) (a .context) (a .call .now) (a .a) _ (c .pathconf .result) (c .before .before .before .a15 .given .1) (pathconf-store _ _)
-    (c .pathconf .ensures)
+    reading (a .store .now) (a .context) (a .call .now) (a .a) _ (c .fsinfo .result) (c .before .before .before .a15 .given .1) (fsinfo-store _ _)
+    (c .fsinfo .ensures)
 
 same-length-16 : tie.Need-same-length-16
 same-length-16 c = search needs
@@ -323,12 +332,22 @@ returns-17 : tie.Need-returns-17
 unfolding act
 returns-17 c =
     let a = c .before .before .before .before .before .before .before .args in
-    reading (a .store .now) (a .context) (a .call .now) (a .a) _ (c .commit .result) (c .before .before .before .a16 .given .1) (commit-store _ _ _)
-    (c .commit .ensures)
+    reading (a .store .now) (a .context) (a .call .now) (a .a) _ (c .pathconf .result) (c .before .before .before .a16 .given .1) (pathconf-store _ _)
+    (c .pathconf .ensures)
+
+same-length-17 : tie.Need-same-length-17
+same-length-17 c = search needs
 
 returns-18 : tie.Need-returns-18
 unfolding act
 returns-18 c =
+    let a = c .before .before .before .before .before .before .before .args in
+    reading (a .store .now) (a .context) (a .call .now) (a .a) _ (c .commit .result) (c .before .before .before .a17 .given .1) (commit-store _ _ _)
+    (c .commit .ensures)
+
+returns-19 : tie.Need-returns-19
+unfolding act
+returns-19 c =
     let a = c .before .before .before .before .args in
     reading (a .store .now) (a .context) (a .call .now) (a .a) _ _ (c .enum-told2 .given .1) refl (refl, tt)
 
@@ -336,8 +355,8 @@ pub run-spec : {M : Type 1} → statement M
 run-spec =
     tie.close (tie.spec enum-told enum-known-a getattr-requires enum-known-a-2 setattr-requires enum-known-a-3 lookup-requires enum-known-a-4
     access-requires enum-known-a-5 read-requires enum-known-a-6 write-requires enum-known-a-7 create-requires enum-known-a-8 mkdir-requires
-    enum-known-a-9 remove-requires enum-known-a-10 rmdir-requires enum-known-a-11 rename-requires enum-known-a-12 readdir-requires
-    enum-known-a-13 fsstat-requires enum-known-a-14 fsinfo-requires enum-known-a-15 pathconf-requires enum-known-a-16 commit-requires enum-told-2
+    enum-known-a-9 remove-requires enum-known-a-10 rmdir-requires enum-known-a-11 rename-requires enum-known-a-12 link-requires enum-known-a-13 readdir-requires
+    enum-known-a-14 fsstat-requires enum-known-a-15 fsinfo-requires enum-known-a-16 pathconf-requires enum-known-a-17 commit-requires enum-told-2
     returns same-length returns-2 same-length-2 returns-3 same-length-3 returns-4 same-length-4 returns-5 same-length-5 returns-6 same-length-6
     returns-7 same-length-7 returns-8 same-length-8 returns-9 same-length-9 returns-10 same-length-10 returns-11 same-length-11 returns-12
-    same-length-12 returns-13 same-length-13 returns-14 same-length-14 returns-15 same-length-15 returns-16 same-length-16 returns-17 returns-18)
+    same-length-12 returns-13 same-length-13 returns-14 same-length-14 returns-15 same-length-15 returns-16 same-length-16 returns-17 same-length-17 returns-18 returns-19)

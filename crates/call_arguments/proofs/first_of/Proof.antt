@@ -73,8 +73,13 @@ returns-17 c = rw (c .match .keys17) tt
 
 returns-18 : tie.Need-returns-18
 unfolding form
-returns-18 c =
+returns-18 c = rw (c .match .keys18) tt
+
+returns-19 : tie.Need-returns-19
+unfolding form
+returns-19 c =
     rw (
+      ne-eqb _ _ (c .match .rest .0 .0 .0 .0 .0 .0 .0 .0 .0 .0 .0 .0 .0 .0 .0 .0 .0 .1),
       ne-eqb _ _ (c .match .rest .0 .0 .0 .0 .0 .0 .0 .0 .0 .0 .0 .0 .0 .0 .0 .0 .1),
       ne-eqb _ _ (c .match .rest .0 .0 .0 .0 .0 .0 .0 .0 .0 .0 .0 .0 .0 .0 .0 .1),
       ne-eqb _ _ (c .match .rest .0 .0 .0 .0 .0 .0 .0 .0 .0 .0 .0 .0 .0 .0 .1),
@@ -115,4 +120,5 @@ first-of-spec =
     returns-15
     returns-16
     returns-17
-    returns-18)
+    returns-18
+    returns-19)

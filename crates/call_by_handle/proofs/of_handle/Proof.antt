@@ -41,6 +41,9 @@ read-requires c κs = search needs
 write-requires : tie.Need-write-requires
 write-requires c κs = search needs
 
+link-requires : tie.Need-link-requires
+link-requires c κs = search needs
+
 readdir-requires : tie.Need-readdir-requires
 readdir-requires c κs = search needs
 
@@ -105,7 +108,7 @@ returns-7 : tie.Need-returns-7
 unfolding arguments form
 returns-7 c = rw (
   c .before .match2 .keys6,
-  c .readdir .ensures,
+  c .link .ensures,
   ← c .before .before .before .before .before .handle .ensures,
   c .before .before .before .answer .given .1,
 )
@@ -114,7 +117,7 @@ returns-8 : tie.Need-returns-8
 unfolding arguments form
 returns-8 c = rw (
   c .before .match2 .keys7,
-  c .finish2 .ensures,
+  c .readdir .ensures,
   ← c .before .before .before .before .before .handle .ensures,
   c .before .before .before .answer .given .1,
 )
@@ -123,7 +126,7 @@ returns-9 : tie.Need-returns-9
 unfolding arguments form
 returns-9 c = rw (
   c .before .match2 .keys8,
-  c .finish3 .ensures,
+  c .finish2 .ensures,
   ← c .before .before .before .before .before .handle .ensures,
   c .before .before .before .answer .given .1,
 )
@@ -132,14 +135,23 @@ returns-10 : tie.Need-returns-10
 unfolding arguments form
 returns-10 c = rw (
   c .before .match2 .keys9,
-  c .finish4 .ensures,
+  c .finish3 .ensures,
   ← c .before .before .before .before .before .handle .ensures,
   c .before .before .before .answer .given .1,
 )
 
 returns-11 : tie.Need-returns-11
+unfolding arguments form
+returns-11 c = rw (
+  c .before .match2 .keys10,
+  c .finish4 .ensures,
+  ← c .before .before .before .before .before .handle .ensures,
+  c .before .before .before .answer .given .1,
+)
+
+returns-12 : tie.Need-returns-12
 unfolding arguments
-returns-11 c =
+returns-12 c =
     let st = c .before .before .before .before .before .before .before in
     rw (
       last (st .args .procedure) (st .pre) (c .before .match2 .rest),
@@ -162,6 +174,7 @@ of-handle-spec =
     access-requires
     read-requires
     write-requires
+    link-requires
     readdir-requires
     finish-requires-2
     finish-requires-3
@@ -176,4 +189,5 @@ of-handle-spec =
     returns-8
     returns-9
     returns-10
-    returns-11)
+    returns-11
+    returns-12)

@@ -1,7 +1,9 @@
-use mathlib.Core.Path.{refl, _∙_}
+use mathlib.Core.Path.{refl, sym, _∙_}
+use native.Mathlib.Omega.{arith}
+use borrow.Author.Tests.{not-true, not-false}
 use Rattle.kinds.specs.Numbers.{mostBlocks, mostObjects}
 use Rattle.fsck.proofs.Filled.{blank-of}
-use Rattle.convert.proofs.Front.{front-made}
+use Rattle.convert.proofs.Front.{front-made, front-fails, front-answers}
 use borrow.Author.Needs.{needs}
 use Rattle.convert.proofs.becomes_good.Statement.{statement}
 use Rattle.convert.proofs.becomes_good.Tie as tie
@@ -41,26 +43,46 @@ part-records-pass-end c = search needs
 
 records-pass-requires : tie.Need-records-pass-requires
 records-pass-requires c κs =
-    let w = c .before .before .before .before .before .before in
-    let st = w .before .before .before .before in
-    let a = st .args in
-    let h = st .pre in
-    let f = front-made (a .old .now) (a .p) (a .q) (a .r) (h .0) (h .1 .0) (h .1 .1 .0) (h .1 .1 .1 .0) (a .room .now) _ _ (h .1 .1 .1 .1) refl
-    (w .lengthen .ensures) in
-    (f .framed, (f .objects, (f .names, (f .blocks, (blank-of mostBlocks, blank-of mostObjects)))))
-
-same-length : tie.Need-same-length
-same-length c = search needs
-
-returns : tie.Need-returns
-returns c =
     let w = c .before .before .before .before .before .before .before in
     let st = w .before .before .before .before in
     let a = st .args in
     let h = st .pre in
     let f = front-made (a .old .now) (a .p) (a .q) (a .r) (h .0) (h .1 .0) (h .1 .1 .0) (h .1 .1 .1 .0) (a .room .now) _ _ (h .1 .1 .1 .1) refl
     (w .lengthen .ensures) in
-    c .records-pass .ensures .is ∙ f .passing
+    (f .framed, (f .objects, (f .names, (f .blocks, (blank-of mostBlocks, (blank-of mostObjects, blank-of mostObjects))))))
+
+same-length : tie.Need-same-length
+same-length c = search needs
+
+returns : tie.Need-returns
+returns c =
+    let w = c .before .before .before .before .before .before .before .before .before in
+    let st = w .before .before .before .before in
+    let a = st .args in
+    let h = st .pre in
+    let f = front-made (a .old .now) (a .p) (a .q) (a .r) (h .0) (h .1 .0) (h .1 .1 .0) (h .1 .1 .1 .0) (a .room .now) _ _ (h .1 .1 .1 .1) refl
+    (w .lengthen .ensures) in
+    front-fails (a .old .now) (a .p) (a .q) (a .r) _ f (sym (c .before .records-pass .ensures .is) ∙ not-true _ (c .if1 .taken))
+
+named-once-requires : tie.Need-named-once-requires
+named-once-requires c κs =
+    let h = c .before .before .before .before .before .before .before .before .before .before .before .before .before .before .pre in
+    omega (arith, h .0 .few-objects, h .1 .0)
+
+same-length-2 : tie.Need-same-length-2
+same-length-2 c = search needs
+
+returns-2 : tie.Need-returns-2
+returns-2 c =
+    let w = c .before .before .before .before .before .before .before .before .before .before .before in
+    let st = w .before .before .before .before in
+    let a = st .args in
+    let h = st .pre in
+    let f = front-made (a .old .now) (a .p) (a .q) (a .r) (h .0) (h .1 .0) (h .1 .1 .0) (h .1 .1 .1 .0) (a .room .now) _ _ (h .1 .1 .1 .1) refl
+    (w .lengthen .ensures) in
+    let v = c .before .before .before .records-pass .ensures in
+    let e = sym (v .is) ∙ not-false _ (c .before .before .if1 .left) in
+    c .named-once .ensures ∙ front-answers (a .old .now) (a .p) (a .q) (a .r) _ _ f (h .1 .0) e (v .linked e)
 
 pub becomes-good-spec : {M : Type 1} → statement M
 becomes-good-spec =
@@ -79,4 +101,7 @@ becomes-good-spec =
     part-records-pass-end
     records-pass-requires
     same-length
-    returns)
+    returns
+    named-once-requires
+    same-length-2
+    returns-2)

@@ -29,8 +29,10 @@ becomes-good-requires c κs =
 
 returns-2 : tie.Need-returns-2
 returns-2 c =
-    let a = c .before .before .before .before .before .before .before .before .before .args in
-    leaves-bad (a .old .now) (a .store .now) (sym (not-true _ (c .if1 .taken)) ∙ c .before .becomes-good .ensures)
+    let w = c .before .before .before .before in
+    let a = w .before .before .before .before .before .args in
+    let y = shape-yes (a .old .now) (w .found .given .0 .0) (sym (w .before .before .shape .ensures) ∙ w .found .given .1) in
+    leaves-bad (a .old .now) (a .store .now) (y .passes) (sym (not-true _ (c .if1 .taken)) ∙ c .before .becomes-good .ensures)
 
 mul-if2 : tie.Need-mul-if2
 mul-if2 c =

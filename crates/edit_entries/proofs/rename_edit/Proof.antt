@@ -16,8 +16,8 @@ enum-told-2 c = search needs
 enum-known-onto : tie.Need-enum-known-onto
 enum-known-onto c = search needs
 
-remove-object-requires : tie.Need-remove-object-requires
-remove-object-requires c κs =
+remove-name-requires : tie.Need-remove-name-requires
+remove-name-requires c κs =
     let start = c .before .before .before .before .before .before in
     let k = rw (c .before .before .onto .given .1) at (start .pre .1 .0) in
     (start .pre .0, (k .name, k .used))
@@ -26,7 +26,7 @@ move-edit-requires-2 : tie.Need-move-edit-requires-2
 move-edit-requires-2 c κs =
     let start = c .before .before .before .before .before .before .before .before .before .before in
     let k = rw (c .before .before .before .before .before .before .onto .given .1) at (start .pre .1 .0) in
-    rw (c .before .before .before .remove-object .ensures) (k .good, (k .movable, start .pre .1 .1))
+    rw (c .before .before .before .remove-name .ensures) (k .good, (k .movable, start .pre .1 .1))
 
 same-length : tie.Need-same-length
 same-length c = search needs
@@ -44,7 +44,7 @@ returns-3 : tie.Need-returns-3
 returns-3 c = rw (
   c .before .before .before .before .before .before .before .before .before .onto .given .1,
   c .before .before .move-edit2 .ensures,
-  c .before .before .before .before .before .before .remove-object .ensures,
+  c .before .before .before .before .before .before .remove-name .ensures,
 )
 
 pub rename-edit-spec : {M : Type 1} → statement M
@@ -55,7 +55,7 @@ rename-edit-spec =
     move-edit-requires
     enum-told-2
     enum-known-onto
-    remove-object-requires
+    remove-name-requires
     move-edit-requires-2
     same-length
     returns

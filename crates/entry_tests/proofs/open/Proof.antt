@@ -30,7 +30,7 @@ returns-3 c =
     long-call (a .call .now) (a .store .now) (a .reply .now) (a .context) (c .before .before .before .if1 .left) (c .before .if2 .left) (c .if3 .taken)
 
 check-store-requires : tie.Need-check-store-requires
-check-store-requires c κs = (c .before .before .before .before .before .before .before .before .before .before .pre, blank-of mostObjects)
+check-store-requires c κs = (c .before .before .before .before .before .before .before .before .before .before .before .pre, (blank-of mostObjects, blank-of mostObjects))
 
 enum-told : tie.Need-enum-told
 enum-told c = search needs
@@ -40,10 +40,10 @@ enum-told-2 c = search needs
 
 returns-4 : tie.Need-returns-4
 returns-4 c =
-    let a = c .before .before .before .before .before .before .before .before .before .before .before .before .before .args in
+    let a = c .before .before .before .before .before .before .before .before .before .before .before .before .before .before .args in
     let s = a .store .now in
-    bad-store (a .call .now) s (a .reply .now) (a .context) (c .before .before .before .before .before .before .before .before .if1 .left)
-    (c .before .before .before .before .before .before .if2 .left) (c .before .before .before .before .before .if3 .left)
+    bad-store (a .call .now) s (a .reply .now) (a .context) (c .before .before .before .before .before .before .before .before .before .if1 .left)
+    (c .before .before .before .before .before .before .before .if2 .left) (c .before .before .before .before .before .before .if3 .left)
     (bad-fails s (sym (c .enum-told2 .given .1) ∙ c .before .before .check-store .ensures .is))
 
 read-call-requires : tie.Need-read-call-requires
@@ -61,7 +61,7 @@ place-requires c κs = search needs
 fault-requires : tie.Need-fault-requires
 fault-requires c κs =
     let after-read-call = c .before .before .before in
-    let else3 = after-read-call .before .before .before .before .before .before in
+    let else3 = after-read-call .before .before .before .before .before .before .before in
     let a = else3 .before .before .before .before .before .before .before .before .args in
     let k = inside-header .place (a .call .now) 0 (omega arith) in
     omega (arith, c .place .ensures, ap placeOf (after-read-call .read-call .ensures .0), k, else3 .if3 .left)
@@ -72,7 +72,7 @@ returns-5 c =
     let after-read-call = after-enum-told3 .before .before in
     let after-enum-told = after-read-call .before in
     let after-check-store = after-enum-told .before .before in
-    let else3 = after-check-store .before .before .before in
+    let else3 = after-check-store .before .before .before .before in
     let else2 = else3 .before in
     let else1 = else2 .before .before in
     let start = else1 .before .before .before .before .before in
@@ -93,7 +93,7 @@ returns-6 c =
     let after-read-call = c .before .before .before in
     let after-enum-told = after-read-call .before in
     let after-check-store = after-enum-told .before .before in
-    let else3 = after-check-store .before .before .before in
+    let else3 = after-check-store .before .before .before .before in
     let else2 = else3 .before in
     let after-struct-known = else2 .before in
     let else1 = after-struct-known .before in

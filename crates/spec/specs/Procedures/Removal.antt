@@ -9,7 +9,7 @@ use Rattle.kinds.specs.declared.object.Change.{Change}
 use Rattle.kinds.specs.declared.object.Context.{Context}
 use Rattle.spec.specs.Checked.{Checked, _>>=_, _>>_, refuseIf, present, passed}
 use Rattle.spec.specs.Count.{some-below}
-use Rattle.spec.specs.Edits.{setAttributes, onlyCtime, removeObject, moveName}
+use Rattle.spec.specs.Edits.{setAttributes, onlyCtime, removeName, moveName}
 use Rattle.spec.specs.Handles.{reachDirectory, checkName, change, handleChange}
 use Rattle.spec.specs.Image.{Store, objects, names, nameAt}
 use Rattle.spec.specs.Names.{isDots}
@@ -47,7 +47,7 @@ checkRmdir s h text = do
   passed (d, n)
 
 unfoldable pub removeFrom : Store → Context → List ℕ → Checked (ℕ × ℕ) → Done
-removeFrom s c h checks = settle s (failChanging s h) checks (λ p. edited s (p .0) (touchDirectory (removeObject s (p .1)) c (p .0)))
+removeFrom s c h checks = settle s (failChanging s h) checks (λ p. edited s (p .0) (touchDirectory (removeName s (c .clock) (p .1)) c (p .0)))
 
 unfoldable pub remove : Store → Context → List ℕ → List ℕ → Done
 remove s c h text = removeFrom s c h (checkRemove s h text)
@@ -108,7 +108,7 @@ moveEdit s c d e n title =
 abbrev pub renameEdit : Store → Context → ℕ → ℕ → ℕ → Onto → List ℕ → Store
 renameEdit s c d e n newName title = moveEdit s c d e n title
 renameEdit s c d e n sameObject title = s
-renameEdit s c d e n (replacing m) title = moveEdit (removeObject s m) c d e n title
+renameEdit s c d e n (replacing m) title = moveEdit (removeName s (c .clock) m) c d e n title
 
 abbrev pub renamedOr : ℕ → Option Change → Option Change → Result
 renamedOr status none none = dead status

@@ -3,7 +3,7 @@ use borrow.Author.Needs.{needs}
 use Rattle.spec.specs.Results.{changed}
 use Rattle.kinds.specs.declared.object.Change.{Change}
 use Rattle.kinds.specs.Numbers.{OK}
-use Rattle.act_remove.proofs.Acts.{still-showable, change-made}
+use Rattle.results.proofs.Edited.{still-showable, change-made}
 use Rattle.act_remove.proofs.act.remove_entry.Statement.{statement}
 use Rattle.act_remove.proofs.act.remove_entry.Tie as tie
 

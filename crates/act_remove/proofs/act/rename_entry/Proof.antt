@@ -7,7 +7,7 @@ use Rattle.spec.specs.Results.{renamed}
 use Rattle.kinds.specs.declared.object.Change.{Change}
 use Rattle.kinds.specs.Numbers.{OK}
 use Rattle.check_rename.specs.Meaning.{ontoOf}
-use Rattle.act_remove.proofs.Acts.{still-showable, change-made}
+use Rattle.results.proofs.Edited.{still-showable, change-made}
 use Rattle.act_remove.proofs.act.rename_entry.Statement.{statement}
 use Rattle.act_remove.proofs.act.rename_entry.Tie as tie
 

@@ -23,7 +23,7 @@ returns c =
 
 records-pass-requires : tie.Need-records-pass-requires
 records-pass-requires c κs =
-    let after-found = c .before .before .before in
+    let after-found = c .before .before .before .before in
     let start = after-found .before .before .before .before in
     let s = start .args .store .now in
     let y = shape-yes s (after-found .found .given .0 .0) (sym (after-found .before .before .shape .ensures) ∙ after-found .found .given .1) in (
@@ -32,21 +32,21 @@ records-pass-requires c κs =
         ap (λ (x : Counts). x .objects) (y .1),
         (
           ap (λ (x : Counts). x .names) (y .1),
-          (ap (λ (x : Counts). x .blocks) (y .1), (start .pre .0, start .pre .1)),
+          (ap (λ (x : Counts). x .blocks) (y .1), (start .pre .0, (start .pre .1 .0, start .pre .1 .1))),
         ),
       ),
     )
 
 returns-2 : tie.Need-returns-2
 returns-2 c =
-    let after-found = c .before .before .before .before .before in
+    let after-found = c .before .before .before .before .before .before in
     let s = after-found .before .before .before .before .args .store .now in
     let y = shape-yes s (after-found .found .given .0 .0) (sym (after-found .before .before .shape .ensures) ∙ after-found .found .given .1) in
     checked-records-bad s _ (y .0) (sym (c .before .records-pass .ensures .is) ∙ not-true _ (c .if1 .taken))
 
 returns-3 : tie.Need-returns-3
 returns-3 c =
-    let after-found = c .before .before .before .before .before in
+    let after-found = c .before .before .before .before .before .before in
     let s = after-found .before .before .before .before .args .store .now in
     let k = after-found .found .given .0 .0 in
     let y = shape-yes s k (sym (after-found .before .before .shape .ensures) ∙ after-found .found .given .1) in

@@ -1,6 +1,6 @@
 use borrow.Author.Tests.{not-true, not-false}
 use Rattle.spec.specs.Count.{every}
-use Rattle.spec.specs.Check.{isNamedOnce, leadsToRoot}
+use Rattle.spec.specs.Check.{goodNamings, leadsToRoot}
 use Rattle.laws.proofs.Count.{every-more}
 use Rattle.fsck_objects.proofs.Passes.{told-true, told-false}
 use Rattle.fsck.specs.Tree.{TreePasses}
@@ -51,7 +51,7 @@ loop-again c =
       omega arith,
       record {
         known = f .known;
-        named = every-more (isNamedOnce s) (l .loop .o) (l .loop .inv .1 .named) (f .named);
+        named = every-more (goodNamings s) (l .loop .o) (l .loop .inv .1 .named) (f .named);
         leads = every-more (leadsToRoot s) (l .loop .o) (l .loop .inv .1 .leads) (f .leads);
       },
     )

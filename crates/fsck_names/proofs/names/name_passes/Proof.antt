@@ -30,21 +30,21 @@ returns-2 c =
     let a = st .args in
     let s = a .store .now in
     let g = sym (c .before .before .record-passes .ensures) ∙ not-false _ (c .before .if1 .left) in
-    told-true (names-free s (a .n .0) (a .parents .now) (a .head .now) (a .next .now) (st .pre .1 .1 .1 .0) g
+    told-true (names-free s (a .n .0) (a .parents .now) (a .links .now) (a .head .now) (a .next .now) (st .pre .1 .1 .1 .0) g
     (false-used s (a .n .0) (sym (c .before .before .before .length-of .ensures) ∙ c .if2 .taken)))
 
 mark-child-requires : tie.Need-mark-child-requires
 mark-child-requires c κs =
-    let st = c .before .before .before .before .before .before .before in
-    let a = st .args in
-    let s = a .store .now in
-    let g = sym (c .before .before .before .before .record-passes .ensures) ∙ not-false _ (c .before .before .before .if1 .left) in
-    let u = true-used s (a .n .0) (omega (
-      arith,
-      c .before .before .if2 .left,
-      c .before .before .before .before .before .length-of .ensures,
-    )) in
-    (st .pre .0, (st .pre .1 .0, (st .pre .1 .1 .0, (used-passes s (a .n .0) (st .pre .0) (st .pre .1 .1 .0) u g, st .pre .1 .1 .1 .0 .named))))
+    let else2 = c .before .before .before in
+    let else1 = else2 .before in
+    let after-length-of = else1 .before .before in
+    let start = after-length-of .before .before in
+    let h = start .pre in
+    let s = start .args .store .now in
+    let n = start .args .n .0 in
+    let g = sym (else1 .before .record-passes .ensures) ∙ not-false _ (else1 .if1 .left) in
+    let u = true-used s n (omega (arith, else2 .if2 .left, after-length-of .length-of .ensures)) in
+    (h .0, (h .1 .0, (h .1 .1 .0, (used-passes s n (h .0) (h .1 .1 .0) u g, (h .1 .1 .1 .0 .named, h .1 .1 .1 .0 .linked)))))
 
 returns-3 : tie.Need-returns-3
 returns-3 c = told-false (c .before .mark-child .ensures .no (not-true _ (c .if3 .taken)))
@@ -54,24 +54,24 @@ hash-of-requires c κs = search needs
 
 is-new-requires : tie.Need-is-new-requires
 is-new-requires c κs =
-    let st = c .before .before .before .before .before .before .before .before .before .before .before in
-    let a = st .args in
-    let s = a .store .now in
-    let g = sym (c .before .before .before .before .before .before .before .before .record-passes .ensures) ∙ not-false _
-    (c .before .before .before .before .before .before .before .if1 .left) in
-    let u = true-used s (a .n .0) (omega (
-      arith,
-      c .before .before .before .before .before .before .if2 .left,
-      c .before .before .before .before .before .before .before .before .before .length-of .ensures,
-    )) in
-    let w : New s (a .n .0) (c .before .before .before .before .before .hash-of .result) = record {
-      below = st .pre .1 .1 .0;
-      itself = used-passes s (a .n .0) (st .pre .0) (st .pre .1 .1 .0) u g;
-      before = st .pre .1 .1 .1 .0 .good;
-      hashed = c .before .before .before .before .before .hash-of .ensures .0;
-      small = c .before .before .before .before .before .hash-of .ensures .1;
+    let after-hash-of = c .before .before .before .before .before .before in
+    let else2 = after-hash-of .before in
+    let else1 = else2 .before in
+    let after-length-of = else1 .before .before in
+    let start = after-length-of .before .before in
+    let h = start .pre in
+    let s = start .args .store .now in
+    let n = start .args .n .0 in
+    let g = sym (else1 .before .record-passes .ensures) ∙ not-false _ (else1 .if1 .left) in
+    let u = true-used s n (omega (arith, else2 .if2 .left, after-length-of .length-of .ensures)) in
+    let w : New s n (after-hash-of .hash-of .result) = record {
+      below = h .1 .1 .0;
+      itself = used-passes s n (h .0) (h .1 .1 .0) u g;
+      before = h .1 .1 .1 .0 .good;
+      hashed = after-hash-of .hash-of .ensures .0;
+      small = after-hash-of .hash-of .ensures .1;
     } in
-    (st .pre .0, (st .pre .1 .0, (w, st .pre .1 .1 .1 .0 .chains)))
+    (h .0, (h .1 .0, (w, h .1 .1 .1 .0 .chains)))
 
 returns-4 : tie.Need-returns-4
 returns-4 c = told-false (c .before .is-new .ensures .no (not-true _ (c .if4 .taken)))
@@ -85,7 +85,7 @@ returns-5 c =
     let after-is-new = else4 .before in
     let else3 = after-is-new .before .before .before in
     let after-mark-child = else3 .before in
-    let after-hash-of = after-mark-child .before .before in
+    let after-hash-of = after-mark-child .before .before .before in
     let else2 = after-hash-of .before in
     let else1 = else2 .before in
     let after-record-passes = else1 .before in
@@ -107,7 +107,7 @@ returns-5 c =
     let f = after-is-new .is-new .ensures .yes (not-false _ (else4 .if4 .left)) in
     let k = chains-used s (a .n .0) (a .head .now) (a .next .now) (start .pre .1 .1 .1 .0 .chains) (h .result) (h .ensures .0) (h .ensures .1)
     (omega (arith, start .pre .0 .few-names, start .pre .1 .1 .0)) u in
-    told-true (names-used s (a .n .0) (a .parents .now) (a .head .now) (a .next .now) _ _ _ (start .pre .1 .1 .1 .0) g f
+    told-true (names-used s (a .n .0) (a .parents .now) (a .links .now) (a .head .now) (a .next .now) _ _ _ _ (start .pre .1 .1 .1 .0) g f
     (rw (c .put-first .ensures .0, c .put-first .ensures .1) k) m)
 
 pub name-passes-spec : {M : Type 1} → statement M

@@ -10,25 +10,25 @@ use Rattle.fsck_names.proofs.names.names_pass.Statement.{statement}
 use Rattle.fsck_names.proofs.names.names_pass.Tie as tie
 
 abbrev Inv-loop : tie.InvT-loop
-Inv-loop store inside p count parents₀ head₀ next₀ n₀ parents head next n = (n ≤ count) × NamesPass store n parents head next
+Inv-loop store inside p count parents₀ links₀ head₀ next₀ n₀ parents links head next n = (n ≤ count) × NamesPass store n parents links head next
 
 abbrev μ-loop : tie.MeasureT-loop
-μ-loop store inside p count parents₀ head₀ next₀ n₀ parents head next n = count - n
+μ-loop store inside p count parents₀ links₀ head₀ next₀ n₀ parents links head next n = count - n
 
 loop-holds : tie.Need-loop-holds Inv-loop μ-loop
 loop-holds c =
     let st = c .before in
     let a = st .args in (
       zero-le,
-      names-none (a .store .now) (a .parents .now) (a .head .now) (a .next .now) (st .pre .1 .1 .1 .0) (st .pre .1 .1 .1 .1 .0)
-          (st .pre .1 .1 .1 .1 .1 .0),
+      names-none (a .store .now) (a .parents .now) (a .links .now) (a .head .now) (a .next .now) (st .pre .1 .1 .1 .0) (st .pre .1 .1 .1 .1 .0)
+          (st .pre .1 .1 .1 .1 .1 .0) (st .pre .1 .1 .1 .1 .1 .1 .0),
     )
 
 name-passes-requires : tie.Need-name-passes-requires Inv-loop μ-loop
 name-passes-requires c κs =
-    let l = c .before .before .before .before in
-    let st = c .before .before .before .before .before .before in
-    (st .pre .0, (st .pre .1 .0, (omega arith, (l .loop .inv .1, st .pre .1 .1 .1 .1 .1 .1))))
+    let l = c .before .before .before .before .before in
+    let st = l .before .before in
+    (st .pre .0, (st .pre .1 .0, (omega arith, (l .loop .inv .1, st .pre .1 .1 .1 .1 .1 .1 .1))))
 
 returns : tie.Need-returns Inv-loop μ-loop
 returns c = told-false (c .before .name-passes .ensures .no (not-true _ (c .if1 .taken)))

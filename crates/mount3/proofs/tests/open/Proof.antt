@@ -26,7 +26,7 @@ returns-2 c =
     long-call (a .call .now) (a .store .now) (a .table .now) (a .reply .now) (c .before .if1 .left) (c .if2 .taken)
 
 check-store-requires : tie.Need-check-store-requires
-check-store-requires c κs = (blank-of mostBlocks, blank-of mostObjects)
+check-store-requires c κs = (blank-of mostBlocks, (blank-of mostObjects, blank-of mostObjects))
 
 enum-told : tie.Need-enum-told
 enum-told c = search needs
@@ -37,7 +37,7 @@ enum-told-2 c = search needs
 returns-3 : tie.Need-returns-3
 returns-3 c =
     let checking = c .before .before in
-    let else2 = checking .before .before .before in
+    let else2 = checking .before .before .before .before in
     let else1 = else2 .before in
     let a = else1 .before .before .before .before .before .args in
     let s = a .store .now in
@@ -51,7 +51,7 @@ returns-4 : tie.Need-returns-4
 returns-4 c =
     let told = c .before .before in
     let checking = told .before .before in
-    let else2 = checking .before .before .before in
+    let else2 = checking .before .before .before .before in
     let else1 = else2 .before in
     let a = else1 .before .before .before .before .before .args in
     let s = a .store .now in
@@ -74,7 +74,7 @@ place-requires c κs = search needs
 fault-requires : tie.Need-fault-requires
 fault-requires c κs =
     let reading = c .before .before .before in
-    let else2 = reading .before .before .before .before .before .before .before .before in
+    let else2 = reading .before .before .before .before .before .before .before .before .before in
     let a = else2 .before .before .before .before .before .before .args in
     let k = inside-header .place (a .call .now) 0 (omega arith) in
     omega (arith, c .place .ensures, ap placeOf (reading .read-mount-call .ensures .0), k, else2 .if2 .left)
@@ -86,7 +86,7 @@ returns-5 c host =
     let else3 = reading .before in
     let told = else3 .before .before in
     let checking = told .before .before in
-    let else2 = checking .before .before .before in
+    let else2 = checking .before .before .before .before in
     let else1 = else2 .before in
     let a = else1 .before .before .before .before .before .args in
     let s = a .store .now in
@@ -104,7 +104,7 @@ returns-6 c =
     let else3 = reading .before in
     let told = else3 .before .before in
     let checking = told .before .before in
-    let else2 = checking .before .before .before in
+    let else2 = checking .before .before .before .before in
     let else1 = else2 .before in
     let store-known = else1 .before .before .before in
     let a = store-known .before .before .args in

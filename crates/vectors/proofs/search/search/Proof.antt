@@ -11,7 +11,7 @@ use Rattle.vectors.proofs.search.search.Statement.{statement}
 use Rattle.vectors.proofs.search.search.Tie as tie
 
 check-store-requires : tie.Need-check-store-requires
-check-store-requires c κs = (blank-of mostBlocks, blank-of mostObjects)
+check-store-requires c κs = (blank-of mostBlocks, (blank-of mostObjects, blank-of mostObjects))
 
 enum-told : tie.Need-enum-told
 enum-told c = search needs
@@ -31,10 +31,10 @@ size-requires c κs = search needs
 search-name-requires : tie.Need-search-name-requires
 search-name-requires c κs =
     let told = c .before .before in
-    let st = c .before .before .before .before .before .before .before .before .before in
+    let st = c .before .before .before .before .before .before .before .before .before .before in
     let s = st .args .store .now in
     let passed = good-passes s _ (sym (told .enum-told .given .1) ∙ told .before .before .check-store .ensures .is) in
-    let good = valid-records s (valid s passed) (λ i. c .before .before .before .before .before .before .before .before .shared-slice-known .given i .fits) in
+    let good = valid-records s (valid s passed) (λ i. c .before .before .before .before .before .before .before .before .before .shared-slice-known .given i .fits) in
     (good-shaped s good, (good-names-sound s good, omega arith))
 
 enum-told-3 : tie.Need-enum-told-3

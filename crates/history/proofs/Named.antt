@@ -1,4 +1,4 @@
--- A new object keeps the tree. Assumes nothing.
+-- A name of a new object, or another name of a file, keeps the tree. Assumes nothing.
 use mathlib.Core.Path.{_≡_, sym, ap, _∙_, subst}
 use mathlib.Core.Logic.{_≢_, by-cases}
 use mathlib.Core.List.{List, _∷_}
@@ -6,21 +6,15 @@ use Prim.Native.Nat.{ℕ}
 use native.Mathlib.Decide.{ℕ-discrete}
 use native.Mathlib.Omega.{arith}
 use lib.ListN.{length}
-use Rattle.laws.proofs.Count.{sum-zero}
+use Rattle.spec.specs.Check.{mostNames}
 use Rattle.history.proofs.Sum.{ind, ind-yes, ind-no, ind-le}
-use Rattle.history.proofs.View.{View, LiveIn, UsedIn, names?, at?, namingsIn, entriesAt, Path, SameRecord, namings-set, entries-set}
+use Rattle.history.proofs.View.{View, LiveIn, UsedIn, names?, at?, namingsIn, entriesAt, Path, namings-set, entries-set}
 use Rattle.history.proofs.Tree.{Tree}
-use Rattle.history.proofs.Change.{Created, path-avoids, avoid-free}
+use Rattle.history.proofs.Change.{Named, named-kinds, named-records, path-kept}
 
-module _ (P Q : ℕ) (v w : View) (o q k d : ℕ) (t : List ℕ) (T : Tree P Q v) (B : Created P Q v w o q k d t) where
-  not-root : o ≢ 0
-  not-root e = omega (arith, B .was-free, T .flat .root, ap (v .kind) e)
-
+module _ (P Q : ℕ) (v w : View) (o q k d : ℕ) (t : List ℕ) (T : Tree P Q v) (B : Named P Q v w o q k d t) where
   kept : (i : ℕ) → LiveIn v i → w .kind i ≡ v .kind i
-  kept i l = B .obj .other i (λ e. omega (arith, B .was-free, ap (v .kind) e)) .0
-
-  same : (p : ℕ) → UsedIn v p → SameRecord v w p
-  same p u = B .nam .other p (λ e. omega (arith, B .was-blank, ap (λ (x : ℕ). length (v .text x)) e))
+  kept = named-kinds P Q v w o q k d t B
 
   blank : (i : ℕ) → ind (names? v q i) ≡ 0
   blank i = ind-no (names? v q i) (λ h. omega (arith, B .was-blank))
@@ -28,14 +22,11 @@ module _ (P Q : ℕ) (v w : View) (o q k d : ℕ) (t : List ℕ) (T : Tree P Q v
   used-w : (p : ℕ) → p ≢ q → UsedIn w p → UsedIn v p
   used-w p n u = omega (arith, ap length (B .nam .other p n .text))
 
-  unnamed : namingsIn Q v o ≡ 0
-  unnamed = sum-zero Q (λ p. ind (names? v p o)) (λ p l. ind-no (names? v p o) (λ h. omega (arith, T .flat .ends p (h .0), ap (v .kind) (h .1), B .was-free)))
+  path-named : (qs : List ℕ) (i : ℕ) → Path v i qs → Path w i qs
+  path-named qs i a = path-kept v w 0 (named-records P Q v w o q k d t B) qs i a .0
 
-  path-created : (qs : List ℕ) (i : ℕ) → Path v i qs → Path w i qs
-  path-created qs i a = path-avoids v w o (λ p u n. same p u) qs i a (avoid-free P Q v T o (B .was-free) qs i a)
-
-  pub created-tree : Tree P Q w
-  created-tree = record {
+  pub named-tree : Tree P Q w
+  named-tree = record {
     flat = record {
       few = T .flat .few;
       root = kept 0 (omega (arith, T .flat .root)) ∙ T .flat .root;
@@ -52,15 +43,16 @@ module _ (P Q : ℕ) (v w : View) (o q k d : ℕ) (t : List ℕ) (T : Tree P Q v
         namings-set Q v w q d o t (B .nam) (B .in-names) 0,
         blank 0,
         T .flat .never,
-        ind-no (names? w q 0) (λ h. not-root (sym (B .nam .child) ∙ h .1)),
+        ind-no (names? w q 0) (λ h. B .not-root (sym (B .nam .child) ∙ h .1)),
       );
       once = λ i n l. by-cases (ℕ-discrete i o)
           (λ e. omega (
             arith,
             namings-set Q v w q d o t (B .nam) (B .in-names) i,
             blank i,
-            unnamed,
+            B .few,
             ap (namingsIn Q v) e,
+            ap mostNames (ap (w .kind) e ∙ B .obj .kind),
             ind-yes (names? w q i) (omega (arith, B .some, ap length (B .nam .text)), B .nam .child ∙ sym e),
           ))
           (λ x. omega (
@@ -68,6 +60,7 @@ module _ (P Q : ℕ) (v w : View) (o q k d : ℕ) (t : List ℕ) (T : Tree P Q v
             namings-set Q v w q d o t (B .nam) (B .in-names) i,
             blank i,
             T .flat .once i n (omega (arith, B .obj .other i x .0)),
+            ap mostNames (B .obj .other i x .0),
             ind-no (names? w q i) (λ h. x (sym (h .1) ∙ B .nam .child)),
           ));
       apart = λ e u. by-cases (at? w q e u)
@@ -87,8 +80,8 @@ module _ (P Q : ℕ) (v w : View) (o q k d : ℕ) (t : List ℕ) (T : Tree P Q v
           (
             (omega (arith, B .some, ap length (B .nam .text)), B .nam .child ∙ sym e),
             subst (λ (x : ℕ). Path w x (r .0)) (sym (B .nam .dir))
-                (path-created (r .0) d (r .1)),
+                (path-named (r .0) d (r .1)),
           ),
         ))
-        (λ n. let r = T .leads i (omega (arith, B .obj .other i n .0)) in (r .0, path-created (r .0) i (r .1)));
+        (λ n. let r = T .leads i (omega (arith, B .obj .other i n .0)) in (r .0, path-named (r .0) i (r .1)));
   }
