@@ -160,16 +160,83 @@ static void names(void) {
     same_number("a longer name", nfs3_check(store, LENGTH), 0);
 }
 
+/* The same objects in a store with P=3, Q=18, R=2: the file has a name more for each of the further name records that are used. */
+enum { LINKS_LENGTH = NFS3_STORE_LENGTH(3, 18, 2), FURTHER = NAME_F + 44 };
+static uint8_t with_links[LINKS_LENGTH];
+
+/* The file has so many further names in the directory "d": A, B and so on. */
+static void make_links(size_t further) {
+    make_store();
+    same_answer("format of 18 names", nfs3_format(with_links, LINKS_LENGTH, 9, 3, 18, 2, 0, 0), NFS3_DONE, 0);
+    memcpy(with_links + DIRECTORY, store + DIRECTORY, 2 * RECORD);
+    memcpy(with_links + NAME_D, store + NAME_D, 2 * 44);
+    for (size_t i = 0; i < further; i++) {
+        memcpy(with_links + FURTHER + 44 * i, name_f, 44);
+        with_links[FURTHER + 44 * i + 12] = (uint8_t)('A' + i);
+    }
+}
+
+/* A file with two names, of which one byte of the second is changed. */
+static void link_changed(const char *what, size_t at, uint8_t byte, uint32_t number) {
+    make_links(1);
+    with_links[FURTHER + at] = byte;
+    same_number(what, nfs3_check(with_links, LINKS_LENGTH), number);
+}
+
+static void links(void) {
+    link_changed("a file with two names in a directory", 12, 'A', 0);
+    link_changed("a file with two names in two directories", 3, 0, 0);
+    link_changed("one name twice, of one file", 12, 'f', 1);
+    link_changed("the root with a name, and the file with one", 7, 0, 1);
+    make_links(1);
+    with_links[FURTHER + 3] = 0;
+    with_links[FURTHER + 7] = 1;
+    same_number("a directory with two names, and the file with one", nfs3_check(with_links, LINKS_LENGTH), 1);
+    make_links(1);
+    memset(with_links + NAME_F, 0, 44);
+    same_number("a file with its second name alone", nfs3_check(with_links, LINKS_LENGTH), 0);
+    make_links(15);
+    same_number("a file with 16 names", nfs3_check(with_links, LINKS_LENGTH), 0);
+    make_links(16);
+    same_number("a file with 17 names", nfs3_check(with_links, LINKS_LENGTH), 1);
+}
+
+/* 64 objects and 128 names in the root: 63 files, of which the first four have 16 names each, and the fifth has 6. */
+static void most_names(void) {
+    enum { MOST = NFS3_STORE_LENGTH(64, 128, 0), OBJECTS = 12, NAMES = OBJECTS + RECORD * 64 + 4, SIZE = 20, NUMBERS = 48 };
+    static uint8_t most[MOST];
+    same_answer("format of 64 objects", nfs3_format(most, MOST, 9, 64, 128, 0, 0, 0), NFS3_DONE, 0);
+    for (size_t o = 1; o < 64; o++) {
+        uint8_t *at = most + OBJECTS + RECORD * o;
+        memcpy(at, file_record, RECORD);
+        memset(at + SIZE, 0, 4);
+        memset(at + NUMBERS, 255, 4);
+    }
+    for (size_t n = 0; n < 128; n++) {
+        uint8_t file = (uint8_t)(n < 63 ? 1 + n : 1 + (n - 63) / 15);
+        uint8_t name[44] = { [7] = file, [11] = 2, [12] = (uint8_t)('a' + n / 16), [13] = (uint8_t)('a' + n % 16) };
+        memcpy(most + NAMES + 44 * n, name, 44);
+    }
+    same_number("64 objects with 128 names", nfs3_check(most, MOST), 0);
+    most[NAMES + 44 * 127 + 7] = 1;
+    same_number("64 objects with 128 names, 17 of them of one file", nfs3_check(most, MOST), 1);
+}
+
 enum { OLD_LENGTH = NFS3_OLD_STORE_LENGTH(3, 2, 2), OLD_RECORD = 80 };
 static uint8_t old[OLD_LENGTH + 1], target[LENGTH + 1], before[LENGTH + 1];
 
-/* Takes the store without the verifier and the flag of each object: in the old layout. The target gets other bytes. */
+/* Copies a store of three objects without the verifier and the flag of each: in the old layout. */
+static void put_old(uint8_t *to, const uint8_t *from, size_t len) {
+    memcpy(to, from, 12);
+    for (size_t o = 0; o < 3; o++)
+        memcpy(to + 12 + OLD_RECORD * o, from + 12 + RECORD * o, OLD_RECORD);
+    memcpy(to + 12 + OLD_RECORD * 3, from + 12 + RECORD * 3, len - 12 - RECORD * 3);
+}
+
+/* Takes the store in the old layout. The target gets other bytes. */
 static void make_old(void) {
     make_store();
-    memcpy(old, store, 12);
-    for (size_t o = 0; o < 3; o++)
-        memcpy(old + 12 + OLD_RECORD * o, store + 12 + RECORD * o, OLD_RECORD);
-    memcpy(old + 12 + OLD_RECORD * 3, store + 12 + RECORD * 3, LENGTH - 12 - RECORD * 3);
+    put_old(old, store, LENGTH);
     old[OLD_LENGTH] = 0;
     memset(target, 0xA5, sizeof target);
     memcpy(before, target, sizeof target);
@@ -220,6 +287,23 @@ static void conversions(void) {
     memcpy(smallest_old, smallest, 92);
     same_number("the smallest", nfs3_convert(smallest_old, 100, made, NFS3_CONVERTED_LENGTH(100, 1)), 0);
     same_bytes("the smallest", made, smallest, 112);
+}
+
+/* Converts the store in which the file has so many further names. */
+static void convert_links(const char *what, size_t further, uint32_t number) {
+    static uint8_t old_links[NFS3_OLD_STORE_LENGTH(3, 18, 2)], made[LINKS_LENGTH], made_before[LINKS_LENGTH];
+    make_links(further);
+    put_old(old_links, with_links, LINKS_LENGTH);
+    memset(made, 0xA5, sizeof made);
+    memcpy(made_before, made, sizeof made);
+    same_number(what, nfs3_convert(old_links, sizeof old_links, made, sizeof made), number);
+    same_bytes(what, made, number == NFS3_DONE ? with_links : made_before, sizeof made);
+}
+
+static void link_conversions(void) {
+    convert_links("an old store whose file has one name", 0, 0);
+    convert_links("an old store whose file has two names", 1, 1);
+    convert_links("an old store whose file has 16 names", 15, 1);
 }
 
 /*
@@ -516,7 +600,7 @@ static void headers(void) {
     store[3] = 1;
 }
 
-enum { NULL_PROCEDURE = 0, GETATTR = 1, SETATTR = 2, LOOKUP = 3, WRITE = 7, CREATE = 8, RENAME = 14, MNT = 1, DUMP = 2, UMNT = 3 };
+enum { NULL_PROCEDURE = 0, GETATTR = 1, SETATTR = 2, LOOKUP = 3, WRITE = 7, CREATE = 8, RENAME = 14, LINK = 15, MNT = 1, DUMP = 2, UMNT = 3 };
 
 /* Calls of NFS whose arguments cannot be read. */
 static void arguments(void) {
@@ -585,6 +669,21 @@ static void arguments(void) {
     put_words((uint32_t[]){ NFS3_HANDLE_LENGTH, 9, 0, 0, 2 }, 5);
     put_bytes(2);
     garbage("RENAME, the second name's padding is not there", AFTER_HANDLE + 8 + 16);
+
+    enum { NAME = AFTER_HANDLE + 16 };
+    begin_on_root(LINK);
+    garbage("LINK without a directory", AFTER_HANDLE);
+    put_opaque(NFS3_HANDLE_MOST + 1);
+    garbage("LINK, a directory's handle of 65 bytes", AFTER_HANDLE);
+    begin_on_root(LINK);
+    put_words((uint32_t[]){ NFS3_HANDLE_LENGTH, 9, 0, 0 }, 4);
+    garbage("LINK without a name", NAME);
+    put_opaque(5);
+    message_len--;
+    garbage("LINK, a name whose padding is cut", NAME);
+    message_len++;
+    put_bytes(1);
+    garbage("LINK, with a byte left over", NAME + 12);
 }
 
 /* Calls of MOUNT whose arguments cannot be read. */
@@ -620,7 +719,10 @@ int main(void) {
     checks();
     cycle();
     names();
+    links();
+    most_names();
     conversions();
+    link_conversions();
     both_layouts();
     mounts();
     headers();

@@ -276,7 +276,7 @@ static struct nfs3_answer call_mount(const uint8_t *call, size_t call_len, uint8
 
 /* ---- Replies that are kept (duty 5); none of MOUNT (MOUNT duty 4) ---- */
 
-enum { RPC_CALL = 0, RPC_VERSION = 2, SETATTR = 2, WRITE = 7, CREATE = 8, MKDIR = 9, REMOVE = 12, RMDIR = 13, RENAME = 14 };
+enum { RPC_CALL = 0, RPC_VERSION = 2, SETATTR = 2, WRITE = 7, CREATE = 8, MKDIR = 9, REMOVE = 12, RMDIR = 13, RENAME = 14, LINK = 15 };
 
 /* So many, and for so long. */
 enum { KEPT = 256, KEPT_SECONDS = 180 };
@@ -305,7 +305,7 @@ static bool is_to_keep(const uint8_t *call, size_t len) {
         return false;
     uint32_t procedure = get_word(call + 20);
     return procedure == SETATTR || procedure == WRITE || procedure == CREATE || procedure == MKDIR || procedure == REMOVE ||
-           procedure == RMDIR || procedure == RENAME;
+           procedure == RMDIR || procedure == RENAME || procedure == LINK;
 }
 
 /* The place after opaque data of at most so many bytes whose length word is at a place in the call; 0 where it is cut or too long. */
@@ -336,6 +336,8 @@ static void clear_padding(uint8_t *call, size_t len) {
         return;
     if (procedure == WRITE) /* behind offset, count and stable */
         at = at == 0 ? 0 : at + 16;
+    if (procedure == LINK) /* the directory's handle, behind the file's */
+        at = clear_opaque(call, len, at, NFS3_HANDLE_MOST);
     at = clear_opaque(call, len, at, UINT32_MAX);
     if (procedure == RENAME) {
         at = clear_opaque(call, len, at, NFS3_HANDLE_MOST);

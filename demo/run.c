@@ -8,8 +8,11 @@
  * removed; its handle is stale then, and the second is as it was. SETATTR gives the second a mode; from then on its CREATE is refused too. Then the
  * second is replaced: a new file is made under the first name and renamed onto the second one.
  *
- * At last the directory 07 is made, and the host 192.0.2.1 mounts the root and the directory by their paths (MOUNT): it gets their handles, and
+ * Then the directory 07 is made, and the host 192.0.2.1 mounts the root and the directory by their paths (MOUNT): it gets their handles, and
  * DUMP lists what it mounted, until it unmounts the root.
+ *
+ * At last the tag 123456789 of the root gets a second name, 0123456789 in the directory (LINK). Both names lead to one file: what is written is read
+ * by either, and RENAME of one onto the other changes nothing. The names are removed one by one; the handle is stale after the second.
  */
 #include "mount3.h"
 #include "same.h"
@@ -29,9 +32,9 @@
 /* The head of a reply: xid, reply, accepted, no verifier, success. */
 #define REPLY(xid) W(xid), W(1), W(0), W(0), W(0), W(0)
 
-enum { GETATTR = 1, SETATTR = 2, LOOKUP = 3, READ = 6, WRITE = 7, CREATE = 8, MKDIR = 9, REMOVE = 12, RENAME = 14, READDIR = 16 };
+enum { GETATTR = 1, SETATTR = 2, LOOKUP = 3, READ = 6, WRITE = 7, CREATE = 8, MKDIR = 9, REMOVE = 12, RENAME = 14, LINK = 15, READDIR = 16 };
 enum { MNT = 1, DUMP = 2, UMNT = 3 };
-enum { OK = 0, NOENT = 2, EXIST = 17, STALE = 70 };
+enum { OK = 0, NOENT = 2, EXIST = 17, INVAL = 22, NOSPC = 28, STALE = 70 };
 
 /* A handle: its length, then the store's stamp, object and generation. */
 #define STAMP 0x01020304
@@ -46,7 +49,8 @@ enum { OK = 0, NOENT = 2, EXIST = 17, STALE = 70 };
 #define FIRST_NAME W(10), '0', '1', '2', '3', '4', '5', '6', '7', '8', '9', 0, 0
 #define SECOND_NAME W(9), '1', '2', '3', '4', '5', '6', '7', '8', '9', 0, 0, 0
 #define MISSING_NAME W(10), '0', '1', '2', '3', '4', '5', '6', '7', '8', '0', 0, 0
-#define FIRST_DATA W(11), 'O', 'S', 'L', ' ', 'g', 'a', 't', 'e', ' ', '1', '2', 0
+#define FIRST_BYTES 'O', 'S', 'L', ' ', 'g', 'a', 't', 'e', ' ', '1', '2', 0
+#define FIRST_DATA W(11), FIRST_BYTES
 #define SECOND_DATA W(10), 'T', 'R', 'D', ' ', 'g', 'a', 't', 'e', ' ', '7', 0, 0
 
 /* The name of the directory; the paths of the root, of the directory, and of a name that is not there; the host, as a number and as DUMP lists it. */
@@ -71,12 +75,13 @@ enum { OK = 0, NOENT = 2, EXIST = 17, STALE = 70 };
 #define ROOT_ATTRIBUTES(changed) ATTRIBUTES(2, 493, 2, 512, 0, 1, 1000, changed, changed)
 #define FIRST_ATTRIBUTES(size, used, changed) ATTRIBUTES(1, 420, 1, size, used, 2, 1001, changed, changed)
 #define SECOND_ATTRIBUTES(size, used, changed) ATTRIBUTES(1, 0, 1, size, used, 3, 1002, changed, changed)
-#define THIRD_ATTRIBUTES(changed) ATTRIBUTES(1, 420, 1, 0, 0, 2, 1010, 1010, changed)
-#define DIRECTORY_ATTRIBUTES ATTRIBUTES(2, 493, 2, 512, 0, 3, 1013, 1013, 1013)
-#define ROOT_ATTRIBUTES_LAST ATTRIBUTES(2, 493, 3, 512, 0, 1, 1000, 1013, 1013)
+#define THIRD_ATTRIBUTES(nlink, size, used, mtime, ctime) ATTRIBUTES(1, 420, nlink, size, used, 2, 1010, mtime, ctime)
+#define DIRECTORY_ATTRIBUTES(changed) ATTRIBUTES(2, 493, 2, 512, 0, 3, 1013, changed, changed)
+#define PARENT_ATTRIBUTES(changed) ATTRIBUTES(2, 493, 3, 512, 0, 1, 1000, changed, changed) /* of the root, with the directory in it */
 
 /* Attributes before a change (wcc_attr), present. */
-#define BEFORE(size, changed) W(1), HYPER(size), TIME(changed), TIME(changed)
+#define BEFORE_TIMES(size, mtime, ctime) W(1), HYPER(size), TIME(mtime), TIME(ctime)
+#define BEFORE(size, changed) BEFORE_TIMES(size, changed, changed)
 
 /* CREATE's last arguments: GUARDED with mode 420 and nothing else set, and EXCLUSIVE with the verifier of this host, or of another. */
 #define MODE_420 W(1), W(420), W(0), W(0), W(0), W(0), W(0)
@@ -87,29 +92,45 @@ enum { OK = 0, NOENT = 2, EXIST = 17, STALE = 70 };
 
 /* An entry of READDIR before its name. */
 #define ENTRY(fileid) W(1), HYPER(fileid)
-#define DOTS ENTRY(1), W(1), '.', 0, 0, 0, HYPER(1), ENTRY(1), W(2), '.', '.', 0, 0, HYPER(2)
+#define DOTS(own, above) ENTRY(own), W(1), '.', 0, 0, 0, HYPER(1), ENTRY(above), W(2), '.', '.', 0, 0, HYPER(2)
 
 /* The verifier that the daemon gives with each call; WRITE sends it. */
 #define VERIFIER 0x1122334455667788
 #define FILE_SYNC 2
 
-/* Three objects, two names, two blocks. */
-enum { OBJECTS = 3, NAMES = 2, BLOCKS = 2, LENGTH = NFS3_STORE_LENGTH(OBJECTS, NAMES, BLOCKS) };
-enum { RECORD = 92, VERIFIER_AT = 80, NAME_0 = 16 + RECORD * OBJECTS, NAME_1 = NAME_0 + 44, BLOCK_0 = NAME_1 + 48, BLOCK_1 = BLOCK_0 + 512 };
+/* Three objects, three names, two blocks. */
+enum { OBJECTS = 3, NAMES = 3, BLOCKS = 2, LENGTH = NFS3_STORE_LENGTH(OBJECTS, NAMES, BLOCKS) };
+enum { RECORD = 92, VERIFIER_AT = 80, NAME_0 = 16 + RECORD * OBJECTS, NAME_1 = NAME_0 + 44, NAME_2 = NAME_1 + 44, BLOCK_0 = NAME_2 + 48 };
 #define NO_BLOCKS_4 255, 255, 255, 255, 255, 255, 255, 255
+#define NO_BLOCKS NO_BLOCKS_4, NO_BLOCKS_4, NO_BLOCKS_4, NO_BLOCKS_4
+#define BLOCK_0_ALONE 0, 0, 255, 255, 255, 255, 255, 255, NO_BLOCKS_4, NO_BLOCKS_4, NO_BLOCKS_4
 
 /*
- * The store at the end: the new file is object 1 of generation 1, in the name record that it was made with; the directory is object 2 of generation 1,
- * in the second name record; both blocks are free and zero.
+ * The store while a file has two names: it is object 1 of generation 1, in the name record that it was made with and in the third one; the directory is
+ * object 2 of generation 1, in the second name record.
  */
+static const uint8_t linked[LENGTH] = {
+    W(1), W(STAMP),
+    W(OBJECTS),
+    W(2), W(0), W(493), W(0), W(0), W(0), TIME(1000), TIME(1013), TIME(1013), NO_BLOCKS,
+    [12 + RECORD * 1] = W(1), W(1), W(420), W(0), W(0), W(11), TIME(1010), TIME(1015), TIME(1015), BLOCK_0_ALONE,
+    [12 + RECORD * 2] = W(2), W(1), W(493), W(0), W(0), W(0), TIME(1013), TIME(1014), TIME(1014), NO_BLOCKS,
+    [NAME_0 - 4] = W(NAMES),
+    [NAME_0] = W(0), W(1), SECOND_NAME,
+    [NAME_1] = W(0), W(2), DIRECTORY_NAME,
+    [NAME_2] = W(2), W(1), FIRST_NAME,
+    [BLOCK_0 - 4] = W(BLOCKS),
+    FIRST_BYTES,
+};
+
+/* The store at the end: object 1 is free, of generation 2, and so are its two names; the block that it had is zero. */
 static const uint8_t last[LENGTH] = {
     W(1), W(STAMP),
     W(OBJECTS),
-    W(2), W(0), W(493), W(0), W(0), W(0), TIME(1000), TIME(1013), TIME(1013), NO_BLOCKS_4, NO_BLOCKS_4, NO_BLOCKS_4, NO_BLOCKS_4,
-    [12 + RECORD * 1] = W(1), W(1), W(420), W(0), W(0), W(0), TIME(1010), TIME(1010), TIME(1011), NO_BLOCKS_4, NO_BLOCKS_4, NO_BLOCKS_4, NO_BLOCKS_4,
-    [12 + RECORD * 2] = W(2), W(1), W(493), W(0), W(0), W(0), TIME(1013), TIME(1013), TIME(1013), NO_BLOCKS_4, NO_BLOCKS_4, NO_BLOCKS_4, NO_BLOCKS_4,
+    W(2), W(0), W(493), W(0), W(0), W(0), TIME(1000), TIME(1018), TIME(1018), NO_BLOCKS,
+    [12 + RECORD * 1] = W(0), W(2),
+    [12 + RECORD * 2] = W(2), W(1), W(493), W(0), W(0), W(0), TIME(1013), TIME(1020), TIME(1020), NO_BLOCKS,
     [NAME_0 - 4] = W(NAMES),
-    [NAME_0] = W(0), W(1), SECOND_NAME,
     [NAME_1] = W(0), W(2), DIRECTORY_NAME,
     [BLOCK_0 - 4] = W(BLOCKS),
 };
@@ -147,6 +168,7 @@ static const char *procedure_name(uint32_t procedure) {
     case MKDIR: return "MKDIR";
     case REMOVE: return "REMOVE";
     case RENAME: return "RENAME";
+    case LINK: return "LINK";
     case READDIR: return "READDIR";
     default: return "another";
     }
@@ -166,6 +188,8 @@ static const char *status_name(uint32_t status) {
     case OK: return "OK";
     case NOENT: return "NOENT";
     case EXIST: return "EXIST";
+    case INVAL: return "INVAL";
+    case NOSPC: return "NOSPC";
     case STALE: return "STALE";
     default: return "another";
     }
@@ -189,7 +213,7 @@ static void tell_entries(size_t len) {
 /* What an OK reply says in plain words. */
 static void tell_result(uint32_t procedure, size_t len) {
     if (procedure == GETATTR && len == 112)
-        printf("size %u", (unsigned)word(reply, 52));
+        printf("size %u, nlink %u", (unsigned)word(reply, 52), (unsigned)word(reply, 36));
     if (procedure == LOOKUP && len == 220)
         printf("object %u", (unsigned)word(reply, 36));
     if ((procedure == CREATE || procedure == MKDIR) && len == 252)
@@ -204,15 +228,17 @@ static void tell_result(uint32_t procedure, size_t len) {
         printf("mode %o", (unsigned)word(reply, 64));
     if (procedure == REMOVE && len == 144)
         printf("the name is free again");
-    if (procedure == RENAME && len == 260)
-        printf("now 123456789");
+    if (procedure == RENAME && len == 260) /* times of the first directory, before and after */
+        printf(memcmp(reply + 40, reply + 128, 16) == 0 ? "nothing changed" : "now 123456789");
+    if (procedure == LINK && len == 232)
+        printf("nlink %u", (unsigned)word(reply, 40));
     if (procedure == READDIR)
         tell_entries(len);
 }
 
 /* One line on what came back: with answer 0 a reply with a status. */
 static void tell(const char *about, uint32_t procedure, struct nfs3_answer a) {
-    printf("%-8s %-11s ", procedure_name(procedure), about);
+    printf("%-8s %-13s ", procedure_name(procedure), about);
     if (a.number != NFS3_DONE || a.length < 28 || a.length > sizeof reply) {
         printf("answer %u, length %u\n", (unsigned)a.number, (unsigned)a.length);
         return;
@@ -226,6 +252,10 @@ static void tell(const char *about, uint32_t procedure, struct nfs3_answer a) {
         printf("there is no such name");
     else if (word(reply, 24) == EXIST)
         printf("the name is taken");
+    else if (word(reply, 24) == INVAL)
+        printf("a directory has one name");
+    else if (word(reply, 24) == NOSPC)
+        printf("no name record is free");
     printf("\n");
 }
 
@@ -251,7 +281,7 @@ static void tell_rows(size_t len) {
 
 /* One line on what came back from MOUNT. Only MNT has a status. */
 static void tell_mount(const char *about, uint32_t procedure, struct nfs3_answer a) {
-    printf("%-8s %-11s ", mount_procedure_name(procedure), about);
+    printf("%-8s %-13s ", mount_procedure_name(procedure), about);
     if (a.number != NFS3_DONE || a.length < 24 || a.length > sizeof reply) {
         printf("answer %u, length %u\n", (unsigned)a.number, (unsigned)a.length);
         return;
@@ -298,6 +328,12 @@ static void send(const char *about, uint32_t seconds, const uint8_t *call, size_
     }
 }
 
+static void check_store(const uint8_t *wanted) {
+    printf("check    the store, and each of its %d bytes\n", LENGTH);
+    same_answer("the check", nfs3_check(store, LENGTH), NFS3_DONE, 0);
+    same_bytes("the store", store, wanted, LENGTH);
+}
+
 #define SEND(about, seconds, call, wanted) send(about, seconds, call, sizeof call, wanted, sizeof wanted)
 
 static void make(void) {
@@ -334,7 +370,7 @@ static void make_again(void) {
 
 static void look(void) {
     static const uint8_t list[] = { CALL(5, READDIR), ROOT, HYPER(0), HYPER(0), W(4096) };
-    static const uint8_t listed[] = { REPLY(5), W(OK), W(1), ROOT_ATTRIBUTES(1002), HYPER(0), DOTS, ENTRY(2), FIRST_NAME, HYPER(3),
+    static const uint8_t listed[] = { REPLY(5), W(OK), W(1), ROOT_ATTRIBUTES(1002), HYPER(0), DOTS(1, 1), ENTRY(2), FIRST_NAME, HYPER(3),
                                       ENTRY(3), SECOND_NAME, HYPER(4), W(0), W(1) };
     static const uint8_t read_first[] = { CALL(6, READ), FIRST, HYPER(0), W(4096) };
     static const uint8_t got_first[] = { REPLY(6), W(OK), W(1), FIRST_ATTRIBUTES(11, 512, 1003), W(11), W(1), FIRST_DATA };
@@ -375,7 +411,7 @@ static void take_away(void) {
 
 static void look_again(void) {
     static const uint8_t list[] = { CALL(12, READDIR), ROOT, HYPER(0), HYPER(0), W(4096) };
-    static const uint8_t listed[] = { REPLY(12), W(OK), W(1), ROOT_ATTRIBUTES(1005), HYPER(0), DOTS, ENTRY(3), SECOND_NAME, HYPER(4), W(0), W(1) };
+    static const uint8_t listed[] = { REPLY(12), W(OK), W(1), ROOT_ATTRIBUTES(1005), HYPER(0), DOTS(1, 1), ENTRY(3), SECOND_NAME, HYPER(4), W(0), W(1) };
     static const uint8_t getattr_second[] = { CALL(13, GETATTR), SECOND };
     static const uint8_t attributes_second[] = { REPLY(13), W(OK), SECOND_ATTRIBUTES(10, 512, 1004) };
     static const uint8_t read_second[] = { CALL(14, READ), SECOND, HYPER(0), W(4096) };
@@ -397,7 +433,7 @@ static void settle(void) {
 /* A file under the first name takes the place of the second; then it is renamed onto its own name, which changes nothing. */
 static void replace(void) {
     static const uint8_t create_third[] = { CALL(19, CREATE), ROOT, FIRST_NAME, GUARDED_420 };
-    static const uint8_t created_third[] = { REPLY(19), W(OK), W(1), THIRD, W(1), THIRD_ATTRIBUTES(1010),
+    static const uint8_t created_third[] = { REPLY(19), W(OK), W(1), THIRD, W(1), THIRD_ATTRIBUTES(1, 0, 0, 1010, 1010),
                                              BEFORE(512, 1005), W(1), ROOT_ATTRIBUTES(1010) };
     static const uint8_t rename_third[] = { CALL(20, RENAME), ROOT, FIRST_NAME, ROOT, SECOND_NAME };
     static const uint8_t renamed_third[] = { REPLY(20), W(OK), BEFORE(512, 1010), W(1), ROOT_ATTRIBUTES(1011),
@@ -405,7 +441,7 @@ static void replace(void) {
     static const uint8_t getattr_second[] = { CALL(21, GETATTR), SECOND };
     static const uint8_t getattr_stale[] = { REPLY(21), W(STALE) };
     static const uint8_t getattr_third[] = { CALL(22, GETATTR), THIRD };
-    static const uint8_t attributes_third[] = { REPLY(22), W(OK), THIRD_ATTRIBUTES(1011) };
+    static const uint8_t attributes_third[] = { REPLY(22), W(OK), THIRD_ATTRIBUTES(1, 0, 0, 1010, 1011) };
     static const uint8_t rename_itself[] = { CALL(23, RENAME), ROOT, SECOND_NAME, ROOT, SECOND_NAME };
     static const uint8_t not_renamed[] = { REPLY(23), W(OK), BEFORE(512, 1011), W(1), ROOT_ATTRIBUTES(1011),
                                            BEFORE(512, 1011), W(1), ROOT_ATTRIBUTES(1011) };
@@ -419,8 +455,8 @@ static void replace(void) {
 /* A directory, which a host mounts by its path, and the root. */
 static void mount(void) {
     static const uint8_t make_directory[] = { CALL(27, MKDIR), ROOT, DIRECTORY_NAME, MODE_493 };
-    static const uint8_t made_directory[] = { REPLY(27), W(OK), W(1), DIRECTORY, W(1), DIRECTORY_ATTRIBUTES,
-                                              BEFORE(512, 1011), W(1), ROOT_ATTRIBUTES_LAST };
+    static const uint8_t made_directory[] = { REPLY(27), W(OK), W(1), DIRECTORY, W(1), DIRECTORY_ATTRIBUTES(1013),
+                                              BEFORE(512, 1011), W(1), PARENT_ATTRIBUTES(1013) };
     static const uint8_t mount_root[] = { MOUNT_CALL(28, MNT), ROOT_PATH };
     static const uint8_t mounted_root[] = { REPLY(28), W(OK), ROOT, FLAVORS };
     static const uint8_t mount_directory[] = { MOUNT_CALL(29, MNT), DIRECTORY_PATH };
@@ -442,6 +478,73 @@ static void mount(void) {
     SEND("the table", 1013, list_again, listed_again);
 }
 
+/* The file of the root is linked into the directory; there is no name record left then. */
+static void link_file(void) {
+    static const uint8_t link_third[] = { CALL(34, LINK), THIRD, DIRECTORY, FIRST_NAME };
+    static const uint8_t linked_third[] = { REPLY(34), W(OK), W(1), THIRD_ATTRIBUTES(2, 0, 0, 1010, 1014),
+                                            BEFORE(512, 1013), W(1), DIRECTORY_ATTRIBUTES(1014) };
+    static const uint8_t write_third[] = { CALL(35, WRITE), THIRD, HYPER(0), W(11), W(FILE_SYNC), FIRST_DATA };
+    static const uint8_t wrote_third[] = { REPLY(35), W(OK), BEFORE_TIMES(0, 1010, 1014), W(1), THIRD_ATTRIBUTES(2, 11, 512, 1015, 1015),
+                                           W(11), W(FILE_SYNC), W(0x11223344), W(0x55667788) };
+    static const uint8_t link_again[] = { CALL(36, LINK), THIRD, DIRECTORY, FIRST_NAME };
+    static const uint8_t name_taken[] = { REPLY(36), W(EXIST), W(1), THIRD_ATTRIBUTES(2, 11, 512, 1015, 1015),
+                                          BEFORE(512, 1014), W(1), DIRECTORY_ATTRIBUTES(1014) };
+    static const uint8_t link_more[] = { CALL(37, LINK), THIRD, ROOT, FIRST_NAME };
+    static const uint8_t no_record[] = { REPLY(37), W(NOSPC), W(1), THIRD_ATTRIBUTES(2, 11, 512, 1015, 1015),
+                                         BEFORE(512, 1013), W(1), PARENT_ATTRIBUTES(1013) };
+    static const uint8_t link_directory[] = { CALL(38, LINK), DIRECTORY, ROOT, FIRST_NAME };
+    static const uint8_t not_linked[] = { REPLY(38), W(INVAL), W(1), DIRECTORY_ATTRIBUTES(1014), BEFORE(512, 1013), W(1), PARENT_ATTRIBUTES(1013) };
+    static const uint8_t link_stale[] = { CALL(39, LINK), SECOND, DIRECTORY, SECOND_NAME };
+    static const uint8_t is_stale[] = { REPLY(39), W(STALE), W(0), BEFORE(512, 1014), W(1), DIRECTORY_ATTRIBUTES(1014) };
+    SEND("07/0123456789", 1014, link_third, linked_third);
+    SEND("07/0123456789", 1015, write_third, wrote_third);
+    SEND("07/0123456789", 1016, link_again, name_taken);
+    SEND("0123456789", 1016, link_more, no_record);
+    SEND("07", 1016, link_directory, not_linked);
+    SEND("07/123456789", 1016, link_stale, is_stale);
+}
+
+/* Both names lead to the file; RENAME between them leaves both. */
+static void look_by_names(void) {
+    static const uint8_t find_first[] = { CALL(40, LOOKUP), DIRECTORY, FIRST_NAME };
+    static const uint8_t found_first[] = { REPLY(40), W(OK), THIRD, W(1), THIRD_ATTRIBUTES(2, 11, 512, 1015, 1015), W(1), DIRECTORY_ATTRIBUTES(1014) };
+    static const uint8_t find_second[] = { CALL(41, LOOKUP), ROOT, SECOND_NAME };
+    static const uint8_t found_second[] = { REPLY(41), W(OK), THIRD, W(1), THIRD_ATTRIBUTES(2, 11, 512, 1015, 1015), W(1), PARENT_ATTRIBUTES(1013) };
+    static const uint8_t list[] = { CALL(42, READDIR), DIRECTORY, HYPER(0), HYPER(0), W(4096) };
+    static const uint8_t listed[] = { REPLY(42), W(OK), W(1), DIRECTORY_ATTRIBUTES(1014), HYPER(0), DOTS(3, 1), ENTRY(2), FIRST_NAME, HYPER(5),
+                                      W(0), W(1) };
+    static const uint8_t rename_names[] = { CALL(43, RENAME), ROOT, SECOND_NAME, DIRECTORY, FIRST_NAME };
+    static const uint8_t not_renamed[] = { REPLY(43), W(OK), BEFORE(512, 1013), W(1), PARENT_ATTRIBUTES(1013),
+                                           BEFORE(512, 1014), W(1), DIRECTORY_ATTRIBUTES(1014) };
+    SEND("07/0123456789", 1017, find_first, found_first);
+    SEND("123456789", 1017, find_second, found_second);
+    SEND("07", 1017, list, listed);
+    SEND("123456789", 1017, rename_names, not_renamed);
+    check_store(linked);
+}
+
+/* The handle is live until the last name is removed. */
+static void remove_names(void) {
+    static const uint8_t remove_second[] = { CALL(44, REMOVE), ROOT, SECOND_NAME };
+    static const uint8_t removed_second[] = { REPLY(44), W(OK), BEFORE(512, 1013), W(1), PARENT_ATTRIBUTES(1018) };
+    static const uint8_t find_second[] = { CALL(45, LOOKUP), ROOT, SECOND_NAME };
+    static const uint8_t not_found[] = { REPLY(45), W(NOENT), W(1), PARENT_ATTRIBUTES(1018) };
+    static const uint8_t read_third[] = { CALL(46, READ), THIRD, HYPER(0), W(4096) };
+    static const uint8_t got_third[] = { REPLY(46), W(OK), W(1), THIRD_ATTRIBUTES(1, 11, 512, 1015, 1018), W(11), W(1), FIRST_DATA };
+    static const uint8_t getattr_third[] = { CALL(47, GETATTR), THIRD };
+    static const uint8_t attributes_third[] = { REPLY(47), W(OK), THIRD_ATTRIBUTES(1, 11, 512, 1015, 1018) };
+    static const uint8_t remove_first[] = { CALL(48, REMOVE), DIRECTORY, FIRST_NAME };
+    static const uint8_t removed_first[] = { REPLY(48), W(OK), BEFORE(512, 1014), W(1), DIRECTORY_ATTRIBUTES(1020) };
+    static const uint8_t getattr_again[] = { CALL(49, GETATTR), THIRD };
+    static const uint8_t getattr_stale[] = { REPLY(49), W(STALE) };
+    SEND("123456789", 1018, remove_second, removed_second);
+    SEND("123456789", 1019, find_second, not_found);
+    SEND("07/0123456789", 1019, read_third, got_third);
+    SEND("07/0123456789", 1019, getattr_third, attributes_third);
+    SEND("07/0123456789", 1020, remove_first, removed_first);
+    SEND("07/0123456789", 1021, getattr_again, getattr_stale);
+}
+
 int main(int argc, char **argv) {
     verbose = argc == 2 && strcmp(argv[1], "-v") == 0;
     if (argc > 2 || (argc == 2 && !verbose)) {
@@ -459,9 +562,10 @@ int main(int argc, char **argv) {
     settle();
     replace();
     mount();
-    printf("check    the store, and each of its %d bytes\n", LENGTH);
-    same_answer("the check", nfs3_check(store, LENGTH), NFS3_DONE, 0);
-    same_bytes("the store", store, last, LENGTH);
+    link_file();
+    look_by_names();
+    remove_names();
+    check_store(last);
     printf("check    each of the %d bytes of the mount table\n", MOUNT3_TABLE_LENGTH);
     same_bytes("the mount table", table, last_table, MOUNT3_TABLE_LENGTH);
     return end("run", calls);

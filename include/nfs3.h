@@ -9,7 +9,9 @@
  * To build, with this file in FOLDER: cc -IFOLDER daemon.c libnfs3.a
  *
  * The words: a HOST is a machine or program that sends calls. A HANDLE is what a host holds to name a file or a directory. An OBJECT is a file
- * or a directory. The STORE is one run of bytes with all objects, names and contents; a daemon keeps it in a file.
+ * or a directory. A NAME stands in one directory, and means one object there: a file has 1 to NFS3_LINKS_MOST names, in one directory or in
+ * several, a directory has one, and the root none. The STORE is one run of bytes with all objects, names and contents; a daemon keeps it in a
+ * file.
  *
  *
  * THE CALLER'S PART
@@ -59,20 +61,21 @@
  *
  * 5. Resent calls. The library keeps no replies. Hosts send a call again when its reply is late or lost, over TCP on a new connection: from the
  *    same address, often from another port, with the same bytes; the first 4 of them are the call's number, the xid. Keep the reply to every
- *    call of SETATTR, WRITE, CREATE, MKDIR, REMOVE, RMDIR and RENAME (2, 7, 8, 9, 12, 13, 14; the words at bytes 12, 16 and 20 of a call are its
- *    program, version and procedure) that is answered NFS3_DONE, whatever its status, with the host's address, without the port, and the call's
- *    bytes. To a call that is the same in both send the kept reply, without nfs3_call. Other bytes under the same xid are a new call, but not
- *    other PADDING: the 0 to 3 bytes behind the bodies of credential and verifier, and behind each handle, each name and the data of WRITE, up
- *    to a multiple of 4. A careless host leaves old memory there, which may be other memory the next time; so compare copies of calls whose
- *    padding is set to zero (nfs3_call takes them as they came). Keep at least the last 200 replies, of all hosts together, for at least 2
- *    minutes, whichever ends first, by a clock that is never set (CLOCK_MONOTONIC); sending a kept reply does not renew it. Not for ever: a
- *    program that starts again may use its xids again. With several threads, a call that is still being answered is not done a second time.
- *    Replies that are kept in memory are lost when the daemon stops. One call is recognised by the library too: an EXCLUSIVE CREATE, by the
- *    verifier that the host sends with it and the store keeps with the file. With the same verifier it is answered OK with the same handle,
+ *    call of SETATTR, WRITE, CREATE, MKDIR, REMOVE, RMDIR, RENAME and LINK (2, 7, 8, 9, 12, 13, 14, 15; the words at bytes 12, 16 and 20 of a
+ *    call are its program, version and procedure) that is answered NFS3_DONE, whatever its status, with the host's address, without the port,
+ *    and the call's bytes. To a call that is the same in both send the kept reply, without nfs3_call. Other bytes under the same xid are a new
+ *    call, but not other PADDING: the 0 to 3 bytes behind the bodies of credential and verifier, and behind each handle, each name and the data
+ *    of WRITE, up to a multiple of 4. A careless host leaves old memory there, which may be other memory the next time; so compare copies of
+ *    calls whose padding is set to zero (nfs3_call takes them as they came). Keep at least the last 200 replies, of all hosts together, for at
+ *    least 2 minutes, whichever ends first, by a clock that is never set (CLOCK_MONOTONIC); sending a kept reply does not renew it. Not for
+ *    ever: a program that starts again may use its xids again. With several threads, a call that is still being answered is not done a second
+ *    time. Replies that are kept in memory are lost when the daemon stops. One call is recognised by the library too: an EXCLUSIVE CREATE, by
+ *    the verifier that the host sends with it and the store keeps with the file. With the same verifier it is answered OK with the same handle,
  *    after a restart too, until a SETATTR of the file is answered OK. Keep its reply as well: hosts send that SETATTR at once.
- *    OTHERWISE: a host whose reply was lost is told EXIST for the lock file that it made itself, or NOENT for the file that it removed itself; a
- *    late WRITE undoes a newer one; a REMOVE that was answered NOENT, sent again, removes a file that was made since; and a RENAME that was
- *    answered OK, sent again when a new file has the first name, removes the file that it moved and puts the new one in its place.
+ *    OTHERWISE: a host whose reply was lost is told EXIST for the lock file that it made itself, by CREATE or by LINK, or NOENT for the file that
+ *    it removed itself; a late WRITE undoes a newer one; a REMOVE that was answered NOENT, sent again, removes a file that was made since; a
+ *    LINK that was answered OK, sent again, brings back a name that was removed since; and a RENAME that was answered OK, sent again when a new
+ *    file has the first name, removes the file that it moved and puts the new one in its place.
  *
  * 6. Calling. Lend the whole store and a reply space of NFS3_REPLY_SPACE bytes. Seconds are those since 1970, as 32 bits without a sign; where
  *    the clock is before 1970 or after 2106, stop. Nanoseconds are below NFS3_NANOSECONDS. FSINFO tells hosts 1 nanosecond, so the time is finer
@@ -91,7 +94,7 @@
  *    How to see that a call changed nothing: compare the store's bytes with a copy of those saved last. That is sure, and takes microseconds.
  *    Apart from that, no byte of the store is changed with an answer other than NFS3_DONE; with a reply that is denied or not SUCCESS; with an
  *    NFS status other than OK (the word at byte 24 of a reply whose bytes 4 to 23 are the words 1 0 0 0 0); and by procedures other than the
- *    seven of duty 5. These may leave the store as it was even with OK: WRITE of 0 bytes does, and RENAME of an object onto its own name.
+ *    eight of duty 5. These may leave the store as it was even with OK: WRITE of 0 bytes does, and RENAME of an object onto a name that it has.
  *
  * 8. Sending. The first `length` bytes of the reply space are the whole RPC message. With an answer other than NFS3_DONE there is no reply; enum
  *    nfs3_number says what to do.
@@ -123,20 +126,21 @@
  *
  * Memory: they read and write the lent bytes and their own stack, and nothing else. There is no allocation, no static data but constants, no lock,
  *   no system call; they keep no pointer.
- * Time: each ends, whatever the bytes. A call checks the whole store first, which takes a few microseconds for the largest one; to convert that
- *   takes some 20 microseconds. Each name in a call is then compared with the names of its directory, one after the other: lengths first, then
- *   bytes up to the first that differs. That is at most 2,016 pairs of bytes (63 names of 32 bytes), and takes less than a microsecond.
+ * Time: each ends, whatever the bytes. A call checks the whole store first, which takes a few microseconds for the largest one, and some 20 for one
+ *   whose names were chosen to make its check slow; to convert the largest takes some 20. Each name in a call is then compared with the names of
+ *   its directory, one after the other: lengths first, then bytes up to the first that differs. That is at most 4,096 pairs of bytes (128 names of
+ *   32 bytes), and takes about a microsecond.
  * Threads: they are reentrant, and may run at once on different stores. One store is used by one call at a time, and not saved within
  *   one; simplest is a lock that holds from the call until the store is saved.
  * Stack: at most NFS3_STACK bytes, and NFS3_CONVERT_STACK for nfs3_convert, see there.
  * Pointers: not null, even where the length is 0; no alignment is needed; the buffers of one call do not overlap.
  * Platform: x86-64 with the System V calling convention (Linux). The bytes of a store do not depend on the platform.
  * Editions: the bytes of a store are those of one layout, and no version stands in them. In the layout of this edition an object record has 92
- *   bytes. In the OLD LAYOUT, that of the edition before, it has 80, and all else is the same; nfs3_convert makes a store of this layout of
- *   one in the old layout. Tell them apart by asking nfs3_check first, and nfs3_convert where that fails. No store that was made by format
- *   and calls, of either edition, is good in both layouts; bytes that were made in another way can be, and count as a store of this layout.
- *   The edition before refuses a store of this layout. Compile a daemon with the header of the edition that it is linked to: struct nfs3_answer
- *   is not the same in all.
+ *   bytes. In the OLD LAYOUT, that of the edition before, it has 80, a file has one name, as a directory has, and all else is the same;
+ *   nfs3_convert makes a store of this layout of one in the old layout. Tell them apart by asking nfs3_check first, and nfs3_convert where that
+ *   fails. No store that was made by format and calls, of either edition, is good in both layouts; bytes that were made in another way can be,
+ *   and count as a store of this layout. The edition before refuses a store of this layout, and an edition that does not serve LINK one in which
+ *   a file has several names. Compile a daemon with the header of the edition that it is linked to: struct nfs3_answer is not the same in all.
  */
 #ifndef NFS3_H
 #define NFS3_H
@@ -150,8 +154,17 @@ extern "C" {
 
 /*
  * The program and version that are served (RFC 1813). Calls to others are answered PROG_UNAVAIL and PROG_MISMATCH. Of its procedures READLINK,
- * SYMLINK, MKNOD, LINK and READDIRPLUS are not served: they are answered NOTSUPP. RENAME replaces a file by a file, and an empty directory by a
- * directory, in one step; the handle of what was replaced is answered STALE from then on.
+ * SYMLINK, MKNOD and READDIRPLUS are not served: they are answered NOTSUPP.
+ *   LINK     gives a file one name more, in any directory. Statuses, the first that holds: of the file BADHANDLE, STALE, INVAL for a directory; of
+ *            the directory BADHANDLE, STALE, NOTDIR; of the name ACCES, NAMETOOLONG, EXIST for "." and ".." and for one that is there; MLINK (31)
+ *            where the file has NFS3_LINKS_MOST names; NOSPC without a free name record. The attribute nlink of a file counts its names.
+ *   REMOVE   takes one name away. With the last one the file is freed, and its handle is answered STALE from then on; until then it is read and
+ *            written as before.
+ *   RENAME   replaces a file by a file, and an empty directory by a directory, in one step. The name that is replaced is taken away as by REMOVE or
+ *            RMDIR: a file with another name left stays. Where both names are those of one object, it is answered OK and changes nothing.
+ *   READDIR  sends as many names as fit in 4,096 bytes behind the status, or in fewer where the host says so. Where a directory has more, the host
+ *            asks for the rest by the last cookie that it got; a name keeps its cookie as long as it is there.
+ * FSINFO tells hosts the properties 0x19 (hard links, the same limits for all objects, times that can be set), and PATHCONF linkmax NFS3_LINKS_MOST.
  */
 #define NFS3_PROGRAM 100003
 #define NFS3_VERSION 3
@@ -164,8 +177,9 @@ extern "C" {
 #define NFS3_NANOSECONDS 1000000000
 
 /*
- * How many objects (the root is one), name records and blocks a store may have; names and blocks may be 0. One name record fewer than objects is
- * enough: more are never used in this edition, and with fewer CREATE and MKDIR are answered NOSPC before the objects are used up.
+ * How many objects (the root is one), name records and blocks a store may have; names and blocks may be 0. Each name takes one record. With fewer
+ * records than objects without the root, CREATE and MKDIR are answered NOSPC before the objects are used up; each further record is room for one
+ * name by LINK. So 64 objects have up to 128 names.
  */
 #define NFS3_OBJECTS_LEAST 1
 #define NFS3_OBJECTS_MOST 64
@@ -208,8 +222,12 @@ extern "C" {
 /* The longest run of bytes that is read as a handle in a call, as RFC 1813 has it. A longer one is answered GARBAGE_ARGS. */
 #define NFS3_HANDLE_MOST 64
 
-/* The longest name (NAMETOOLONG), the largest file (FBIG, INVAL), the greatest mode (INVAL), and the most bytes that one READ or WRITE moves. */
+/*
+ * The longest name (NAMETOOLONG), the most names of a file (MLINK), the largest file (FBIG, INVAL), the greatest mode (INVAL), and the most bytes
+ * that one READ or WRITE moves.
+ */
 #define NFS3_NAME_MOST 32
+#define NFS3_LINKS_MOST 16
 #define NFS3_FILE_MOST 8192
 #define NFS3_MODE_MOST 4095
 #define NFS3_DATA_MOST 4096
@@ -218,7 +236,7 @@ extern "C" {
 #define NFS3_CREDENTIAL_MOST 400
 
 /*
- * The stack that a function uses at most, but for nfs3_convert. Measured: about 2,600 bytes for a call, 1,900 for the check and 100 for a format,
+ * The stack that a function uses at most, but for nfs3_convert. Measured: about 2,700 bytes for a call, 2,000 for the check and 100 for a format,
  * the most over all calls, checks and formats of the vectors in crates/vectors/data, each run on a stack that was filled with one byte before;
  * demo/stack does so and fails where the bound is not twice as much. The frames of these functions in the library's machine code, added up,
  * have below 5,000 bytes; there is no recursion, and nothing outside the library is called but memset.
@@ -256,7 +274,7 @@ struct nfs3_answer {
 
 /*
  * The numbers of answers. All but NFS3_DONE leave every byte of every buffer as it was, and there is no reply.
- *   NFS3_DONE             of a call: save the store where it changed (duty 7), keep the reply where the procedure is one of the seven of duty 5,
+ *   NFS3_DONE             of a call: save the store where it changed (duty 7), keep the reply where the procedure is one of the eight of duty 5,
  *                         then send it; where the offset is not 0, report it (duty 8). Of the check: the store is good. Of format: it is made;
  *                         save it. Of the converter: the new store is made; keep the old file and save the new one (duty 3).
  *   NFS3_BAD_STORE        the bytes are no store that passes its check. Send nothing and stop. At the start: ask nfs3_convert (duty 3). Where that
@@ -317,8 +335,8 @@ struct nfs3_answer nfs3_format(uint8_t *store, size_t store_len, uint32_t stamp,
  * Makes of a store in the old layout the same store in this one: with the same stamp, counts, objects, generations, attributes, names and bytes of
  * files, and no verifier of an EXCLUSIVE CREATE. So every handle goes on naming its object, and one that is STALE stays so.
  * The first of these that holds: NFS3_BAD_STORE, where the old bytes are no store that passes the check of the old layout (any bytes may be
- * lent); NFS3_BAD_FORMAT, where store_len is not exactly NFS3_CONVERTED_LENGTH; else NFS3_DONE, with every byte of the target written, and the
- * check passes on it. The length and the offset in the answer are 0.
+ * lent; a file with two names fails it); NFS3_BAD_FORMAT, where store_len is not exactly NFS3_CONVERTED_LENGTH; else NFS3_DONE, with every byte
+ * of the target written, and the check passes on it. The length and the offset in the answer are 0.
  * How to call it: where the file has fewer than NFS3_FIXED_LENGTH bytes, or NFS3_CONVERTED_LENGTH of its length and of the number at
  * NFS3_OBJECT_COUNT_OFFSET is above NFS3_STORE_MOST, it is no such store. Else lend that length of a target with NFS3_STORE_MOST bytes. The two
  * buffers do not overlap: there is no conversion in place. Ask nfs3_check first (duty 3), and convert nothing that passes it.

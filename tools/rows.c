@@ -5,10 +5,11 @@
  *
  * EXCLUSIVE is a CREATE that comes again: the last file of the store is made by it. RENAME gives the last file a new name, and the old one again: two
  * calls. LOOKUP finds the last file; in LOOKUP,first and LOOKUP,last the files have names of 32 bytes that differ in the first byte or in the last
- * one only. broken,header is a GETATTR that is cut in the length of its verifier, and is refused; broken,WRITE is a WRITE of 512 bytes with one byte
- * left over, and is answered GARBAGE_ARGS. Compiled with MOUNT defined it has the rows of MOUNT too: NULL with an empty mount table and with 32 paths
- * of 1,024 bytes that differ in the last one, MNT of "/" whose pair is there, and DUMP of the 32 paths. Ends with status 1 where a call is answered in
- * another way; all but the broken ones are answered OK.
+ * one only. In LINKS,GETATTR, LINKS,LOOKUP and LINKS,LINK+REMOVE every name record is used: the first files have further names, up to 16 each; they
+ * show a file with the most names, find its last name, and remove and make that name. broken,header is a GETATTR that is cut in the length of its
+ * verifier, and is refused; broken,WRITE is a WRITE of 512 bytes with one byte left over, and is answered GARBAGE_ARGS. Compiled with MOUNT defined
+ * it has the rows of MOUNT too: NULL with an empty mount table and with 32 paths of 1,024 bytes that differ in the last one, MNT of "/" whose pair is
+ * there, and DUMP of the 32 paths. Ends with status 1 where a call is answered in another way; all but the broken ones are answered OK.
  */
 #ifdef MOUNT
 #include "mount3.h"
@@ -20,7 +21,8 @@
 #include <stdlib.h>
 #include <string.h>
 
-enum { GETATTR = 1, SETATTR = 2, LOOKUP = 3, READ = 6, WRITE = 7, CREATE = 8, REMOVE = 12, RENAME = 14, READDIR = 16, FSSTAT = 18, STAMP = 7 };
+enum { GETATTR = 1, SETATTR = 2, LOOKUP = 3, READ = 6, WRITE = 7, CREATE = 8, REMOVE = 12, RENAME = 14, LINK = 15, READDIR = 16, FSSTAT = 18 };
+enum { STAMP = 7 };
 
 static uint8_t store[NFS3_STORE_MOST], old[NFS3_OLD_STORE_MOST], made[NFS3_STORE_MOST], reply[NFS3_REPLY_SPACE], call[NFS3_CALL_MOST];
 static size_t store_len, old_len, len;
@@ -95,6 +97,19 @@ static void rename_to(const char *name, const char *title) {
     end();
 }
 
+static void link_to(uint32_t object, const char *name) {
+    begin(LINK, object);
+    words((uint32_t[]){ NFS3_HANDLE_LENGTH, STAMP, 0, 0 }, 4);
+    opaque(name, strlen(name));
+    end();
+}
+
+static void look_up(const char *name) {
+    begin(LOOKUP, 0);
+    opaque(name, strlen(name));
+    end();
+}
+
 static void begin_write(uint32_t object, uint32_t offset, uint32_t count) {
     static uint8_t bytes[NFS3_DATA_MOST];
     begin(WRITE, object);
@@ -154,6 +169,20 @@ static void call_mount(uint32_t procedure, const char *path) {
 }
 #endif
 
+/* The rows of a store in which every name record is used. The first file has the last name. */
+static void turn_links(const char *operation, const char *last) {
+    if (strcmp(operation, "LINKS,GETATTR") == 0) {
+        begin(GETATTR, 1);
+        end();
+    } else if (strcmp(operation, "LINKS,LOOKUP") == 0)
+        look_up(last);
+    else if (strcmp(operation, "LINKS,LINK+REMOVE") == 0) {
+        remove_name(last);
+        link_to(1, last);
+    } else
+        wrong = 1;
+}
+
 static void turn(const char *operation, int full, const char *last) {
     if (strcmp(operation, "check") == 0)
         wrong |= nfs3_check(store, store_len).number;
@@ -167,9 +196,7 @@ static void turn(const char *operation, int full, const char *last) {
         rename_to(last, "another");
         rename_to("another", last);
     } else if (strncmp(operation, "LOOKUP", 6) == 0) {
-        begin(LOOKUP, 0);
-        opaque(last, strlen(last));
-        end();
+        look_up(last);
     } else if (strcmp(operation, "WRITE") == 0)
         write_bytes(1, 0, 512);
     else if (strcmp(operation, "broken,header") == 0) {
@@ -208,7 +235,7 @@ static void turn(const char *operation, int full, const char *last) {
         else if (strcmp(operation, "EXCLUSIVE") == 0)
             create_exclusive(last);
         else
-            wrong = 1;
+            turn_links(operation, last);
     }
 }
 
@@ -231,6 +258,11 @@ int main(int argc, char **argv) {
             write_bytes(file, NFS3_DATA_MOST, NFS3_DATA_MOST);
     }
     make_old(objects);
+    uint32_t further = strncmp(argv[2], "LINKS,", 6) == 0 ? names - (full ? objects - 1 : 1) : 0;
+    for (uint32_t left = further; left > 0; left--) { /* the last 15 are those of the first file, the 15 before them those of the second */
+        name_file(last, argv[2], (unsigned)(names - left));
+        link_to(1 + (left - 1) / (NFS3_LINKS_MOST - 1), last);
+    }
 #ifdef MOUNT
     if (strcmp(argv[2], "MOUNT,full") == 0 || strcmp(argv[2], "MOUNT,DUMP") == 0)
         fill_table();
