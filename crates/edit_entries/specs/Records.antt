@@ -27,7 +27,7 @@ RenamableAt s clock d e n newName = Movable s d e n
 RenamableAt s clock d e n sameObject = Unit {0}
 RenamableAt s clock d e n (replacing m) = ReplaceableAt s clock d e n m
 
--- file o, directory d, and the free name record n
+-- file o, directory d, and the name record n that is to name it
 pub record LinkableAt (s : Store) (o d n : ℕ) : Type 0 where
   pub file : o < objects s
   pub directory : d < objects s

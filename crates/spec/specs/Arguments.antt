@@ -167,7 +167,7 @@ pub data Form : Type 0 where
   nameThen : (NameIn → Reader Arguments) → Form
   unread : Form
 
--- the procedures 0 to 21; "The other five answer NOTSUPP with their arguments unread.", which are four since E7 serves LINK
+-- the procedures 0 to 21; "The other five answer NOTSUPP with their arguments unread."; E7: "Serve LINK", so they are four
 unfoldable pub form : ℕ → Form
 form p =
     cond (eqb p 0) none

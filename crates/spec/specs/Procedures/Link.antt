@@ -16,8 +16,8 @@ use Rattle.spec.specs.Procedures.Names.{touchDirectory}
 use Rattle.spec.specs.Results.{Result, Done, settle, dead, linked}
 use Rattle.spec.specs.Room.{isDirectory, availableName, findName, namings}
 
--- what LINK checks of file o and in directory d: "then the name checks ("." or ".." EXIST), EXIST, MLINK at 16 names, NOSPC without a free name": the
--- free name record
+-- what LINK checks of file o and in directory d. E7: "then the name checks ("." or ".." EXIST), EXIST, MLINK at 16 names, NOSPC without a free name":
+-- the free name record
 unfoldable pub checkAdded : Store → ℕ → ℕ → List ℕ → Checked ℕ
 checkAdded s o d text = do
   checkName text
@@ -26,7 +26,7 @@ checkAdded s o d text = do
   refuseIf (leb mostLinks (namings s o)) MLINK
   present NOSPC (availableName s)
 
--- "source handle, INVAL if a directory, directory handle, NOTDIR": the file, the directory and the name record
+-- E7: "source handle, INVAL if a directory, directory handle, NOTDIR": the file, the directory and the name record
 unfoldable pub checkLink : Store → List ℕ → List ℕ → List ℕ → Checked (ℕ × ℕ × ℕ)
 checkLink s h g text = do
   o ← reach s h
@@ -35,7 +35,7 @@ checkLink s h g text = do
   n ← checkAdded s o d text
   passed (o, d, n)
 
--- "Of times, only the file's ctime and the directory's mtime and ctime change."
+-- E7: "Of times, only the file's ctime and the directory's mtime and ctime change."
 unfoldable pub linkEdit : Store → Context → ℕ → ℕ → ℕ → List ℕ → Store
 linkEdit s c o d n text = touchDirectory (addName (setAttributes s (c .clock) o onlyCtime) n o d text) c d
 
