@@ -1,7 +1,7 @@
 /*
- * Calls the check, format and the converter from C, mount3_call with good and bad tables, nfs3_call and mount3_call with calls that cannot be read, and
- * nfs3_call in both listing editions and with numbers that are none; prints a line for each answer, and compares it and the bytes with those written
- * out here from the rules of the store, of the mount table, of a call and of a listing. Exits 1 on a difference.
+ * Calls the check, format and the converter from C, mount3_call with good and bad tables, and nfs3_call and mount3_call with calls that cannot be read;
+ * prints a line for each answer, and compares it and the bytes with those written out here from the rules of the store, of the mount table and of a
+ * call. Exits 1 on a difference.
  */
 #include "mount3.h"
 #include "same.h"
@@ -406,7 +406,7 @@ static void mounts(void) {
     table_is("a full table with the longest hosts and paths", MOUNT3_REPLY_SPACE);
 
     make_store();
-    is_unavailable("a MOUNT call in nfs3_call", nfs3_call(dump, DUMP_LENGTH, store, LENGTH, reply, sizeof reply, 0, 0, 0, NFS3_EDITION_WITH_DOTS));
+    is_unavailable("a MOUNT call in nfs3_call", nfs3_call(dump, DUMP_LENGTH, store, LENGTH, reply, sizeof reply, 0, 0, 0));
     dump[15] = 0xA3; /* program 100003 */
     is_unavailable("an NFS call in mount3_call",
                    mount3_call(dump, DUMP_LENGTH, store, LENGTH, table, MOUNT3_TABLE_LENGTH, reply, MOUNT3_REPLY_SPACE, 0x7F000001));
@@ -415,12 +415,9 @@ static void mounts(void) {
 /* ---- Calls that cannot be read: where each broke (struct nfs3_answer) ---- */
 
 /* A message, of which the first bytes are lent, and the program that it calls. */
-static uint8_t message[NFS3_CALL_MOST + 1];
+static uint8_t message[NFS3_CALL_MOST];
 static size_t message_len;
 static uint32_t called;
-
-/* What nfs3_call is given with it. */
-static uint32_t nanoseconds, edition = NFS3_EDITION_WITH_DOTS;
 
 static void put_word(uint32_t word) {
     for (int i = 0; i < 4; i++)
@@ -485,7 +482,7 @@ static struct nfs3_answer answered(const char *what, uint32_t program, size_t sp
     if (program == MOUNT3_PROGRAM)
         a = mount3_call(message, message_len, store, LENGTH, table, MOUNT3_TABLE_LENGTH, reply, space, 0x7F000001);
     else
-        a = nfs3_call(message, message_len, store, LENGTH, reply, space, 0, nanoseconds, 0, edition);
+        a = nfs3_call(message, message_len, store, LENGTH, reply, space, 0, 0, 0);
     steps++;
     same_answer_at(what, a, number, len, offset);
     same_bytes(what, reply, wanted, len);
@@ -603,8 +600,7 @@ static void headers(void) {
     store[3] = 1;
 }
 
-enum { NULL_PROCEDURE = 0, GETATTR = 1, SETATTR = 2, LOOKUP = 3, WRITE = 7, CREATE = 8, RENAME = 14, LINK = 15, READDIR = 16 };
-enum { MNT = 1, DUMP = 2, UMNT = 3 };
+enum { NULL_PROCEDURE = 0, GETATTR = 1, SETATTR = 2, LOOKUP = 3, WRITE = 7, CREATE = 8, RENAME = 14, LINK = 15, MNT = 1, DUMP = 2, UMNT = 3 };
 
 /* Calls of NFS whose arguments cannot be read. */
 static void arguments(void) {
@@ -718,234 +714,6 @@ static void mount_arguments(void) {
     replied("procedure 6 of MOUNT, with a byte left over", PROC_UNAVAIL, 0);
 }
 
-/* ---- The listing edition (duty 11 of nfs3.h) ---- */
-
-/* The message, as it is, is refused where this is given for the listing edition. */
-static void tell_edition(const char *what, uint32_t other, uint32_t number) {
-    edition = other;
-    tell(what, answered(what, NFS3_PROGRAM, sizeof reply, number, 0, NULL, 0));
-    edition = NFS3_EDITION_WITH_DOTS;
-}
-
-/* A READDIR of the root, and numbers that are no edition, some with a byte of 1 or 2 at another place. */
-static void other_editions(void) {
-    make_store();
-    begin_on_root(READDIR);
-    put_words((uint32_t[]){ 0, 0, 0, 0, 4096 }, 5);
-    tell_edition("listing edition 0", 0, NFS3_BAD_EDITION);
-    tell_edition("listing edition 3", 3, NFS3_BAD_EDITION);
-    tell_edition("listing edition 10", 10, NFS3_BAD_EDITION);
-    tell_edition("listing edition 256", 256, NFS3_BAD_EDITION);
-    tell_edition("listing edition 257", 257, NFS3_BAD_EDITION);
-    tell_edition("listing edition 65,538", 65538, NFS3_BAD_EDITION);
-    tell_edition("listing edition 16,777,216", 16777216, NFS3_BAD_EDITION);
-    tell_edition("listing edition 33,554,432", 33554432, NFS3_BAD_EDITION);
-    tell_edition("listing edition 2,147,483,649", 2147483649, NFS3_BAD_EDITION);
-    tell_edition("listing edition 4,294,967,295", 4294967295, NFS3_BAD_EDITION);
-}
-
-/* What is looked at before the edition, and what after it. Calls other than READDIR are refused too. */
-static void order_of_editions(void) {
-    begin(NFS3_PROGRAM, NULL_PROCEDURE);
-    tell_edition("listing edition 3, and NULL", 3, NFS3_BAD_EDITION);
-    begin_on_root(SETATTR);
-    put_words((uint32_t[]){ 1, 448, 0, 0, 0, 0, 0, 0 }, 8); /* mode 448 */
-    tell_edition("listing edition 3, and SETATTR", 3, NFS3_BAD_EDITION);
-    begin(MOUNT3_PROGRAM, NULL_PROCEDURE);
-    tell_edition("listing edition 3, and a call of MOUNT", 3, NFS3_BAD_EDITION);
-    begin(NFS3_PROGRAM, NULL_PROCEDURE);
-    put_bytes(1);
-    tell_edition("listing edition 3, and a byte left over", 3, NFS3_BAD_EDITION);
-    message[RPC + 3] = 3;
-    tell_edition("listing edition 3, and RPC version 3", 3, NFS3_BAD_EDITION);
-    message_len = CREDENTIAL;
-    tell_edition("listing edition 3, and a cut header", 3, NFS3_BAD_EDITION);
-    put_word(NFS3_CREDENTIAL_MOST + 1);
-    tell_edition("listing edition 3, and a credential of 401 bytes", 3, NFS3_BAD_EDITION);
-    message[7] = 1;
-    tell_edition("listing edition 3, and a REPLY", 3, NFS3_BAD_EDITION);
-    message_len = 0;
-    tell_edition("listing edition 3, and an empty message", 3, NFS3_BAD_EDITION);
-    store[3] = 2;
-    tell_edition("listing edition 3, and a bad store", 3, NFS3_BAD_EDITION);
-    tell_edition("listing edition 2, and a bad store", 2, NFS3_BAD_STORE);
-    message_len = NFS3_CALL_MOST + 1;
-    tell_edition("listing edition 3, a bad store and a message of 8,193 bytes", 3, NFS3_LONG_CALL);
-    message_len = NFS3_CALL_MOST;
-    tell_edition("listing edition 3, a bad store and a message of 8,192 bytes", 3, NFS3_BAD_EDITION);
-    nanoseconds = NFS3_NANOSECONDS;
-    tell_edition("listing edition 3, and nanoseconds 1,000,000,000", 3, NFS3_BAD_CLOCK);
-    nanoseconds = 0;
-    edition = 3;
-    answered("listing edition 3, and a small reply space", NFS3_PROGRAM, NFS3_REPLY_SPACE - 1, NFS3_SMALL_REPLY, 0, NULL, 0);
-    edition = NFS3_EDITION_WITH_DOTS;
-    store[3] = 1;
-}
-
-/* ---- Listings: the root has the directory "d", which is empty, and the file "f" ---- */
-
-enum { ROOT, D, F };
-enum { OK = 0, NOTDIR = 20, STALE = 70, BAD_COOKIE = 10003, TOOSMALL = 10005 };
-enum { LEAST = 104, ONE_NAME = LEAST + 28, TWO_NAMES = ONE_NAME + 28, ENOUGH = 160, MOST = 4096 }; /* counts; these names take 4 bytes each */
-
-static const uint32_t handles[3][4] = { { 12, 9, 0, 0 }, { 12, 9, 1, 0xFFFFFFFE }, { 12, 9, 2, 5 } };
-
-/* Their attributes, present: type, mode, nlink, uid, gid, size, used, rdev, fsid, fileid, atime, mtime, ctime. */
-static const uint32_t attributes[3][22] = {
-    { 1, 2, 493, 3, 0, 0, 0, 512, 0, 0, 0, 0, 0, 9, 0, 1, 0, 0, 0, 0, 0, 0 },
-    { 1, 2, 4095, 2, 7, 8, 0, 512, 0, 0, 0, 0, 0, 9, 0, 2, 1, 0, 2, 0, 3, 999999999 },
-    { 1, 1, 420, 1, 7, 8, 0, 600, 0, 1024, 0, 0, 0, 9, 0, 3, 1, 0, 2, 0, 3, 0 },
-};
-
-static void make_listed(void) {
-    make_store();
-    store[NAME_F + 3] = 0;
-}
-
-/* The reply that is wanted. */
-static uint8_t reply_wanted[512];
-static size_t wanted_len;
-
-static void want_words(const uint32_t *words, size_t count) {
-    for (size_t i = 0; i < 4 * count; i++)
-        reply_wanted[wanted_len++] = (uint8_t)(words[i / 4] >> (24 - 8 * (i % 4)));
-}
-
-/* Up to the attributes of an object: xid 7, REPLY, accepted, no verifier, SUCCESS, and the status of NFS. */
-static void want(uint32_t status, uint32_t object) {
-    wanted_len = 0;
-    want_words((uint32_t[]){ 7, 1, 0, 0, 0, 0, status }, 7);
-    want_words(attributes[object], 22);
-}
-
-static void tell_wanted(const char *what) {
-    tell(what, answered(what, NFS3_PROGRAM, sizeof reply, NFS3_DONE, 0, reply_wanted, wanted_len));
-}
-
-/* A call of READDIR: the cookie, of which the upper half comes first, the cookie verifier, and the count. */
-static void begin_listing(uint32_t object, uint32_t high, uint32_t cookie, uint32_t verifier, uint32_t count) {
-    begin(NFS3_PROGRAM, READDIR);
-    put_words(handles[object], 4);
-    put_words((uint32_t[]){ high, cookie, 0, verifier, count }, 5);
-}
-
-struct entry {
-    uint32_t fileid;
-    const char *name;
-    uint32_t cookie;
-};
-
-/* All entries of the root and of "d", in the order of their cookies. Those that are listed without dots start at NAMES. */
-static const struct entry entries_of[2][4] = { { { 1, ".", 1 }, { 1, "..", 2 }, { 2, "d", 3 }, { 3, "f", 4 } }, { { 2, ".", 1 }, { 1, "..", 2 } } };
-enum { DOTS = 0, NAMES = 2 };
-
-static void want_entries(const struct entry *entries, size_t count) {
-    for (size_t i = 0; i < count; i++) {
-        size_t len = strlen(entries[i].name);
-        want_words((uint32_t[]){ 1, 0, entries[i].fileid, (uint32_t)len }, 4);
-        memset(reply_wanted + wanted_len, 0, len + 3);
-        memcpy(reply_wanted + wanted_len, entries[i].name, len);
-        wanted_len += (len + 3) / 4 * 4;
-        want_words((uint32_t[]){ 0, entries[i].cookie }, 2);
-    }
-}
-
-/* READDIR above a cookie sends so many of the entries, from a given one on, and eof or not. */
-static void lists(const char *what, uint32_t object, uint32_t cookie, uint32_t count, size_t first, size_t sent, uint32_t eof) {
-    begin_listing(object, 0, cookie, 0, count);
-    want(OK, object);
-    want_words((uint32_t[]){ 0, 0 }, 2);
-    want_entries(entries_of[object] + first, sent);
-    want_words((uint32_t[]){ 0, eof }, 2);
-    tell_wanted(what);
-}
-
-static void not_listed(const char *what, uint32_t object, uint32_t cookie, uint32_t verifier, uint32_t count, uint32_t status) {
-    begin_listing(object, 0, cookie, verifier, count);
-    want(status, object);
-    tell_wanted(what);
-}
-
-/* LOOKUP of "." or ".." in "d" finds an object. */
-static void finds(const char *what, uint32_t len, uint32_t object) {
-    begin(NFS3_PROGRAM, LOOKUP);
-    put_words(handles[D], 4);
-    put_words((uint32_t[]){ len, len == 1 ? 0x2E000000 : 0x2E2E0000 }, 2);
-    want(OK, object);
-    wanted_len = 28;
-    want_words(handles[object], 4);
-    want_words(attributes[object], 22);
-    want_words(attributes[D], 22);
-    tell_wanted(what);
-}
-
-static void with_dots(void) {
-    make_listed();
-    lists("with dots: the root", ROOT, 0, MOST, DOTS, 4, 1);
-    lists("with dots: above cookie 1", ROOT, 1, MOST, DOTS + 1, 3, 1);
-    lists("with dots: above cookie 2", ROOT, 2, MOST, NAMES, 2, 1);
-    lists("with dots: above cookie 3", ROOT, 3, MOST, NAMES + 1, 1, 1);
-    lists("with dots: an empty directory", D, 0, TWO_NAMES, DOTS, 2, 1);
-    lists("with dots: an empty directory, cut", D, 0, TWO_NAMES - 1, DOTS, 1, 0);
-    not_listed("with dots: an empty directory, count 104", D, 0, 0, LEAST, TOOSMALL);
-    lists("with dots: above the dots, count 104", D, 2, LEAST, NAMES, 0, 1);
-    finds("with dots: LOOKUP of \".\"", 1, D);
-    finds("with dots: LOOKUP of \"..\"", 2, ROOT);
-}
-
-static void without_dots(void) {
-    make_listed();
-    edition = NFS3_EDITION_WITHOUT_DOTS;
-    lists("without dots: the root", ROOT, 0, MOST, NAMES, 2, 1);
-    lists("without dots: both names, with just enough room", ROOT, 0, TWO_NAMES, NAMES, 2, 1);
-    lists("without dots: the first name, room for a byte too few", ROOT, 0, TWO_NAMES - 1, NAMES, 1, 0);
-    lists("without dots: the first name, with just enough room", ROOT, 0, ONE_NAME, NAMES, 1, 0);
-    lists("without dots: resumed at its cookie", ROOT, 3, ONE_NAME, NAMES + 1, 1, 1);
-    lists("without dots: resumed at the last cookie", ROOT, 4, LEAST, NAMES, 0, 1);
-    not_listed("without dots: no room for the first name", ROOT, 0, 0, ONE_NAME - 1, TOOSMALL);
-    not_listed("without dots: no room for the second name", ROOT, 3, 0, ONE_NAME - 1, TOOSMALL);
-    not_listed("without dots: no room for a listing", ROOT, 4, 0, LEAST - 1, TOOSMALL);
-    lists("without dots: an empty directory, count 104", D, 0, LEAST, NAMES, 0, 1);
-    not_listed("without dots: an empty directory, count 103", D, 0, 0, LEAST - 1, TOOSMALL);
-    not_listed("without dots: cookie 1", ROOT, 1, 0, MOST, BAD_COOKIE);
-    not_listed("without dots: cookie 2", ROOT, 2, 0, MOST, BAD_COOKIE);
-    not_listed("without dots: cookie 1, count 0", ROOT, 1, 0, 0, BAD_COOKIE);
-    not_listed("without dots: cookie 2 in an empty directory", D, 2, 0, LEAST, BAD_COOKIE);
-    not_listed("without dots: a cookie verifier", ROOT, 0, 1, MOST, BAD_COOKIE);
-    not_listed("without dots: cookie 1, of a file", F, 1, 0, MOST, NOTDIR);
-    lists("without dots: a cookie above all", ROOT, 0xFFFFFFFF, LEAST, NAMES, 0, 1);
-    begin_listing(ROOT, 1, 1, 0, LEAST); /* above all too: the reply is the same */
-    tell_wanted("without dots: cookie 4,294,967,297");
-    finds("without dots: LOOKUP of \".\"", 1, D);
-    finds("without dots: LOOKUP of \"..\"", 2, ROOT);
-    memset(store + NAME_F, 0, 44);
-    memset(store + FILE_RECORD, 0, RECORD);
-    begin_listing(F, 0, 1, 0, MOST);
-    wanted_len = 0;
-    want_words((uint32_t[]){ 7, 1, 0, 0, 0, 0, STALE, 0 }, 8);
-    tell_wanted("without dots: cookie 1, of a file that is gone");
-    lists("without dots: a root with one name", ROOT, 0, MOST, NAMES, 1, 1);
-    edition = NFS3_EDITION_WITH_DOTS;
-}
-
-/* A name of 32 bytes behind another: a count of 160 is enough for it, and 159 is not. */
-static void longest_name(void) {
-    static const struct entry longest = { 3, "ffffffffffffffffffffffffffffffff", 4 };
-    make_listed();
-    store[NAME_F + 11] = NFS3_NAME_MOST;
-    memset(store + NAME_F + 12, 'f', NFS3_NAME_MOST);
-    for (edition = NFS3_EDITION_WITH_DOTS; edition <= NFS3_EDITION_WITHOUT_DOTS; edition++) {
-        begin_listing(ROOT, 0, 3, 0, ENOUGH);
-        want(OK, ROOT);
-        want_words((uint32_t[]){ 0, 0 }, 2);
-        want_entries(&longest, 1);
-        want_words((uint32_t[]){ 0, 1 }, 2);
-        tell_wanted("a name of 32 bytes, count 160, in both editions");
-        not_listed("a name of 32 bytes, count 159, in both editions", ROOT, 3, 0, ENOUGH - 1, TOOSMALL);
-    }
-    edition = NFS3_EDITION_WITH_DOTS;
-}
-
 int main(void) {
     formats();
     checks();
@@ -960,10 +728,5 @@ int main(void) {
     headers();
     arguments();
     mount_arguments();
-    other_editions();
-    order_of_editions();
-    with_dots();
-    without_dots();
-    longest_name();
     return end("check", steps);
 }

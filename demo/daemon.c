@@ -5,11 +5,7 @@
  *
  *     daemon --format OBJECTS NAMES BLOCKS STORE_FILE    makes a new, empty store; what was in the file is lost
  *     daemon --stamp STORE_FILE                          gives a copy that was brought back a new stamp; its files stay
- *     daemon STORE_FILE PORT [ADDRESS ..]                serves it; with port 0 on any free port. Prints "port N" when hosts can connect
- *
- * Hosts with one of the addresses get listings without "." and "..", because they add these by themselves; all others get listings with them
- * (duty 11). An address is an IPv4 address, like 127.0.0.2; there may be 64. Start the daemon with the same ones again as long as hosts have the
- * store mounted.
+ *     daemon STORE_FILE PORT                             serves it; with port 0 on any free port. Prints "port N" when hosts can connect
  *
  * A Linux host mounts a directory of the store by its path, with N for the port, by
  *     mount -t nfs -o vers=3,proto=tcp,port=N,mountproto=tcp,mountport=N,nolock 127.0.0.1:/PATH FOLDER
@@ -278,29 +274,6 @@ static struct nfs3_answer call_mount(const uint8_t *call, size_t call_len, uint8
     return mount3_call(call, call_len, store, store_len, table, sizeof table, reply, reply_len, ntohl(address)); /* MOUNT duty 2 */
 }
 
-/* ---- The listing edition of a host (duty 11) ---- */
-
-/* The addresses of hosts that add "." and ".." by themselves, in network order as the system gives them. */
-enum { ADDRESSES = 64 };
-static struct in_addr addresses[ADDRESSES];
-static size_t address_count;
-
-static void take_addresses(char **texts, size_t count) {
-    if (count > ADDRESSES)
-        stop(texts[ADDRESSES], "one address too many");
-    for (size_t i = 0; i < count; i++)
-        if (inet_pton(AF_INET, texts[i], &addresses[i]) != 1)
-            stop(texts[i], "not an IPv4 address");
-    address_count = count;
-}
-
-static uint32_t edition_of(uint32_t address) {
-    for (size_t i = 0; i < address_count; i++)
-        if (addresses[i].s_addr == address)
-            return NFS3_EDITION_WITHOUT_DOTS;
-    return NFS3_EDITION_WITH_DOTS;
-}
-
 /* ---- Replies that are kept (duty 5); none of MOUNT (MOUNT duty 4) ---- */
 
 enum { RPC_CALL = 0, RPC_VERSION = 2, SETATTR = 2, WRITE = 7, CREATE = 8, MKDIR = 9, REMOVE = 12, RMDIR = 13, RENAME = 14, LINK = 15 };
@@ -488,8 +461,7 @@ static bool answer(struct connection *c) {
             a = call_mount(c->call, c->call_len, reply, REPLY_SPACE, c->address);
         } else {
             struct timespec now = next_time();
-            a = nfs3_call(c->call, c->call_len, store, store_len, reply, REPLY_SPACE, (uint32_t)now.tv_sec, (uint32_t)now.tv_nsec, verifier,
-                          edition_of(c->address));
+            a = nfs3_call(c->call, c->call_len, store, store_len, reply, REPLY_SPACE, (uint32_t)now.tv_sec, (uint32_t)now.tv_nsec, verifier);
         }
         if (is_refused(a.number)) {
             report(c, a, c->call_len);
@@ -639,10 +611,9 @@ int main(int argc, char **argv) {
         restamp();
         return 0;
     }
-    if (argc < 3 || strncmp(argv[1], "--", 2) == 0)
-        stop("usage", "daemon --format OBJECTS NAMES BLOCKS STORE_FILE, daemon --stamp STORE_FILE, or daemon STORE_FILE PORT [ADDRESS ..]");
+    if (argc != 3)
+        stop("usage", "daemon --format OBJECTS NAMES BLOCKS STORE_FILE, daemon --stamp STORE_FILE, or daemon STORE_FILE PORT");
     uint32_t port = number(argv[2], 65535);
-    take_addresses(argv + 3, (size_t)argc - 3);
     open_place(argv[1]);
     load();
     for (size_t i = 0; i < CONNECTIONS; i++)

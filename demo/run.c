@@ -4,10 +4,9 @@
  * difference.
  *
  * Two bag tags are files of the root: 0123456789 and 123456789. The second is made EXCLUSIVE: sent again, its CREATE is answered in the same way,
- * and another host's is refused. The root is listed in both listing editions: with "." and ".." for a host that shows what READDIR sends, and without
- * them for one that adds them by itself; LOOKUP finds "." for that one too. Each tag is found under its own name, and 0123456780, which is as long
- * as the first, is not there. The first is removed; its handle is stale then, and the second is as it was. SETATTR gives the second a mode; from
- * then on its CREATE is refused too. Then the second is replaced: a new file is made under the first name and renamed onto the second one.
+ * and another host's is refused. Each is found under its own name, and 0123456780, which is as long as the first, is not there. The first is
+ * removed; its handle is stale then, and the second is as it was. SETATTR gives the second a mode; from then on its CREATE is refused too. Then the
+ * second is replaced: a new file is made under the first name and renamed onto the second one.
  *
  * Then the directory 07 is made, and the host 192.0.2.1 mounts the root and the directory by their paths (MOUNT): it gets their handles, and
  * DUMP lists what it mounted, until it unmounts the root.
@@ -35,7 +34,7 @@
 
 enum { GETATTR = 1, SETATTR = 2, LOOKUP = 3, READ = 6, WRITE = 7, CREATE = 8, MKDIR = 9, REMOVE = 12, RENAME = 14, LINK = 15, READDIR = 16 };
 enum { MNT = 1, DUMP = 2, UMNT = 3 };
-enum { OK = 0, NOENT = 2, EXIST = 17, INVAL = 22, NOSPC = 28, STALE = 70, BAD_COOKIE = 10003 };
+enum { OK = 0, NOENT = 2, EXIST = 17, INVAL = 22, NOSPC = 28, STALE = 70 };
 
 /* A handle: its length, then the store's stamp, object and generation. */
 #define STAMP 0x01020304
@@ -192,7 +191,6 @@ static const char *status_name(uint32_t status) {
     case INVAL: return "INVAL";
     case NOSPC: return "NOSPC";
     case STALE: return "STALE";
-    case BAD_COOKIE: return "BAD_COOKIE";
     default: return "another";
     }
 }
@@ -245,7 +243,7 @@ static void tell(const char *about, uint32_t procedure, struct nfs3_answer a) {
         printf("answer %u, length %u\n", (unsigned)a.number, (unsigned)a.length);
         return;
     }
-    printf("%-10s %4u bytes  ", status_name(word(reply, 24)), (unsigned)a.length);
+    printf("%-6s %4u bytes  ", status_name(word(reply, 24)), (unsigned)a.length);
     if (word(reply, 24) == OK)
         tell_result(procedure, a.length);
     else if (word(reply, 24) == STALE)
@@ -258,8 +256,6 @@ static void tell(const char *about, uint32_t procedure, struct nfs3_answer a) {
         printf("a directory has one name");
     else if (word(reply, 24) == NOSPC)
         printf("no name record is free");
-    else if (word(reply, 24) == BAD_COOKIE)
-        printf("no listing without dots has this cookie");
     printf("\n");
 }
 
@@ -290,7 +286,7 @@ static void tell_mount(const char *about, uint32_t procedure, struct nfs3_answer
         printf("answer %u, length %u\n", (unsigned)a.number, (unsigned)a.length);
         return;
     }
-    printf("%-10s %4u bytes  ", procedure == MNT ? status_name(word(reply, 24)) : "", (unsigned)a.length);
+    printf("%-6s %4u bytes  ", procedure == MNT ? status_name(word(reply, 24)) : "", (unsigned)a.length);
     if (procedure == MNT && a.length == 56)
         printf("handle: stamp %08X, object %u, generation %u", (unsigned)word(reply, 32), (unsigned)word(reply, 36), (unsigned)word(reply, 40));
     else if (procedure == MNT && word(reply, 24) == NOENT)
@@ -306,15 +302,14 @@ static void tell_mount(const char *about, uint32_t procedure, struct nfs3_answer
  * Sends a call to the library of its program, tells what came back, and compares it with the wanted reply. The reply space past the reply stays as
  * it was.
  */
-static void send(const char *about, uint32_t seconds, uint32_t edition, const uint8_t *call, size_t call_len, const uint8_t *wanted,
-                 size_t wanted_len) {
+static void send(const char *about, uint32_t seconds, const uint8_t *call, size_t call_len, const uint8_t *wanted, size_t wanted_len) {
     memset(reply, 0x5A, sizeof reply);
     struct nfs3_answer a;
     if (word(call, 12) == MOUNT3_PROGRAM) {
         a = mount3_call(call, call_len, store, LENGTH, table, sizeof table, reply, sizeof reply, HOST);
         tell_mount(about, word(call, 20), a);
     } else {
-        a = nfs3_call(call, call_len, store, LENGTH, reply, sizeof reply, seconds, 0, VERIFIER, edition);
+        a = nfs3_call(call, call_len, store, LENGTH, reply, sizeof reply, seconds, 0, VERIFIER);
         tell(about, word(call, 20), a);
     }
     calls++;
@@ -339,9 +334,7 @@ static void check_store(const uint8_t *wanted) {
     same_bytes("the store", store, wanted, LENGTH);
 }
 
-/* A call of a host that shows what READDIR sends, and of one that adds "." and ".." by itself. */
-#define SEND(about, seconds, call, wanted) send(about, seconds, NFS3_EDITION_WITH_DOTS, call, sizeof call, wanted, sizeof wanted)
-#define SEND_WITHOUT_DOTS(about, seconds, call, wanted) send(about, seconds, NFS3_EDITION_WITHOUT_DOTS, call, sizeof call, wanted, sizeof wanted)
+#define SEND(about, seconds, call, wanted) send(about, seconds, call, sizeof call, wanted, sizeof wanted)
 
 static void make(void) {
     static const uint8_t create_first[] = { CALL(1, CREATE), ROOT, FIRST_NAME, GUARDED_420 };
@@ -386,32 +379,6 @@ static void look(void) {
     SEND("the root", 1005, list, listed);
     SEND("0123456789", 1005, read_first, got_first);
     SEND("123456789", 1005, read_second, got_second);
-}
-
-/* The root once more, without "." and "..": whole, then in two parts, the second resumed at the cookie of the first. Cookies 1 and 2 are refused. */
-static void look_without_dots(void) {
-    enum { ONE_NAME = 104 + 24 + 12 }; /* a count: what a listing takes beside its names, and a name of 10 bytes */
-    static const uint8_t list[] = { CALL(50, READDIR), ROOT, HYPER(0), HYPER(0), W(4096) };
-    static const uint8_t listed[] = { REPLY(50), W(OK), W(1), ROOT_ATTRIBUTES(1002), HYPER(0), ENTRY(2), FIRST_NAME, HYPER(3),
-                                      ENTRY(3), SECOND_NAME, HYPER(4), W(0), W(1) };
-    static const uint8_t list_first[] = { CALL(51, READDIR), ROOT, HYPER(0), HYPER(0), W(ONE_NAME) };
-    static const uint8_t listed_first[] = { REPLY(51), W(OK), W(1), ROOT_ATTRIBUTES(1002), HYPER(0), ENTRY(2), FIRST_NAME, HYPER(3),
-                                            W(0), W(0) };
-    static const uint8_t list_second[] = { CALL(52, READDIR), ROOT, HYPER(3), HYPER(0), W(ONE_NAME) };
-    static const uint8_t listed_second[] = { REPLY(52), W(OK), W(1), ROOT_ATTRIBUTES(1002), HYPER(0), ENTRY(3), SECOND_NAME, HYPER(4),
-                                             W(0), W(1) };
-    static const uint8_t list_from_1[] = { CALL(53, READDIR), ROOT, HYPER(1), HYPER(0), W(4096) };
-    static const uint8_t bad_cookie_1[] = { REPLY(53), W(BAD_COOKIE), W(1), ROOT_ATTRIBUTES(1002) };
-    static const uint8_t list_from_2[] = { CALL(54, READDIR), ROOT, HYPER(2), HYPER(0), W(4096) };
-    static const uint8_t bad_cookie_2[] = { REPLY(54), W(BAD_COOKIE), W(1), ROOT_ATTRIBUTES(1002) };
-    static const uint8_t find_root[] = { CALL(55, LOOKUP), ROOT, W(1), '.', 0, 0, 0 };
-    static const uint8_t found_root[] = { REPLY(55), W(OK), ROOT, W(1), ROOT_ATTRIBUTES(1002), W(1), ROOT_ATTRIBUTES(1002) };
-    SEND_WITHOUT_DOTS("the root", 1005, list, listed);
-    SEND_WITHOUT_DOTS("the root", 1005, list_first, listed_first);
-    SEND_WITHOUT_DOTS("the root", 1005, list_second, listed_second);
-    SEND_WITHOUT_DOTS("the root", 1005, list_from_1, bad_cookie_1);
-    SEND_WITHOUT_DOTS("the root", 1005, list_from_2, bad_cookie_2);
-    SEND_WITHOUT_DOTS(".", 1005, find_root, found_root);
 }
 
 /* Each tag is found under its own digits alone. */
@@ -589,7 +556,6 @@ int main(int argc, char **argv) {
     make();
     make_again();
     look();
-    look_without_dots();
     look_up();
     take_away();
     look_again();

@@ -10,8 +10,8 @@
  *
  * The words: a HOST is a machine or program that sends calls. A HANDLE is what a host holds to name a file or a directory. An OBJECT is a file
  * or a directory. A NAME stands in one directory, and means one object there: a file has 1 to NFS3_LINKS_MOST names, in one directory or in
- * several, a directory has one, and the root none. A LISTING is what READDIR sends of a directory, in one reply or in several. The STORE is one
- * run of bytes with all objects, names and contents; a daemon keeps it in a file.
+ * several, a directory has one, and the root none. The STORE is one run of bytes with all objects, names and contents; a daemon keeps it in a
+ * file.
  *
  *
  * THE CALLER'S PART
@@ -41,7 +41,7 @@
  *    OTHERWISE: two processes save over each other; and a host that sees the same verifier before and after a restart concludes that nothing was
  *    lost in between, and does not send its writes again.
  *
- *    A store of the old layout (see "Releases") is converted once, at the start, under the lock. First nfs3_check, then nfs3_convert, never the
+ *    A store of the old layout (see "Editions") is converted once, at the start, under the lock. First nfs3_check, then nfs3_convert, never the
  *    other way round. Where nfs3_convert answers NFS3_DONE, give the file a second name that no other file has (link), fsync the directory, and
  *    save the new store under the store's name (duty 7). A stop at any point leaves the old store or the new one under the store's name, and the
  *    old one under one of the two. Where a file has the second name already, go on only if it has the same bytes, as it has after such a stop.
@@ -80,7 +80,7 @@
  * 6. Calling. Lend the whole store and a reply space of NFS3_REPLY_SPACE bytes. Seconds are those since 1970, as 32 bits without a sign; where
  *    the clock is before 1970 or after 2106, stop. Nanoseconds are below NFS3_NANOSECONDS. FSINFO tells hosts 1 nanosecond, so the time is finer
  *    than seconds, and later in each call than in the last one that changed the store, also when the system's clock stands still or is set back.
- *    After a restart the system's clock is good enough. The verifier is that of this start (duty 3), the listing edition that of the host (duty 11).
+ *    After a restart the system's clock is good enough.
  *    OTHERWISE: two changes get the same time, and a host that read the file between them sees that time again and goes on using its old bytes.
  *
  * 7. Keeping. Where a call changed the store, and only there, bring all of its bytes to stable storage, all or nothing, BEFORE the reply is sent:
@@ -121,15 +121,6 @@
  * 10. Rights are not looked at yet. Any credential is accepted, and whoever reaches the socket can read and change every file. Listen only where
  *    everybody is trusted.
  *
- * 11. The listing edition. Each call is given one of two. In NFS3_EDITION_WITH_DOTS, which is 1, READDIR lists "." and ".." before the names of a
- *    directory: for hosts that show what READDIR sends. In NFS3_EDITION_WITHOUT_DOTS, which is 2, it never lists them: for hosts that add them by
- *    themselves. No call says which kind its host is, so the daemon has to be told. Take ONE edition for a host, by its address: the same for all
- *    of its calls, on all of its connections, for the whole time that it has the file system mounted, over a restart of the daemon too. Different
- *    hosts may have different ones on the same store. All but READDIR is the same in both: LOOKUP finds "." and ".." in either.
- *    OTHERWISE: a host shows "." and ".." twice, or not at all. A host whose edition is changed within a listing, from the first to the second, is
- *    answered BAD_COOKIE where it goes on with cookie 1 or 2, and has to begin the listing again. Nothing worse happens: every other cookie means
- *    the same in both editions.
- *
  *
  * THE FUNCTIONS
  *
@@ -144,13 +135,12 @@
  * Stack: at most NFS3_STACK bytes, and NFS3_CONVERT_STACK for nfs3_convert, see there.
  * Pointers: not null, even where the length is 0; no alignment is needed; the buffers of one call do not overlap.
  * Platform: x86-64 with the System V calling convention (Linux). The bytes of a store do not depend on the platform.
- * Releases: the bytes of a store are those of one layout, and no version stands in them. In the layout of this release an object record has 92
- *   bytes. In the OLD LAYOUT, that of earlier releases, it has 80, a file has one name, as a directory has, and all else is the same;
+ * Editions: the bytes of a store are those of one layout, and no version stands in them. In the layout of this edition an object record has 92
+ *   bytes. In the OLD LAYOUT, that of the edition before, it has 80, a file has one name, as a directory has, and all else is the same;
  *   nfs3_convert makes a store of this layout of one in the old layout. Tell them apart by asking nfs3_check first, and nfs3_convert where that
- *   fails. No store that was made by format and calls, of either layout, is good in both layouts; bytes that were made in another way can be, and
- *   count as a store of this layout. A release of the old layout refuses a store of this one, and a release that does not serve LINK one in which
- *   a file has several names. Compile a daemon with the header of the release that it is linked to: struct nfs3_answer and the parameters of
- *   nfs3_call are not the same in all.
+ *   fails. No store that was made by format and calls, of either edition, is good in both layouts; bytes that were made in another way can be,
+ *   and count as a store of this layout. The edition before refuses a store of this layout, and an edition that does not serve LINK one in which
+ *   a file has several names. Compile a daemon with the header of the edition that it is linked to: struct nfs3_answer is not the same in all.
  */
 #ifndef NFS3_H
 #define NFS3_H
@@ -172,14 +162,8 @@ extern "C" {
  *            written as before.
  *   RENAME   replaces a file by a file, and an empty directory by a directory, in one step. The name that is replaced is taken away as by REMOVE or
  *            RMDIR: a file with another name left stays. Where both names are those of one object, it is answered OK and changes nothing.
- *   READDIR  sends as many names as fit in 4,096 bytes behind the status, or in fewer where the host says so (its count). Where a directory has
- *            more, the host asks for the rest by the last cookie that it got. A name has a cookie of 3 or above, and keeps it as long as it is
- *            there. The replies from cookie 0 up to the one with eof, each resumed at the last cookie of the one before, give each name once,
- *            whatever the counts are, as long as nobody changes the directory. A count of 160 is always enough: such a call is never answered
- *            TOOSMALL (10005), and its reply has a name where one is left.
- *            In NFS3_EDITION_WITH_DOTS "." and ".." come first, with the cookies 1 and 2. In NFS3_EDITION_WITHOUT_DOTS they are never listed: no
- *            reply has the cookie 0, 1 or 2, and a call with 1 or 2 is answered BAD_COOKIE (10003), as in both editions one whose cookie verifier
- *            is not 0.
+ *   READDIR  sends as many names as fit in 4,096 bytes behind the status, or in fewer where the host says so. Where a directory has more, the host
+ *            asks for the rest by the last cookie that it got; a name keeps its cookie as long as it is there.
  * FSINFO tells hosts the properties 0x19 (hard links, the same limits for all objects, times that can be set), and PATHCONF linkmax NFS3_LINKS_MOST.
  */
 #define NFS3_PROGRAM 100003
@@ -191,10 +175,6 @@ extern "C" {
 
 /* Nanoseconds must be below this. */
 #define NFS3_NANOSECONDS 1000000000
-
-/* The listing editions (duty 11). Each call must be given one of them. */
-#define NFS3_EDITION_WITH_DOTS 1
-#define NFS3_EDITION_WITHOUT_DOTS 2
 
 /*
  * How many objects (the root is one), name records and blocks a store may have; names and blocks may be 0. Each name takes one record. With fewer
@@ -302,8 +282,6 @@ struct nfs3_answer {
  *                         the store's memory.
  *   NFS3_SMALL_REPLY      the reply space has less than NFS3_REPLY_SPACE bytes: a fault of the daemon. Send nothing and stop.
  *   NFS3_BAD_CLOCK        the nanoseconds are NFS3_NANOSECONDS or more: a fault of the daemon. Send nothing and stop.
- *   NFS3_BAD_EDITION      the listing edition is neither NFS3_EDITION_WITH_DOTS nor NFS3_EDITION_WITHOUT_DOTS: a fault of the daemon, whatever the
- *                         call is. Send nothing and stop.
  *   NFS3_LONG_CALL        the call has more than NFS3_CALL_MOST bytes. Send nothing, report it (duty 8); over TCP close the connection. No host that
  *                         keeps to what FSINFO told it sends such a call.
  *   NFS3_SHORT_MESSAGE    the message has fewer than 8 bytes, or none. With this number and the next three: send nothing, report it (duty 8); over
@@ -313,7 +291,7 @@ struct nfs3_answer {
  *   NFS3_LONG_CREDENTIAL  the length at the offset, of a credential or verifier, is above NFS3_CREDENTIAL_MOST, whether its bytes are there or not.
  *   NFS3_BAD_FORMAT       of format: a count is out of range, or the length is not NFS3_STORE_LENGTH of the counts. Of the converter: the old store
  *                         is good, and the target's length is not NFS3_CONVERTED_LENGTH: a fault of the daemon. Stop; the old file is as it was.
- * Treat a number that is not among these like NFS3_BAD_STORE: later releases may add some.
+ * Treat a number that is not among these like NFS3_BAD_STORE: later editions may add some.
  */
 enum nfs3_number {
     NFS3_DONE = 0,
@@ -325,22 +303,20 @@ enum nfs3_number {
     NFS3_BAD_FORMAT = 6,
     NFS3_OTHER_MESSAGE = 7,
     NFS3_CUT_HEADER = 8,
-    NFS3_LONG_CREDENTIAL = 9,
-    NFS3_BAD_EDITION = 10
+    NFS3_LONG_CREDENTIAL = 9
 };
 
 /*
  * Answers one RPC call from the store, which it may change.
- * The first of these that holds: NFS3_SMALL_REPLY, NFS3_BAD_CLOCK, NFS3_LONG_CALL, NFS3_BAD_EDITION, NFS3_BAD_STORE, NFS3_SHORT_MESSAGE,
- * NFS3_OTHER_MESSAGE; then NFS3_CUT_HEADER or NFS3_LONG_CREDENTIAL, by the first field of the header that cannot be read; else NFS3_DONE, with the
- * reply in the first bytes of its space and no byte after it changed. The header of a call whose RPC version is not 2 ends behind that word. A call
- * that is not understood or not allowed is answered NFS3_DONE too: its reply says so. WRITE and COMMIT send the verifier to the host, most
- * significant byte first. The edition is the listing edition of the host (duty 11); which of the two it is matters to READDIR alone. The padding of
- * a call's fields (duty 5) must be there, and may be any bytes: neither the answer nor the reply nor the store depends on them. A reply is padded
- * with zeros.
+ * The first of these that holds: NFS3_SMALL_REPLY, NFS3_BAD_CLOCK, NFS3_LONG_CALL, NFS3_BAD_STORE, NFS3_SHORT_MESSAGE, NFS3_OTHER_MESSAGE; then
+ * NFS3_CUT_HEADER or NFS3_LONG_CREDENTIAL, by the first field of the header that cannot be read; else NFS3_DONE, with the reply in the first bytes
+ * of its space and no byte after it changed. The header of a call whose RPC version is not 2 ends behind that word. A call that is not understood
+ * or not allowed is answered NFS3_DONE too: its reply says so. WRITE and COMMIT send the verifier to the host, most significant byte first. The
+ * padding of a call's fields (duty 5) must be there, and may be any bytes: neither the answer nor the reply nor the store depends on them. A reply
+ * is padded with zeros.
  */
 struct nfs3_answer nfs3_call(const uint8_t *call, size_t call_len, uint8_t *store, size_t store_len, uint8_t *reply, size_t reply_len,
-                             uint32_t seconds, uint32_t nanoseconds, uint64_t verifier, uint32_t edition);
+                             uint32_t seconds, uint32_t nanoseconds, uint64_t verifier);
 
 /*
  * NFS3_DONE where the bytes are a store that passes its check, else NFS3_BAD_STORE. Any bytes may be lent. It looks at the structure: counts,

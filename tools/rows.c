@@ -5,12 +5,11 @@
  *
  * EXCLUSIVE is a CREATE that comes again: the last file of the store is made by it. RENAME gives the last file a new name, and the old one again: two
  * calls. LOOKUP finds the last file; in LOOKUP,first and LOOKUP,last the files have names of 32 bytes that differ in the first byte or in the last
- * one only. READDIR lists "." and "..", READDIR,2 does not: it is given the listing edition 2. In LINKS,GETATTR, LINKS,LOOKUP and LINKS,LINK+REMOVE
- * every name record is used: the first files have further names, up to 16 each; they show a file with the most names, find its last name, and remove
- * and make that name. broken,header is a GETATTR that is cut in the length of its verifier, and is refused; broken,WRITE is a WRITE of 512 bytes with
- * one byte left over, and is answered GARBAGE_ARGS. Compiled with MOUNT defined it has the rows of MOUNT too: NULL with an empty mount table and with
- * 32 paths of 1,024 bytes that differ in the last one, MNT of "/" whose pair is there, and DUMP of the 32 paths. Ends with status 1 where a call is
- * answered in another way; all but the broken ones are answered OK.
+ * one only. In LINKS,GETATTR, LINKS,LOOKUP and LINKS,LINK+REMOVE every name record is used: the first files have further names, up to 16 each; they
+ * show a file with the most names, find its last name, and remove and make that name. broken,header is a GETATTR that is cut in the length of its
+ * verifier, and is refused; broken,WRITE is a WRITE of 512 bytes with one byte left over, and is answered GARBAGE_ARGS. Compiled with MOUNT defined
+ * it has the rows of MOUNT too: NULL with an empty mount table and with 32 paths of 1,024 bytes that differ in the last one, MNT of "/" whose pair is
+ * there, and DUMP of the 32 paths. Ends with status 1 where a call is answered in another way; all but the broken ones are answered OK.
  */
 #ifdef MOUNT
 #include "mount3.h"
@@ -27,13 +26,7 @@ enum { STAMP = 7 };
 
 static uint8_t store[NFS3_STORE_MOST], old[NFS3_OLD_STORE_MOST], made[NFS3_STORE_MOST], reply[NFS3_REPLY_SPACE], call[NFS3_CALL_MOST];
 static size_t store_len, old_len, len;
-static uint32_t edition = NFS3_EDITION_WITH_DOTS;
 static unsigned wrong;
-
-/* Gives the call to the library. */
-static struct nfs3_answer answer(void) {
-    return nfs3_call(call, len, store, store_len, reply, sizeof reply, 1, 1, 1, edition);
-}
 
 static void word(uint32_t x) {
     for (int i = 0; i < 4; i++)
@@ -60,19 +53,19 @@ static void begin(uint32_t procedure, uint32_t object) {
 }
 
 static void end(void) {
-    struct nfs3_answer a = answer();
+    struct nfs3_answer a = nfs3_call(call, len, store, store_len, reply, sizeof reply, 1, 1, 1);
     wrong |= a.number | reply[24] | reply[25] | reply[26] | reply[27];
 }
 
 /* A call that is refused, by whatever number. */
 static void end_refused(void) {
-    struct nfs3_answer a = answer();
+    struct nfs3_answer a = nfs3_call(call, len, store, store_len, reply, sizeof reply, 1, 1, 1);
     wrong |= a.number == NFS3_DONE || a.length != 0;
 }
 
 /* A call that is answered GARBAGE_ARGS. */
 static void end_garbage(void) {
-    struct nfs3_answer a = answer();
+    struct nfs3_answer a = nfs3_call(call, len, store, store_len, reply, sizeof reply, 1, 1, 1);
     wrong |= a.number != NFS3_DONE || a.length != 24 || reply[23] != 4;
 }
 
@@ -252,16 +245,11 @@ int main(int argc, char **argv) {
     int full = strcmp(argv[1], "full") == 0, times = atoi(argv[3]);
     uint32_t objects = full ? NFS3_OBJECTS_MOST : 8, names = full ? NFS3_NAMES_MOST : 8, blocks = full ? NFS3_BLOCKS_MOST : 8;
     char last[NFS3_NAME_MOST + 1];
-    const char *operation = argv[2];
-    if (strcmp(operation, "READDIR,2") == 0) {
-        operation = "READDIR";
-        edition = NFS3_EDITION_WITHOUT_DOTS;
-    }
     store_len = NFS3_STORE_LENGTH(objects, names, blocks);
     wrong = nfs3_format(store, store_len, STAMP, objects, names, blocks, 1, 1).number;
     for (uint32_t file = 1; file <= (full ? objects - 1 : 1); file++) {
-        name_file(last, operation, (unsigned)file - 1);
-        if (strcmp(operation, "EXCLUSIVE") == 0 && file == (full ? objects - 1 : 1))
+        name_file(last, argv[2], (unsigned)file - 1);
+        if (strcmp(argv[2], "EXCLUSIVE") == 0 && file == (full ? objects - 1 : 1))
             create_exclusive(last);
         else
             create(last);
@@ -270,18 +258,18 @@ int main(int argc, char **argv) {
             write_bytes(file, NFS3_DATA_MOST, NFS3_DATA_MOST);
     }
     make_old(objects);
-    uint32_t further = strncmp(operation, "LINKS,", 6) == 0 ? names - (full ? objects - 1 : 1) : 0;
+    uint32_t further = strncmp(argv[2], "LINKS,", 6) == 0 ? names - (full ? objects - 1 : 1) : 0;
     for (uint32_t left = further; left > 0; left--) { /* the last 15 are those of the first file, the 15 before them those of the second */
-        name_file(last, operation, (unsigned)(names - left));
+        name_file(last, argv[2], (unsigned)(names - left));
         link_to(1 + (left - 1) / (NFS3_LINKS_MOST - 1), last);
     }
 #ifdef MOUNT
-    if (strcmp(operation, "MOUNT,full") == 0 || strcmp(operation, "MOUNT,DUMP") == 0)
+    if (strcmp(argv[2], "MOUNT,full") == 0 || strcmp(argv[2], "MOUNT,DUMP") == 0)
         fill_table();
-    else if (strcmp(operation, "MOUNT,MNT") == 0)
+    else if (strcmp(argv[2], "MOUNT,MNT") == 0)
         call_mount(1, "/");
 #endif
     for (int i = 0; i < times; i++)
-        turn(operation, full, last);
+        turn(argv[2], full, last);
     return wrong != 0;
 }

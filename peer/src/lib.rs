@@ -27,7 +27,6 @@ mod volume;
 mod xdr;
 
 use numbers::{message, mount_procedure, procedure};
-use procedures::Edition;
 use reply::Reply;
 use rpc::Program;
 
@@ -56,8 +55,8 @@ const MOUNT: Program = Program {
 /// image, fails its check, 2 too little reply space, 3 clock nanoseconds out of
 /// range, 4 call too long, 5 call under 8 bytes, 6 a count out of range or a
 /// buffer of another length, 7 a message type other than 0, 8 a call header cut
-/// short, 9 an overlong credential or verifier, 10 a listing edition other than
-/// 1 and 2, 12 the mount table fails its check.
+/// short, 9 an overlong credential or verifier, 12 the mount table fails its
+/// check.
 ///
 /// The offset is that of the call's byte where the faulty item starts, for 8, 9
 /// and GARBAGE_ARGS, or of the first byte left over; otherwise it is 0.
@@ -95,8 +94,8 @@ pub fn check(store: &[u8]) -> Answer {
     }
 }
 
-/// Answers one RPC call from the store, with the time, the WRITE verifier and
-/// the listing edition of the caller.
+/// Answers one RPC call from the store, with the time and the WRITE verifier
+/// of the caller.
 pub fn call(
     call: &[u8],
     store: &mut [u8],
@@ -104,7 +103,6 @@ pub fn call(
     seconds: u32,
     nanoseconds: u32,
     verifier: u64,
-    edition: u32,
 ) -> Answer {
     let Some(space) = reply.first_chunk_mut::<REPLY_SPACE>() else {
         return Answer::refused(2);
@@ -115,9 +113,6 @@ pub fn call(
     if call.len() > MAX_CALL {
         return Answer::refused(4);
     }
-    let Some(edition) = Edition::of(edition) else {
-        return Answer::refused(10);
-    };
     let mut survey = check::Survey::new();
     if !survey.fill(store) {
         return Answer::refused(1);
@@ -133,7 +128,7 @@ pub fn call(
         &mut reply,
         |procedure, arguments, reply| {
             let mut volume = volume::Volume::new(store, &mut survey, seconds, nanoseconds);
-            procedures::run(procedure, arguments, &mut volume, verifier, edition, reply)
+            procedures::run(procedure, arguments, &mut volume, verifier, reply)
         },
     )
 }

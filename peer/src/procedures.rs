@@ -38,11 +38,10 @@ pub fn run<'a>(
     arguments: &'a [u8],
     volume: &mut Volume<'_>,
     verifier: u64,
-    edition: Edition,
     reply: &mut Reply<'_>,
 ) -> Result<(), Garbage<'a>> {
     let mut reader = Reader::new(arguments);
-    let done = run_with(number, &mut reader, volume, verifier, edition, reply);
+    let done = run_with(number, &mut reader, volume, verifier, reply);
     done.ok_or(Garbage(reader.rest()))
 }
 
@@ -52,7 +51,6 @@ fn run_with(
     reader: &mut Reader<'_>,
     volume: &mut Volume<'_>,
     verifier: u64,
-    edition: Edition,
     reply: &mut Reply<'_>,
 ) -> Option<()> {
     match number {
@@ -69,7 +67,7 @@ fn run_with(
         procedure::RMDIR => rmdir(reader, volume, reply),
         procedure::RENAME => rename(reader, volume, reply),
         procedure::LINK => link(reader, volume, reply),
-        procedure::READDIR => readdir(reader, volume, edition, reply),
+        procedure::READDIR => readdir(reader, volume, reply),
         procedure::FSSTAT => fsstat(reader, volume, reply),
         procedure::FSINFO => fsinfo(reader, volume, reply),
         procedure::PATHCONF => pathconf(reader, volume, reply),
@@ -581,44 +579,7 @@ fn try_link(
     Ok(())
 }
 
-/// A listing edition. The editions differ in where a listing may start, and in
-/// nothing else.
-#[derive(Clone, Copy)]
-pub enum Edition {
-    /// The dots are listed.
-    First,
-    /// The dots are not listed; their cookies are good for nothing.
-    Second,
-}
-
-impl Edition {
-    pub fn of(number: u32) -> Option<Edition> {
-        match number {
-            1 => Some(Edition::First),
-            2 => Some(Edition::Second),
-            _ => None,
-        }
-    }
-
-    /// The cookie above which the listing of a given one starts, if that is
-    /// one that may be given.
-    #[inline]
-    fn start(self, given: u64) -> Option<u64> {
-        match (self, given) {
-            (Edition::First, _) | (Edition::Second, 3..) => Some(given),
-            // Above both dots.
-            (Edition::Second, 0) => Some(2),
-            (Edition::Second, 1 | 2) => None,
-        }
-    }
-}
-
-fn readdir(
-    reader: &mut Reader<'_>,
-    volume: &Volume<'_>,
-    edition: Edition,
-    reply: &mut Reply<'_>,
-) -> Option<()> {
+fn readdir(reader: &mut Reader<'_>, volume: &Volume<'_>, reply: &mut Reply<'_>) -> Option<()> {
     let raw = handle(reader)?;
     let cookie = reader.hyper()?;
     let verifier = reader.hyper()?;
@@ -627,12 +588,13 @@ fn readdir(
     let resolved = resolve(volume, raw);
     let outcome = resolved.and_then(|directory| {
         want_directory(volume.survey, directory)?;
-        let start = edition.start(cookie).filter(|_| verifier == 0);
-        let start = start.ok_or(Status::BAD_COOKIE)?;
+        if verifier != 0 {
+            return Err(Status::BAD_COOKIE);
+        }
         let room = (count.min(TRANSFER) as usize)
             .checked_sub(LISTING_BYTES)
             .ok_or(Status::TOOSMALL)?;
-        write_listing(volume, directory, start, room, reply)
+        write_listing(volume, directory, cookie, room, reply)
     });
     if let Err(status) = outcome {
         write_failure(volume, resolved.ok(), status, reply);

@@ -8,7 +8,7 @@ use peer::generator::encode::{Header, Request};
 fn entry(call: &[u8], store: &[u8], space: usize, nanoseconds: u32) -> (u32, u32, bool) {
     let mut own = store.to_vec();
     let mut reply = vec![SPARE; space];
-    let answer = peer::call(call, &mut own, &mut reply, 9, nanoseconds, 3, 1);
+    let answer = peer::call(call, &mut own, &mut reply, 9, nanoseconds, 3);
     let same = own == store && reply.iter().all(|&byte| byte == SPARE);
     (answer.number, answer.length, same)
 }

@@ -449,7 +449,7 @@ fn every_call_checks_the_store() {
     let before = lane.store.clone();
     let mut reply = vec![SPARE; 4224];
     for request in [Request::Null, getattr(&root())] {
-        let answer = peer::call(&request.call(1), &mut lane.store, &mut reply, 1, 1, 1, 1);
+        let answer = peer::call(&request.call(1), &mut lane.store, &mut reply, 1, 1, 1);
         assert_eq!((answer.number, answer.length), (1, 0));
     }
     assert!(before == lane.store && reply.iter().all(|&byte| byte == SPARE));

@@ -691,7 +691,7 @@ fn arguments_are_read_first() {
     let before = lane.store.clone();
     let mut reply = vec![SPARE; 4224];
     let mut offset = |bytes: &[u8]| {
-        let answer = peer::call(bytes, &mut lane.store, &mut reply, 5, 5, 5, 1);
+        let answer = peer::call(bytes, &mut lane.store, &mut reply, 5, 5, 5);
         assert_eq!(answer.number, 0);
         assert_eq!(answer.length == 24, answer.offset != 0);
         answer.offset

@@ -27,7 +27,7 @@ fn make(store: &[u8], call: &[u8]) -> Left {
         reply: vec![SPARE; 4224 + 16],
         store: store.to_vec(),
     };
-    left.answer = peer::call(call, &mut left.store, &mut left.reply, 3000, 30, 33, 1);
+    left.answer = peer::call(call, &mut left.store, &mut left.reply, 3000, 30, 33);
     left
 }
 

@@ -23,7 +23,7 @@ const SPACE: usize = 33_692;
 fn nfs_on(store: &[u8], call: &[u8]) -> (u32, u32) {
     let mut after = store.to_vec();
     let mut reply = vec![SPARE; 4224 + 8];
-    let answer = peer::call(call, &mut after, &mut reply, 3000, 30, 33, 1);
+    let answer = peer::call(call, &mut after, &mut reply, 3000, 30, 33);
     let length = answer.length as usize;
     assert!(reply[length..].iter().all(|&byte| byte == SPARE));
     seen(answer, &reply[..length], call, after == store)
@@ -698,7 +698,7 @@ fn earlier_refusals_have_no_offset() {
         ] {
             let mut store = store.clone();
             let mut reply = vec![SPARE; space];
-            let answer = peer::call(call, &mut store, &mut reply, 1, nanoseconds, 2, 1);
+            let answer = peer::call(call, &mut store, &mut reply, 1, nanoseconds, 2);
             let wanted = Answer {
                 number,
                 length: 0,
@@ -819,7 +819,7 @@ fn changed_calls() {
 fn second_definition_of_refusals() {
     let (good, _) = store();
     let bytes = header(100_003, 0, 0).encode();
-    let call = |length: usize, nanoseconds, space, edition| {
+    let call = |length: usize, nanoseconds, space| {
         let mut bytes = bytes.clone();
         bytes.resize(length, 0);
         let call = Call {
@@ -827,18 +827,14 @@ fn second_definition_of_refusals() {
             seconds: 1,
             nanoseconds,
             verifier: 1,
-            edition,
             space,
         };
         places::of_call(&call, &good).number
     };
-    assert_eq!(call(8193, 1_000_000_000, 4223, 0), 2);
-    assert_eq!(call(8193, 1_000_000_000, 4224, 0), 3);
-    assert_eq!(call(8193, 999_999_999, 4224, 0), 4);
-    assert_eq!(call(7, 0, 4224, 0), 10);
-    assert_eq!(call(7, 0, 4224, 3), 10);
-    assert_eq!(call(7, 0, 4224, 1), 5);
-    assert_eq!(call(7, 0, 4224, 2), 5);
+    assert_eq!(call(8193, 1_000_000_000, 4223), 2);
+    assert_eq!(call(8193, 1_000_000_000, 4224), 3);
+    assert_eq!(call(8193, 999_999_999, 4224), 4);
+    assert_eq!(call(7, 0, 4224), 5);
     let mount = Mount {
         bytes: &bytes,
         host: 1,

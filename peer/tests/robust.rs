@@ -44,7 +44,7 @@ fn changed_calls_and_stores() {
     assert_eq!(lane.write(&file, 0, &[1; 600]), 0);
     let records = lane.block_at(0);
     let start = lane.store.clone();
-    let mut numbers = [0usize; 11];
+    let mut numbers = [0usize; 10];
     for round in 0..60_000 {
         if round % 50 == 0 {
             lane.store = start.clone();
@@ -64,12 +64,10 @@ fn changed_calls_and_stores() {
         }
         let space = random.pick(&[4224, 4224, 4224, 4225, 5000, 4223, 0]);
         let nanoseconds = random.pick(&[0, 5, 999_999_999, 1_000_000_000]);
-        let edition = random.pick(&[1, 1, 1, 2, 2, 2, 0, 3]);
         let mut reply = vec![SPARE; space];
         let before = lane.store.clone();
         let valid = peer::check(&before).number == 0;
-        let store = &mut lane.store;
-        let answer = peer::call(&call, store, &mut reply, 3, nanoseconds, 4, edition);
+        let answer = peer::call(&call, &mut lane.store, &mut reply, 3, nanoseconds, 4);
         numbers[answer.number as usize] += 1;
         let length = answer.length as usize;
         assert!(reply[length..].iter().all(|&byte| byte == SPARE));
@@ -102,14 +100,8 @@ fn random_bytes_everywhere() {
         let length = random.below(400);
         let mut store = random.bytes(length);
         let mut reply = vec![SPARE; 4224];
-        let (seconds, edition) = (random.word(), random.pick(&[1, 2, 3]));
-        let answer = peer::call(&call, &mut store, &mut reply, seconds, 0, 0, edition);
-        let wanted = match edition {
-            _ if call.len() > 8192 => 4,
-            3 => 10,
-            _ => 1,
-        };
-        assert_eq!(answer.number, wanted);
+        let answer = peer::call(&call, &mut store, &mut reply, random.word(), 0, 0);
+        assert_eq!(answer.number, if call.len() > 8192 { 4 } else { 1 });
         let counts = [
             random.below(70) as u32,
             random.below(135) as u32,

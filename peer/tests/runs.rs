@@ -10,7 +10,7 @@ use peer::generator::driver::{is_garbage, Call, Driver, Format, Mount, Outcome, 
 use peer::generator::lane::status_of;
 use peer::generator::mounts::{self, definition::defined};
 use peer::generator::places;
-use peer::generator::random_runs::{self, Extent, LINKS, LISTINGS, RENAMES};
+use peer::generator::random_runs::{self, Extent, LINKS, RENAMES};
 use peer::generator::scripts::{self, Runs};
 use peer::Answer;
 
@@ -35,8 +35,6 @@ struct Tester {
     renames: BTreeMap<String, usize>,
     /// What random runs do with names of files.
     links: BTreeMap<String, usize>,
-    /// What random READDIRs come to.
-    listings: BTreeMap<String, usize>,
 }
 
 impl Driver for Tester {
@@ -89,8 +87,6 @@ impl Driver for Tester {
             3
         } else if call.bytes.len() > 8192 {
             4
-        } else if ![1, 2].contains(&call.edition) {
-            10
         } else if !valid {
             1
         } else {
@@ -105,7 +101,7 @@ impl Driver for Tester {
                 assert_eq!(reply[..4], call.bytes[..4]);
                 assert!(plain_check(&self.peer.store));
             }
-            1..=5 | 7..=10 => assert!(reply.is_empty()),
+            1..=5 | 7..=9 => assert!(reply.is_empty()),
             other => panic!("answer {other}"),
         }
         if status_of(reply).is_some() {
@@ -186,8 +182,6 @@ impl Driver for Tester {
             *self.renames.entry(label.to_owned()).or_default() += 1;
         } else if group == LINKS {
             *self.links.entry(label.to_owned()).or_default() += 1;
-        } else if group == LISTINGS {
-            *self.listings.entry(label.to_owned()).or_default() += 1;
         }
     }
 }
@@ -222,7 +216,7 @@ fn random_runs() {
     assert!(tester.calls > 10_000 && tester.changed > 1500 && tester.damaged > 200);
     assert!(tester.converted[0] > 100 && tester.converted[1] > 50);
     assert!(tester.renamed > 900);
-    for (answer, least) in [(5, 40), (7, 40), (8, 150), (9, 100), (10, 500)] {
+    for (answer, least) in [(5, 40), (7, 40), (8, 150), (9, 100)] {
         let count = tester.answers[&answer];
         assert!(count >= least, "answer {answer}: {count}");
     }
@@ -255,12 +249,6 @@ fn random_runs() {
         let count = tester.links[&kind];
         let least = if kind.starts_with("READDIR") { 4 } else { 20 };
         assert!(count >= least, "{kind}: {count}");
-    }
-    let kinds = random_runs::listing_kinds();
-    assert_eq!(tester.listings.len(), kinds.len(), "{:?}", tester.listings);
-    for kind in kinds {
-        let count = tester.listings[&kind];
-        assert!(count >= 15, "{kind}: {count}");
     }
 }
 
@@ -296,6 +284,5 @@ fn mount_runs() {
         assert!(count >= least, "answer {answer}: {count}");
     }
     assert!(tester.mounts.is_empty());
-    assert!(tester.answers[&10] >= 50);
     assert!(tester.mounted > 2000, "{}", tester.mounted);
 }

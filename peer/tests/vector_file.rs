@@ -20,7 +20,7 @@ fn digest_of_known_bytes() {
 #[test]
 fn reach_and_replay() {
     let recording = record();
-    assert!(recording.file.len() <= 5_100_000);
+    assert!(recording.file.len() <= 4_600_000);
     assert!(recording.digested <= 300_000_000);
     assert_eq!(recording.coverage.missing(), Vec::<String>::new());
     assert_eq!(recording.coverage.unexpected(), Vec::<String>::new());
@@ -98,105 +98,6 @@ fn rows_of_the_mounts() {
     }
 }
 
-/// The edition is given before the first call of each file, and again only where
-/// it changes; each file has calls in both, and two of them in others.
-#[test]
-fn rows_of_editions() {
-    for (file, others) in [
-        (record().file, true),
-        (record_searches().file, false),
-        (record_mounts().file, true),
-    ] {
-        let (mut at, mut edition) = (0, 0);
-        let mut calls = std::collections::BTreeMap::<u32, usize>::new();
-        while at < file.len() {
-            let word = u32::from_be_bytes(file[at + 1..at + 5].try_into().unwrap());
-            let tag = file[at];
-            at += 5;
-            if (128..192).contains(&tag) {
-                at += word as usize;
-            }
-            match tag {
-                16 => {
-                    assert_ne!(word, edition);
-                    edition = word;
-                }
-                226 => {
-                    *calls.entry(edition).or_default() += 1;
-                    let early = [2, 3, 4].contains(&word);
-                    assert!(early || (word == 10) != [1, 2].contains(&edition));
-                }
-                _ => {}
-            }
-        }
-        assert!(calls[&1] > 100 && calls[&2] > 100, "{calls:?}");
-        assert_eq!(calls.len() > 2, others, "{calls:?}");
-    }
-}
-
-/// What an edition is taken for.
-type Taken = fn(u32) -> u32;
-
-/// Answers as the peer does, but takes each edition for another.
-struct OtherEdition(Taken);
-
-impl Subject for OtherEdition {
-    fn format(&mut self, store: &mut [u8], plan: &Format) -> Answer {
-        Own.format(store, plan)
-    }
-
-    fn check(&mut self, store: &[u8]) -> Answer {
-        Own.check(store)
-    }
-
-    fn call(&mut self, store: &mut [u8], call: &Call<'_>, reply: &mut [u8]) -> Answer {
-        let edition = self.0(call.edition);
-        Own.call(store, &Call { edition, ..*call }, reply)
-    }
-
-    fn convert(&mut self, old: &[u8], store: &mut [u8]) -> Answer {
-        Own.convert(old, store)
-    }
-
-    fn mount(
-        &mut self,
-        store: &[u8],
-        table: &mut [u8],
-        mount: &Mount<'_>,
-        reply: &mut [u8],
-    ) -> Answer {
-        Own.mount(store, table, mount, reply)
-    }
-}
-
-#[test]
-fn replay_finds_other_editions() {
-    let file = record().file;
-    let others: [(Taken, u64); 11] = [
-        // Always the same one.
-        (|_| 1, 900),
-        (|_| 2, 900),
-        (|edition| if edition == 2 { 1 } else { edition }, 150),
-        (|edition| if edition == 1 { 2 } else { edition }, 400),
-        (
-            |edition| if edition < 3 { 3 - edition } else { edition },
-            500,
-        ),
-        // Other numbers for one of the two.
-        (|edition| edition.clamp(1, 2), 500),
-        (|edition| edition.max(1), 30),
-        (|edition| if edition == 3 { 2 } else { edition }, 30),
-        // Not all of the number.
-        (|edition| edition & 0xFF, 100),
-        (|edition| edition & 0xFFFF, 50),
-        (|edition| edition & 0x7FFF_FFFF, 50),
-    ];
-    for (number, (other, least)) in others.into_iter().enumerate() {
-        let (_, differences) = replay(&file, &mut OtherEdition(other)).unwrap();
-        assert!(differences >= least, "{number}: {differences}");
-    }
-}
-
 /// Where the first row of this tag and this word starts, after `from`.
 fn row_at(file: &[u8], from: usize, tag: u8, word: Option<u32>) -> usize {
     let mut at = 0;
@@ -228,10 +129,10 @@ fn replay_finds_altered_files() {
     let converted = row_at(&file, 0, 227, Some(0));
     let not_converted = row_at(&file, 0, 227, Some(1));
     let old = row_at(&file, 0, 131, None);
-    // A byte of a reply, which has 24 at least, an answer's length and number, a
-    // byte of an old image, both halves of a digest, and offsets.
+    // A byte of a reply, an answer's length and number, a byte of an old image,
+    // both halves of a digest, and offsets.
     for at in [
-        reply + 5 + 23,
+        reply + 5 + 24,
         length + 4,
         call + 4,
         refused + 4,
@@ -243,7 +144,6 @@ fn replay_finds_altered_files() {
         row_at(&file, 0, 70, None) + 4,
         row_at(&file, middle, 70, None) + 1,
         row_at(&file, middle, 226, Some(8)) + 4,
-        row_at(&file, 0, 226, Some(10)) + 4,
     ] {
         assert!(altered(at, 1).unwrap() > 0, "row at {at}");
     }
@@ -251,7 +151,7 @@ fn replay_finds_altered_files() {
     // lent than there is; bytes outside of what is lent; a wrong count of runs.
     let number = row_at(&file, middle, 4, None);
     for (at, with) in [
-        (number, 4 ^ 17),
+        (number, 4 ^ 16),
         (length, 64 ^ 71),
         (reply, 130 ^ 134),
         (number, 4 ^ 196),

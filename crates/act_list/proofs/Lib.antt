@@ -1,4 +1,3 @@
-pub mod Dots
 pub mod Runs
 pub mod Sent
 pub mod Writable

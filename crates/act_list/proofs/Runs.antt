@@ -119,7 +119,7 @@ module _ (s : Store) (d given : ℕ) (start : Run) (i room count : ℕ) (e : ope
 
 -- ---- the names of a directory, after "." and ".."
 pub behind_dots : (s : Store) (d given : ℕ) (start run : Run) → run ≡ extended given (extended given start 1 1) 2 2
-    → run_of given run (named_entries s d (names s)) ≡ run_of given start (entries true s d)
+    → run_of given run (named_entries s d (names s)) ≡ run_of given start (entries s d)
 unfolding run_of entries dot_entries
 behind_dots s d given start run e =
     ap (λ (r : Run). run_of given r (named_entries s d (names s))) e ∙ sym (run_append given start (dot_entries s d) (named_entries s d (names s)))

@@ -1,7 +1,7 @@
 -- The replies of READDIR can be written from the store that they are made from. Assumes nothing.
 use Prim.Native.Nat.{ℕ, ◌+◌, ◌-◌, ◌≤◌, ◌<◌, min}
 use mathlib.Core.Path.{◌≡◌, sym, ap, ◌∙◌}
-use mathlib.Core.Bool.{Bool, true, ◌&&◌, not}
+use mathlib.Core.Bool.{Bool, ◌&&◌, not}
 use mathlib.Core.List.{List}
 use native.Mathlib.Omega.{arith}
 use borrow.Author.Tests.{ltb-false}
@@ -10,7 +10,7 @@ use lib.ListN.{length, take}
 use Rattle.kinds.specs.Numbers.{BAD_COOKIE, TOOSMALL, most_transfer_bytes, listing_cost, entry_fixed_cost}
 use Rattle.spec.specs.Checked.{passed}
 use Rattle.spec.specs.Image.{Store, objects}
-use Rattle.spec.specs.Procedures.Listing.{rules_of, entries, entries_above, fitting, is_nothing, check_listing, is_reserved, check_readdir_in}
+use Rattle.spec.specs.Procedures.Listing.{entries, entries_above, fitting, is_nothing, check_listing, check_readdir_in}
 use Rattle.spec.specs.Replies.{entries_bytes}
 use Rattle.spec.specs.Results.{Entry}
 use Rattle.laws.proofs.GoodRecords.{GoodRecords}
@@ -33,12 +33,11 @@ run_few limit es run all e =
     let k : length (entries_bytes run) ≤ limit - listing_cost = rw (ap (λ (v : List Entry × Bool). v.0) w) at (fitting_bytes (limit - listing_cost) es) in
     omega (arith, ltb-false limit listing_cost t)))
 
-pub listable : (s : Store) (d edition cookie verifier count above n : ℕ) (all : Bool) (r : Listing) → GoodRecords s → d < objects s
-    → r ≡ Listing.Sent above n all → listing_of s d r ≡ check_readdir_in (rules_of edition) s d cookie verifier count → Listable s d above n
+pub listable : (s : Store) (d cookie verifier count n : ℕ) (all : Bool) (r : Listing) → GoodRecords s → d < objects s → r ≡ Listing.Sent n all
+    → listing_of (entries_above cookie (entries s d)) r ≡ check_readdir_in s d cookie verifier count → Listable s d cookie n
 unfolding check_readdir_in
-listable s d edition cookie verifier count above n all r g l p e =
-    let run = take n (entries_above above (entries true s d)) in
-    refuse_passed (not (eqb verifier 0)) BAD_COOKIE _ (run, all) (sym e ∙ ap (listing_of s d) p) (λ t f.
-    refuse_passed (is_reserved (rules_of edition).dots cookie) BAD_COOKIE _ (run, all) f (λ u k.
-    let w = run_few (min count most_transfer_bytes) (entries_above cookie (entries (rules_of edition).dots s d)) run all k in
-    record { good = g; directory = l; few = omega arith }))
+listable s d cookie verifier count n all r g l p e =
+    let es = entries_above cookie (entries s d) in
+    refuse_passed (not (eqb verifier 0)) BAD_COOKIE _ (take n es, all) (sym e ∙ ap (listing_of es) p) (λ t f.
+    let k = run_few (min count most_transfer_bytes) es (take n es) all f in
+    record { good = g; directory = l; few = omega arith })

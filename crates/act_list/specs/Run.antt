@@ -1,11 +1,10 @@
 -- The run of a listing that fits, entry by entry.
-use Rattle.std.specs.Prelude.{ℕ, ◌+◌, ◌-◌, eqb, leb, ltb, length, take, Bool, true, false, not, ◌&&◌, cond, List, [], ◌∷◌}
+use Rattle.std.specs.Prelude.{ℕ, ◌+◌, ◌-◌, eqb, leb, ltb, length, take, Bool, true, false, cond, List, [], ◌∷◌}
 use Rattle.kinds.specs.Layout.{length_offset}
 use Rattle.kinds.specs.Numbers.{entry_fixed_cost}
 use Rattle.spec.specs.Bytes.{be_at, padding}
 use Rattle.spec.specs.Checked.{Checked, refused, passed}
 use Rattle.spec.specs.Image.{Store}
-use Rattle.spec.specs.Procedures.Listing.{entries, entries_above}
 use Rattle.spec.specs.Results.{Entry}
 use Rattle.act_list.specs.declared.Listing.{Listing}
 use Rattle.act_list.specs.declared.Listing.TheVariants as Listing
@@ -37,11 +36,7 @@ unfoldable pub run_of : ℕ → Run → List Entry → Run
 run_of given run [] = run
 run_of given run (e ∷ es) = run_of given (extended given run e.cookie (length e.name)) es
 
--- the cookie above which a listing with the dots has what a listing with or without them has above `cookie`
-abbrev pub listed_above : Bool → ℕ → ℕ
-listed_above dots cookie = cond (not dots && eqb cookie 0) 2 cookie
-
--- what an answer sends of directory d, and whether nothing remains
-abbrev pub listing_of : Store → ℕ → Listing → Checked (List Entry × Bool)
-listing_of s d (Listing.Sent cookie n all) = passed (take n (entries_above cookie (entries true s d)), all)
-listing_of s d (Listing.Refused status) = refused status.0
+-- what an answer sends of entries, and whether nothing remains
+abbrev pub listing_of : List Entry → Listing → Checked (List Entry × Bool)
+listing_of es (Listing.Sent n all) = passed (take n es, all)
+listing_of es (Listing.Refused status) = refused status.0

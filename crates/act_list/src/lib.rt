@@ -1,21 +1,20 @@
 // READDIR.
-ghost use Rattle.std.specs.Prelude.{◌≡◌, true, ◌&&◌, ◌+◌, ◌≤◌, eqb, length};
+ghost use Rattle.std.specs.Prelude.{◌≡◌, ◌&&◌, ◌+◌, ◌≤◌, eqb, length};
 ghost use Rattle.kinds.specs.Numbers.{most_name_bytes, listing_cost, entry_fixed_cost};
 ghost use Rattle.kinds.specs.Layout.{text_offset};
 ghost use Rattle.spec.specs.Image.{names};
 ghost use Rattle.spec.specs.Procedures.{cut};
-ghost use Rattle.spec.specs.Procedures.Listing.{rules_of, named_entries, entries, entries_above, check_listing, is_reserved, check_readdir_in, readdir};
+ghost use Rattle.spec.specs.Procedures.Listing.{named_entries, entries, entries_above, check_listing, check_readdir_in, readdir};
 ghost use Rattle.laws.proofs.GoodRecords.{GoodRecords};
 ghost use Rattle.results.specs.Meaning.{result_of};
 ghost use Rattle.results.specs.Writable.{Writable};
-ghost use Rattle.act_list.specs.Run.{cost, open_run, length_in, extended, run_of, listed_above, listing_of};
+ghost use Rattle.act_list.specs.Run.{cost, open_run, length_in, extended, run_of, listing_of};
 
 use check_handles::failure::fail_showing;
 use check_handles::handle::{Reached, reach_directory};
 use kinds::call::Part;
 use kinds::layout::NameRecord;
-use kinds::numbers::{Edition, Limit, ObjectNumber, Status};
-use kinds::object::Context;
+use kinds::numbers::{Limit, ObjectNumber, Status};
 use results::Reply;
 use store_records::counts::{name_count, names_start};
 
@@ -27,10 +26,10 @@ pub struct Run {
     pub full: bool,
 }
 
-// What is sent of a directory that lists "." and "..": the cookie above which it starts, how many entries, and whether nothing remains.
+// How many entries are sent, and whether nothing remains.
 #[derive(Drop)]
 pub enum Listing {
-    Sent(u64, usize, bool),
+    Sent(usize, bool),
     Refused(Status),
 }
 
@@ -125,7 +124,7 @@ fn name_run(store: &[u8], d: ObjectNumber, given: u64, room: usize, count: usize
 // The run of a directory's entries above a cookie, in a room.
 fn run_of(store: &[u8], d: ObjectNumber, given: u64, room: usize) -> Run
     requires { GoodRecords store.now }
-    ensures { result ≡ run_of given (open_run room 0) (entries true store.now d.0) }
+    ensures { result ≡ run_of given (open_run room 0) (entries store.now d.0) }
 {
     let start = Run {
         room,
@@ -155,7 +154,7 @@ fn nothing_fits(run: Run) -> bool
 // The run that is sent, or TOOSMALL.
 fn check_listing(store: &[u8], d: ObjectNumber, given: u64, limit: usize) -> Listing
     requires { GoodRecords store.now }
-    ensures { listing_of store.now d.0 result ≡ check_listing listing_cost entry_fixed_cost limit (entries_above given (entries true store.now d.0)) }
+    ensures { listing_of (entries_above given (entries store.now d.0)) result ≡ check_listing listing_cost entry_fixed_cost limit (entries_above given (entries store.now d.0)) }
 {
     if limit < Limit::LISTING_COST {
         return Listing::Refused(Status::TOOSMALL);
@@ -164,70 +163,31 @@ fn check_listing(store: &[u8], d: ObjectNumber, given: u64, limit: usize) -> Lis
     if nothing_fits(run) {
         return Listing::Refused(Status::TOOSMALL);
     }
-    Listing::Sent(given, run.count, !run.full)
-}
-
-// Whether a cookie is that of "." or "..", and the edition does not list them.
-fn is_reserved(edition: u32, cookie: u64) -> bool
-    ensures { result ≡ is_reserved (rules_of edition).dots cookie }
-{
-    if edition == Edition::WITH_DOTS {
-        return false;
-    }
-    if cookie == 1 {
-        return true;
-    }
-    cookie == 2
-}
-
-// The cookie above which a listing with "." and ".." has what the edition lists above `cookie`: one without them starts behind them.
-fn listed_above(edition: u32, cookie: u64) -> u64
-    ensures { result ≡ listed_above (rules_of edition).dots cookie }
-{
-    if edition == Edition::WITH_DOTS {
-        return cookie;
-    }
-    if cookie == 0 {
-        return 2;
-    }
-    cookie
+    Listing::Sent(run.count, !run.full)
 }
 
 // What READDIR sends of a directory, or BAD_COOKIE or TOOSMALL.
 fn check_readdir_in(
     store: &[u8],
     d: ObjectNumber,
-    edition: u32,
     cookie: u64,
     verifier: u64,
     count: u32,
 ) -> Listing
     requires { GoodRecords store.now }
-    ensures { listing_of store.now d.0 result ≡ check_readdir_in (rules_of edition) store.now d.0 cookie verifier count }
+    ensures { listing_of (entries_above cookie (entries store.now d.0)) result ≡ check_readdir_in store.now d.0 cookie verifier count }
 {
     if verifier != 0 {
         return Listing::Refused(Status::BAD_COOKIE);
     }
-    if is_reserved(edition, cookie) {
-        return Listing::Refused(Status::BAD_COOKIE);
-    }
-    let above = listed_above(edition, cookie);
     let limit = wire::smaller(count as usize, Limit::MOST_TRANSFER_BYTES);
-    check_listing(store, d, above, limit)
+    check_listing(store, d, cookie, limit)
 }
 
-pub fn readdir(
-    store: &[u8],
-    context: Context,
-    call: &[u8],
-    h: Part,
-    cookie: u64,
-    verifier: u64,
-    count: u32,
-) -> Reply
+pub fn readdir(store: &[u8], call: &[u8], h: Part, cookie: u64, verifier: u64, count: u32) -> Reply
     requires good_records { GoodRecords store.now }
     requires length_in_bounds { h.start + h.length ≤ length call.now }
-    ensures result_value { result_of store.now result ≡ (readdir (rules_of context.edition) store.now (cut call.now h) cookie verifier count).result }
+    ensures result_value { result_of store.now result ≡ (readdir store.now (cut call.now h) cookie verifier count).result }
     ensures writable { Writable store.now result }
 {
     let answer = reach_directory(store, call, h);
@@ -235,9 +195,9 @@ pub fn readdir(
         Reached::At(d) => d,
         Reached::Refused(status) => return fail_showing(store, call, h, status),
     };
-    let listing = check_readdir_in(store, d, context.edition, cookie, verifier, count);
+    let listing = check_readdir_in(store, d, cookie, verifier, count);
     match listing {
-        Listing::Sent(above, n, all) => Reply::Listed(d, all, above, n),
+        Listing::Sent(n, all) => Reply::Listed(d, all, cookie, n),
         Listing::Refused(status) => fail_showing(store, call, h, status),
     }
 }

@@ -51,7 +51,7 @@ pub fn run(
         Arguments::Rename(p, q) => rename(store, context, call, p, q),
         Arguments::Link(h, p) => link(store, context, call, h, p),
         Arguments::Readdir(h, cookie, verifier, count) => {
-            readdir(store, context, call, h, cookie, verifier, count)
+            readdir(store, call, h, cookie, verifier, count)
         }
         Arguments::Fsstat(h) => fsstat(store, used, call, h),
         Arguments::Fsinfo(h) => fsinfo(store, call, h),

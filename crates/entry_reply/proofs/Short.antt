@@ -1,6 +1,5 @@
 -- How long a reply is at most. Assumes nothing.
 use Prim.Native.Nat.{ℕ, ◌+◌, ◌≤◌}
-use mathlib.Core.Bool.{true}
 use mathlib.Core.List.{List, [], ◌∷◌, ◌++◌}
 use mathlib.Core.Path.{◌≡◌, refl}
 use native.Mathlib.Omega.{arith}
@@ -71,7 +70,7 @@ module _ (s : Store) (p : ℕ) where
   body_short (Reply.Wrote c count verifier) w = lit≤ tt
   body_short (Reply.Created o d) w = lit≤ tt
   body_short (Reply.Listed d eof cookie n) w =
-      listed_short (OK ∷ post_op (attributes s d.0) ++ hyper 0) (entries_bytes (take n (entries_above cookie (entries true s d.0)))) (0 ∷ bit eof ∷ [])
+      listed_short (OK ∷ post_op (attributes s d.0) ++ hyper 0) (entries_bytes (take n (entries_above cookie (entries s d.0)))) (0 ∷ bit eof ∷ [])
       refl refl w.few
   body_short (Reply.GotRoom o total free objects available) w = lit≤ tt
   body_short (Reply.GotLimits o) w = lit≤ tt

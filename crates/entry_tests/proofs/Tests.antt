@@ -1,6 +1,6 @@
 -- From what each test found to what serve says. Assumes nothing.
-use mathlib.Core.Path.{◌≡◌, ◌∙◌}
-use mathlib.Core.Bool.{true, false, not}
+use mathlib.Core.Path.{◌≡◌}
+use mathlib.Core.Bool.{true, false}
 use mathlib.Core.List.{List}
 use Prim.Native.Nat.{ℕ, ◌≤◌, ◌<◌}
 use native.Mathlib.Omega.{arith}
@@ -13,7 +13,7 @@ use Rattle.kinds.specs.declared.object.Context.{Context}
 use Rattle.spec.specs.Check.{good_time, passes}
 use Rattle.spec.specs.Header.{header, fault, header_fault}
 use Rattle.spec.specs.Image.{Store}
-use Rattle.spec.specs.Serve.{refuse, send, respond, complete, good_edition, serve}
+use Rattle.spec.specs.Serve.{refuse, send, respond, serve}
 use Rattle.laws.proofs.GoodRecords.{GoodClock}
 use Rattle.laws.proofs.Places.{inside_header, inside_arguments}
 use Rattle.laws.proofs.Range.{Below}
@@ -42,41 +42,39 @@ module _ (call : List ℕ) (s : Store) (space : List ℕ) (c : Context) where
       long_call d = rw (le-ltb (length space) least_reply_bytes a, lt-ltb c.clock.nanoseconds nanoseconds_end b, lt-ltb most_call_bytes (length call) d)
 
       module _ (d : length call ≤ most_call_bytes) where
-        pub bad_edition : not (good_edition c.edition) ≡ true → serve call s space c ≡ refuse (fault 10 0) space s
+        pub bad_store : passes s ≡ false → serve call s space c ≡ refuse (fault 1 0) space s
         unfolding serve good_time
-        bad_edition g = rw (le-ltb (length space) least_reply_bytes a, lt-ltb c.clock.nanoseconds nanoseconds_end b, le-ltb most_call_bytes (length call) d, g)
+        bad_store e = rw (le-ltb (length space) least_reply_bytes a, lt-ltb c.clock.nanoseconds nanoseconds_end b, le-ltb most_call_bytes (length call) d, e)
 
-        module _ (g : not (good_edition c.edition) ≡ false) where
-          pub bad_store : passes s ≡ false → serve call s space c ≡ refuse (fault 1 0) space s
+        module _ (e : passes s ≡ true) where
+          pub bad_header : (p : ℕ) → header call 0 ≡ bad p → serve call s space c ≡ refuse (header_fault call p) space s
           unfolding serve good_time
-          bad_store e = rw (le-ltb (length space) least_reply_bytes a, lt-ltb c.clock.nanoseconds nanoseconds_end b, le-ltb most_call_bytes (length call) d, g, e)
+          bad_header p q = rw (
+            le-ltb (length space) least_reply_bytes a,
+            lt-ltb c.clock.nanoseconds nanoseconds_end b,
+            le-ltb most_call_bytes (length call) d,
+            e,
+            q,
+          )
 
-          module _ (e : passes s ≡ true) where
-            -- every test before the header passed
-            tested : serve call s space c ≡ complete space s c call (header call 0)
-            unfolding serve good_time
-            tested = rw (
-              le-ltb (length space) least_reply_bytes a,
-              lt-ltb c.clock.nanoseconds nanoseconds_end b,
-              le-ltb most_call_bytes (length call) d,
-              g,
-              e,
-            )
+          heard : (h : Header) (at : ℕ) → header call 0 ≡ got h at → serve call s space c ≡ send space (respond s c call h at)
+          unfolding serve good_time
+          heard h at q = rw (
+            le-ltb (length space) least_reply_bytes a,
+            lt-ltb c.clock.nanoseconds nanoseconds_end b,
+            le-ltb most_call_bytes (length call) d,
+            e,
+            q,
+          )
 
-            pub bad_header : (p : ℕ) → header call 0 ≡ bad p → serve call s space c ≡ refuse (header_fault call p) space s
-            bad_header p q = tested ∙ rw q
-
-            heard : (h : Header) (at : ℕ) → header call 0 ≡ got h at → serve call s space c ≡ send space (respond s c call h at)
-            heard h at q = tested ∙ rw q
-
-            pub hears : (used : List ℕ) (h : Header) (at : ℕ) (x : ArgumentsRead) → header call 0 ≡ got h at → arguments_of x ≡ arguments_after call (header call 0)
-                → UsedMap s used → Below 256 s → GoodClock c.clock → Hears call s space c used h at x
-            unfolding procedure_of
-            hears used h at x q y m w k =
-                record {
-                  serves = heard h at q;
-                  room = a;
-                  ready = record { valid = valid s e; bytes = w; map = m; clock = k };
-                  read = rw q at y;
-                  inside = rw y (omega (arith, (inside_arguments (procedure_of (header call 0))).place call (place_of (header call 0)) (inside_header.place call 0 (omega arith))));
-                }
+          pub hears : (used : List ℕ) (h : Header) (at : ℕ) (x : ArgumentsRead) → header call 0 ≡ got h at → arguments_of x ≡ arguments_after call (header call 0)
+              → UsedMap s used → Below 256 s → GoodClock c.clock → Hears call s space c used h at x
+          unfolding procedure_of
+          hears used h at x q y m w k =
+              record {
+                serves = heard h at q;
+                room = a;
+                ready = record { valid = valid s e; bytes = w; map = m; clock = k };
+                read = rw q at y;
+                inside = rw y (omega (arith, (inside_arguments (procedure_of (header call 0))).place call (place_of (header call 0)) (inside_header.place call 0 (omega arith))));
+              }

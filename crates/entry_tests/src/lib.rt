@@ -1,7 +1,5 @@
 // The tests of a call before anything is written.
-ghost use Rattle.std.specs.Prelude.{◌≡◌};
 ghost use Rattle.kinds.specs.Numbers.{most_blocks};
-ghost use Rattle.spec.specs.Serve.{good_edition};
 ghost use Rattle.fsck_objects.specs.Objects.{Blank};
 ghost use Rattle.entry_tests.specs.Opens.{Opens};
 
@@ -10,7 +8,7 @@ use call_whole::read_call;
 use fsck::check::check_store;
 use fsck::shape::Found;
 use kinds::call::{Cursor, Header};
-use kinds::numbers::{Answer, Edition, Limit};
+use kinds::numbers::{Answer, Limit};
 use kinds::object::Context;
 use rpc::header::{HeaderRead, fault};
 
@@ -21,18 +19,8 @@ pub enum Opened {
     Heard(Header, Cursor, ArgumentsRead),
 }
 
-// Whether a number is that of an edition.
-fn is_edition(number: u32) -> bool
-    ensures { result ≡ good_edition number }
-{
-    if number == Edition::WITH_DOTS {
-        return true;
-    }
-    number == Edition::WITHOUT_DOTS
-}
-
-// Tests the reply space, the clock, the call's length, the edition, the store and the header, in this order. `used` is a map of zeros; of a store that
-// passes it gets the map of its used blocks.
+// Tests the reply space, the clock, the call's length, the store and the header, in this order. `used` is a map of
+// zeros; of a store that passes it gets the map of its used blocks.
 pub fn open(
     call: &[u8],
     store: &[u8],
@@ -52,9 +40,6 @@ pub fn open(
     }
     if call.len() > Limit::MOST_CALL_BYTES {
         return Opened::Refused(Answer::CALL, 0);
-    }
-    if !is_edition(context.edition) {
-        return Opened::Refused(Answer::EDITION, 0);
     }
     let mut parents = [0u8; Limit::MOST_OBJECTS];
     let mut links = [0u8; Limit::MOST_OBJECTS];

@@ -27,7 +27,7 @@ use Rattle.spec.specs.Replies.{result_bytes}
 use Rattle.spec.specs.Checked.{Checked, refused, passed}
 use Rattle.spec.specs.Header.{header, fault}
 use Rattle.spec.specs.Rpc.{denied, accepted, nfs, judge, mismatch}
-use Rattle.spec.specs.Serve.{Outcome, refuse, Sent, send, perform, answer, complete, good_edition, serve}
+use Rattle.spec.specs.Serve.{Outcome, refuse, Sent, send, perform, answer, complete, serve}
 use Rattle.laws.proofs.Count.{by_bool}
 use Rattle.laws.proofs.Words.{words_length}
 use Rattle.history.specs.Book.{Ledger, arguments_got, judged_arguments, headed_arguments, asked, is_status, is_ok, noted, note}
@@ -132,17 +132,16 @@ module _ (s : Store) (x : Request) where
       judged (passed _) w e = read (arguments h.procedure x.call at) e
 
   -- the tests in the table's order
-  heard : least_reply_bytes ≤ length x.space → x.context.clock.nanoseconds < nanoseconds_end → length x.call ≤ most_call_bytes
-      → good_edition x.context.edition ≡ true → passes s ≡ true
+  heard : least_reply_bytes ≤ length x.space → x.context.clock.nanoseconds < nanoseconds_end → length x.call ≤ most_call_bytes → passes s ≡ true
       → outcome_of s x ≡ complete x.space s x.context x.call (header x.call 0)
   unfolding serve good_time
-  heard a b c g d =
-      rw (le-ltb (length x.space) least_reply_bytes a, lt-ltb x.context.clock.nanoseconds nanoseconds_end b, le-ltb most_call_bytes (length x.call) c, g, d)
+  heard a b c d =
+      rw (le-ltb (length x.space) least_reply_bytes a, lt-ltb x.context.clock.nanoseconds nanoseconds_end b, le-ltb most_call_bytes (length x.call) c, d)
 
   pub acted : (a : Arguments) → Asks x a → passes s ≡ true → Acted s x a
   unfolding reply_to asked sent
   acted a q v =
-      let h = heard q.space q.clock q.short q.edition v in
+      let h = heard q.space q.clock q.short v in
       let (xid, p, e) = answered a (header x.call 0) q.reads in
       record {
         xid = xid;
@@ -184,13 +183,11 @@ module _ (s : Store) (x : Request) where
       (λ a. by_bool (ltb x.context.clock.nanoseconds nanoseconds_end)
       (λ b. by_bool (ltb most_call_bytes (length x.call))
       (λ c. inl (refused_idle (fault 4 0) (rw (a, b, c))))
-      (λ c. by_bool (good_edition x.context.edition)
-      (λ g. go (asked x.call) refl a b c g)
-      (λ g. inl (refused_idle (fault 10 0) (rw (a, b, c, g))))))
+      (λ c. go (asked x.call) refl a b c))
       (λ b. inl (refused_idle (fault 3 0) (rw (a, b)))))
     where
       go : (o : Option Arguments) → asked x.call ≡ o → ltb (length x.space) least_reply_bytes ≡ false
           → ltb x.context.clock.nanoseconds nanoseconds_end ≡ true
-          → ltb most_call_bytes (length x.call) ≡ false → good_edition x.context.edition ≡ true → Idle ⊎ ((a : Arguments) × Asks x a)
-      go none n a b c g = inl (unasked_idle n (rw (a, b, c, g, v)))
-      go (some r) n a b c g = inr (r, record { space = ltb-false _ _ a; clock = ltb-true _ _ b; short = ltb-false _ _ c; edition = g; reads = n })
+          → ltb most_call_bytes (length x.call) ≡ false → Idle ⊎ ((a : Arguments) × Asks x a)
+      go none n a b c = inl (unasked_idle n (rw (a, b, c, v)))
+      go (some r) n a b c = inr (r, record { space = ltb-false _ _ a; clock = ltb-true _ _ b; short = ltb-false _ _ c; reads = n })

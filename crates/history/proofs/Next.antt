@@ -15,7 +15,6 @@ use Rattle.kinds.specs.declared.call.Arguments.TheVariants as Call
 use Rattle.spec.specs.Count.{times}
 use Rattle.spec.specs.Image.{Store, objects, object_at, Name}
 use Rattle.spec.specs.Procedures.{cut, act}
-use Rattle.spec.specs.Procedures.Listing.{rules_of}
 use Rattle.spec.specs.Serve.{formatted}
 use Rattle.laws.proofs.Error.{getattr_store, lookup_store, access_store, read_store, readdir_store, fsstat_store, fsinfo_store, pathconf_store, commit_store}
 use Rattle.laws.proofs.Formatted.{FormatAsked, formatted_stamp, formatted_objects, formatted_names, formatted_blocks, formatted_below, formatted_root}
@@ -74,7 +73,7 @@ module _ (σ p q r : ℕ) (s : Store) (L : Ledger) (I : Inv σ p q r s L) where
     act_owes (Call.Rmdir x) f A = rmdir_owes σ p q r s L I c clock call reply bytes x A
     act_owes (Call.Rename x y) f A = rename_owes σ p q r s L I c clock call reply bytes x y A
     act_owes (Call.Link h x) f A = link_owes σ p q r s L I c clock call reply bytes h x A
-    act_owes (Call.Readdir h k v n) f A = quiet _ _ (readdir_store s (cut call h) (rules_of c.edition) k v n) (note_quiet call reply (Call.Readdir h k v n) L A.reads refl)
+    act_owes (Call.Readdir h k v n) f A = quiet _ _ (readdir_store s (cut call h) k v n) (note_quiet call reply (Call.Readdir h k v n) L A.reads refl)
     act_owes (Call.Fsstat h) f A = quiet _ _ (fsstat_store s (cut call h)) (note_quiet call reply (Call.Fsstat h) L A.reads refl)
     act_owes (Call.Fsinfo h) f A = quiet _ _ (fsinfo_store s (cut call h)) (note_quiet call reply (Call.Fsinfo h) L A.reads refl)
     act_owes (Call.Pathconf h) f A = quiet _ _ (pathconf_store s (cut call h)) (note_quiet call reply (Call.Pathconf h) L A.reads refl)

@@ -23,7 +23,7 @@ use Rattle.spec.specs.Procedures.{cut, act}
 use Rattle.spec.specs.Procedures.Attributes.{getattr, setattr, access}
 use Rattle.spec.specs.Procedures.Data.{read, read_result, write_done, write, commit}
 use Rattle.spec.specs.Procedures.Link.{check_link, fail_linking, link}
-use Rattle.spec.specs.Procedures.Listing.{rules_of, readdir}
+use Rattle.spec.specs.Procedures.Listing.{readdir}
 use Rattle.spec.specs.Procedures.Names.{lookup, create, mkdir}
 use Rattle.spec.specs.Procedures.Removal.{remove_from, remove, rmdir, check_rename, fail_renaming, rename}
 use Rattle.spec.specs.Procedures.Volume.{fsstat, fsinfo, pathconf}
@@ -165,7 +165,7 @@ module _ (s : Store) (x : Request) where
       (λ o d m t. many (f, p, o, d, k, m, leb-true most_links (namings s o) t))
       (λ o d m t. asks _ (AsksStore.by_link f p o d k m (leb-false most_links (namings s o) t))))
       A (λ y. linked_says 0 _ _)
-  asks_room (Call.Readdir h cookie verifier count) k A = showing (at h) _ (readdir_tells Q plain s (rules_of x.context.edition) (at h) cookie verifier count) A (λ o. says _ 0 tt refl)
+  asks_room (Call.Readdir h cookie verifier count) k A = showing (at h) _ (readdir_tells Q plain s (at h) cookie verifier count) A (λ o. says _ 0 tt refl)
   asks_room (Call.Fsstat h) k A = showing (at h) _ (reach_tells Q plain s (at h)) A (λ o. says _ 0 tt refl)
   asks_room (Call.Fsinfo h) k A = showing (at h) _ (reach_tells Q plain s (at h)) A (λ o. says _ 0 tt refl)
   asks_room (Call.Pathconf h) k A = showing (at h) _ (reach_tells Q plain s (at h)) A (λ o. says _ 0 tt refl)

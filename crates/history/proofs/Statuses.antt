@@ -12,7 +12,7 @@ use lib.ListN.{length}
 use borrow.Author.Tests.{eqb-true, eqb-false, ltb-false, not-true, not-false}
 use Rattle.kinds.specs.Numbers.{NOENT, ACCES, EXIST, NOTDIR, INVAL, FBIG, NOSPC, MLINK, NAMETOOLONG, NOTEMPTY, STALE, BADHANDLE}
 use Rattle.kinds.specs.Numbers.{NOT_SYNC, BAD_COOKIE, TOOSMALL, most_name_bytes}
-use Rattle.kinds.specs.Numbers.{most_transfer_bytes, most_file_bytes, most_links, handle_length}
+use Rattle.kinds.specs.Numbers.{most_transfer_bytes, listing_cost, entry_fixed_cost, most_file_bytes, most_links, handle_length}
 use Rattle.kinds.specs.declared.call.Settable.{Settable}
 use Rattle.kinds.specs.declared.call.Guard.{Guard}
 use Rattle.kinds.specs.declared.call.How.{How}
@@ -25,7 +25,7 @@ use Rattle.spec.specs.Names.{good_bytes, is_dot, is_dot_dot, is_dots}
 use Rattle.spec.specs.Procedures.Attributes.{is_given, size_set, bad_attributes, differs, lacks_room, check_setattr}
 use Rattle.spec.specs.Procedures.Data.{reach_regular, grown, check_write}
 use Rattle.spec.specs.Procedures.Link.{check_added, check_link}
-use Rattle.spec.specs.Procedures.Listing.{Rules, entries, entries_above, is_nothing, fitting, check_listing, is_reserved, check_readdir_in, check_readdir}
+use Rattle.spec.specs.Procedures.Listing.{entries, entries_above, is_nothing, fitting, check_listing, check_readdir_in, check_readdir}
 use Rattle.spec.specs.Procedures.Names.{child_of, look_in, check_in, check_lookup, room_for_new, is_new, settable_in, is_taken, check_existing, target_of, check_new}
 use Rattle.spec.specs.Procedures.Names.{check_how, check_create, check_mkdir}
 use Rattle.spec.specs.Procedures.Removal.{check_entry, check_remove, has_entries, check_rmdir, is_within, is_replaceable, check_replace, onto, check_move}
@@ -111,9 +111,6 @@ module _ (P : ℕ → Type 0) (plain : (n : ℕ) → Plain n → P n) (s : Store
 
   bad_handle : P BADHANDLE
   bad_handle = plain BADHANDLE (lit< tt, lit< tt, omega arith, omega arith)
-
-  bad_cookie : P BAD_COOKIE
-  bad_cookie = plain BAD_COOKIE (lit< tt, lit< tt, omega arith, omega arith)
 
   too_small : P TOOSMALL
   too_small = plain TOOSMALL (lit< tt, lit< tt, omega arith, omega arith)
@@ -212,14 +209,13 @@ module _ (P : ℕ → Type 0) (plain : (n : ℕ) → Plain n → P n) (s : Store
       tells_if P (ltb limit head) TOOSMALL _ (λ _. too_small) (λ _.
       tells_if P (not (is_nothing es) && is_nothing (fitting each (limit - head) es)) TOOSMALL _ (λ _. too_small) (λ _. tells_passed P _))
 
-  pub readdir_tells : (r : Rules) (h : List ℕ) (cookie verifier count : ℕ) → Tells P (check_readdir r s h cookie verifier count)
+  pub readdir_tells : (h : List ℕ) (cookie verifier count : ℕ) → Tells P (check_readdir s h cookie verifier count)
   unfolding check_readdir check_readdir_in
-  readdir_tells r h cookie verifier count =
+  readdir_tells h cookie verifier count =
       tells_bind P (reach_directory s h) _ (directory_tells h) (λ d _.
-      tells_bind P (check_readdir_in r s d cookie verifier count) _
-      (tells_if P (not (eqb verifier 0)) BAD_COOKIE _ (λ _. bad_cookie) (λ _.
-      tells_if P (is_reserved r.dots cookie) BAD_COOKIE _ (λ _. bad_cookie) (λ _.
-      listing_tells r.head r.each (min count most_transfer_bytes) (entries_above cookie (entries r.dots s d))))) (λ _ _. tells_passed P _))
+      tells_bind P (check_readdir_in s d cookie verifier count) _
+      (tells_if P (not (eqb verifier 0)) BAD_COOKIE _ (λ _. plain BAD_COOKIE (lit< tt, lit< tt, omega arith, omega arith)) (λ _.
+      listing_tells listing_cost entry_fixed_cost (min count most_transfer_bytes) (entries_above cookie (entries s d)))) (λ _ _. tells_passed P _))
 
   -- ---- those that ask for room
   pub setattr_tells : (h : List ℕ) (a : Settable) (g : Guard)

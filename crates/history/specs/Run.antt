@@ -5,7 +5,7 @@ use Rattle.spec.specs.Image.{Store}
 use Rattle.spec.specs.Serve.{Outcome, serve}
 use Rattle.history.specs.Book.{Ledger, note}
 
--- what the caller lends: the call's bytes; the clock, the verifier and the edition; and the reply space
+-- what the caller lends: the call's bytes, the clock and the verifier, and the reply space
 pub record Request : Type 0 where
   pub call : List ℕ
   pub context : Context

@@ -26,7 +26,7 @@ use Rattle.spec.specs.Checked.{passed}
 use Rattle.spec.specs.Procedures.{cut}
 use Rattle.spec.specs.Procedures.Attributes.{is_given, size_set, bad_attributes, differs}
 use Rattle.spec.specs.Procedures.Names.{is_made_by}
-use Rattle.spec.specs.Serve.{good_edition, format}
+use Rattle.spec.specs.Serve.{format}
 use Rattle.history.specs.Book.{Standing, as_root, under, Line, Book, Ledger, handle_bytes, first_ledger, some_at, asked, is_status, is_ok}
 use Rattle.history.specs.Book.{found_handle, made_handle}
 use Rattle.history.specs.Run.{Request, Lent, AllLent, reply_to, State, step, run}
@@ -98,13 +98,12 @@ unfoldable pub live_objects : Store → ℕ
 live_objects s = count (objects s) (is_live s)
 
 -- ---- requests and replies
--- the request passes every check before its procedure's (the answers 2, 3, 4 and 10; 1 does not come, and 5, 7, 8 and 9, the RPC outcomes and
+-- the request passes every check before its procedure's (the answers 2, 3 and 4; 1 does not come, and 5, 7, 8 and 9, the RPC outcomes and
 -- GARBAGE_ARGS are what `asked` rules out), and is read as a call with these arguments
 pub record Asks (x : Request) (a : Arguments) : Type 0 where
   pub space : least_reply_bytes ≤ length x.space
   pub clock : x.context.clock.nanoseconds < nanoseconds_end
   pub short : length x.call ≤ most_call_bytes
-  pub edition : good_edition x.context.edition ≡ true
   pub reads : asked x.call ≡ some a
 
 -- the handle in an OK reply to LOOKUP, CREATE or MKDIR

@@ -88,16 +88,6 @@ DIRECTORY = 2
 abbrev pub kinds : List ℕ
 kinds = FREE ∷ REGULAR ∷ DIRECTORY ∷ []
 
--- E8: "listing edition 1 or 2"; "Edition 1 is today's READDIR."; edition 2: "dots never listed"
-abbrev pub WITH_DOTS : ℕ
-WITH_DOTS = 1
-
-abbrev pub WITHOUT_DOTS : ℕ
-WITHOUT_DOTS = 2
-
-abbrev pub editions : List ℕ
-editions = WITH_DOTS ∷ WITHOUT_DOTS ∷ []
-
 -- "reply space under 4,224 bytes"
 abbrev pub least_reply_bytes : ℕ
 least_reply_bytes = 4224
@@ -199,7 +189,6 @@ limits =
     ∷ most_transfer_bytes ∷ most_links ∷ file_sync ∷ file_system_properties ∷ listing_cost ∷ entry_fixed_cost ∷ file_rights ∷ directory_rights ∷ []
 
 -- the answers: done, store fails its check, reply space, clock, call over 8,192 bytes, "5 for under 8 bytes", format, "7 for a message type other
--- than 0, 8 for a header cut short, 9 for an overlong credential or verifier"; "another number gets answer 10", an edition other than 1 and 2; and
--- "a table that fails its check 12"
+-- than 0, 8 for a header cut short, 9 for an overlong credential or verifier"; and "a table that fails its check 12"
 abbrev pub answers : List ℕ
-answers = 0 ∷ 1 ∷ 2 ∷ 3 ∷ 4 ∷ 5 ∷ 6 ∷ 7 ∷ 8 ∷ 9 ∷ 10 ∷ 12 ∷ []
+answers = 0 ∷ 1 ∷ 2 ∷ 3 ∷ 4 ∷ 5 ∷ 6 ∷ 7 ∷ 8 ∷ 9 ∷ 12 ∷ []

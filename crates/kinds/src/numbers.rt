@@ -1,6 +1,6 @@
 // Statuses, procedures, limits and answers as constants of their types, and the numbers of records and blocks.
 ghost use Rattle.std.specs.Prelude.{◌≡◌};
-ghost use Rattle.kinds.specs.Numbers.{statuses, procedures, limits, answers, messages, kinds, editions, zero_words};
+ghost use Rattle.kinds.specs.Numbers.{statuses, procedures, limits, answers, messages, kinds, zero_words};
 
 // The number of an object, of a name record and of a block: three types, so that none is taken for another. A block number has two bytes, as an
 // object record holds it.
@@ -245,23 +245,6 @@ impl Kind {
     }
 }
 
-// The edition of a listing: with "." and "..", or without them.
-#[derive(Drop)]
-pub struct Edition(pub u32);
-
-impl Edition {
-    pub const WITH_DOTS: u32 = 1;
-
-    pub const WITHOUT_DOTS: u32 = 2;
-
-    // The numbers of the constants above, in their order.
-    pub fn numbers() -> [u32; 2]
-        ensures { result ≡ editions }
-    {
-        [Edition::WITH_DOTS, Edition::WITHOUT_DOTS]
-    }
-}
-
 // The limits, lengths and costs of the rules.
 #[derive(Drop)]
 pub struct Limit(pub u64);
@@ -388,12 +371,10 @@ impl Answer {
 
     pub const CREDENTIAL: u32 = 9;
 
-    pub const EDITION: u32 = 10;
-
     pub const TABLE: u32 = 12;
 
     // The numbers of the constants above, in their order.
-    pub fn numbers() -> [u32; 12]
+    pub fn numbers() -> [u32; 11]
         ensures { result ≡ answers }
     {
         [
@@ -407,7 +388,6 @@ impl Answer {
             Answer::MESSAGE_TYPE,
             Answer::HEADER,
             Answer::CREDENTIAL,
-            Answer::EDITION,
             Answer::TABLE,
         ]
     }

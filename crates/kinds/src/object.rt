@@ -82,10 +82,9 @@ pub struct Change {
     pub after: Attributes,
 }
 
-// What the caller gives with a call: the clock, the verifier that WRITE and COMMIT answer, and the edition of READDIR's listings.
+// What the caller gives with a call: the clock, and the verifier that WRITE and COMMIT answer.
 #[derive(Drop)]
 pub struct Context {
     pub clock: Time,
     pub verifier: u64,
-    pub edition: u32,
 }

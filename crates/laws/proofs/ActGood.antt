@@ -25,7 +25,6 @@ use Rattle.spec.specs.Procedures.{cut, act}
 use Rattle.spec.specs.Procedures.Attributes.{is_given, size_set, size_touches, resize_to, check_setattr, setattr_edit, edited, setattr}
 use Rattle.spec.specs.Procedures.Data.{grown, check_write, write_edit, write_store, write_done, write}
 use Rattle.spec.specs.Procedures.Link.{check_link, link_edit, fail_linking, linked_to, link}
-use Rattle.spec.specs.Procedures.Listing.{rules_of}
 use Rattle.spec.specs.Procedures.Names.{new_object, touch_directory, new_edit, created_in, Target, new, existing, settable_in, existing_edit, new_file}
 use Rattle.spec.specs.Procedures.Names.{create_edit, check_create, create, check_mkdir, mkdir}
 use Rattle.spec.specs.Procedures.Removal.{check_remove, check_rmdir, remove_from, remove, rmdir, Onto, new_name, same_object, replacing, check_rename, move_edit}
@@ -409,7 +408,7 @@ module _ (s : Store) (c : Context) (v : Valid s) (b : Below 256 s) (k : GoodCloc
   act_good call (Arguments.Rename p q) w f =
       rename_good (cut call p.directory) (cut call p.name) (cut call q.directory) (cut call q.name) (cut_below call q.name w)
   act_good call (Arguments.Link h p) w f = link_good (cut call h) (cut call p.directory) (cut call p.name) (cut_below call p.name w)
-  act_good call (Arguments.Readdir h cookie verifier count) w f = as_it_was _ (readdir_store s (cut call h) (rules_of c.edition) cookie verifier count)
+  act_good call (Arguments.Readdir h cookie verifier count) w f = as_it_was _ (readdir_store s (cut call h) cookie verifier count)
   act_good call (Arguments.Fsstat h) w f = as_it_was _ (fsstat_store s (cut call h))
   act_good call (Arguments.Fsinfo h) w f = as_it_was _ (fsinfo_store s (cut call h))
   act_good call (Arguments.Pathconf h) w f = as_it_was _ (pathconf_store s (cut call h))

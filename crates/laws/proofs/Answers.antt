@@ -34,7 +34,7 @@ reply_from call s at = part (served call s).space at ((served call s).length - a
 pub record Answers : Type 0 where
   -- "Answers 1 to 6, and every number added later, return length 0 and change nothing in any lent buffer."; "call over 8,192 bytes"
   pub refusal : serve (zeros 8) (7 ∷ []) (9 ∷ []) context ≡ record { number = 2; length = 0; offset = 0; space = 9 ∷ []; store = 7 ∷ [] }
-  pub longest_call : answer_to (zeros 8192) root_alone space 0 1 ≡ 0
+  pub longest_call : answer_to (zeros 8192) root_alone space 0 ≡ 0
   -- GARBAGE_ARGS: "a boolean over 1, an unknown enum, a handle over 64 bytes"
   pub bool_two : is_garbage (setattr_call 0 (2 ∷ 0 ∷ 0 ∷ 0 ∷ 0 ∷ 0 ∷ 0 ∷ [])) root_alone ≡ true
   pub time_three : is_garbage (setattr_call 0 (0 ∷ 0 ∷ 0 ∷ 0 ∷ 3 ∷ 0 ∷ 0 ∷ [])) root_alone ≡ true
@@ -80,7 +80,7 @@ pub record Answers : Type 0 where
   pub wrote : part (served (write_call 1 0 name_a) with_a).space 144 16 ≡ words (1 ∷ 2 ∷ 0 ∷ 8 ∷ [])
   pub write_most : check_write with_a (words (9 ∷ 1 ∷ 0 ∷ [])) 4096 4097 (zeros 4097) ≡ passed 1
   pub write_no_room : status_sent (served (write_call 1 512 name_a) (after (create_call name_a ∷ []) (fresh 2 1 1))) ≡ 28
-  pub wide_verifier : part (serve (write_call 1 0 name_a) with_a space (record { clock = context.clock; verifier = 4294967296 * 3 + 4; edition = 1 })).space 152 8
+  pub wide_verifier : part (serve (write_call 1 0 name_a) with_a space (record { clock = context.clock; verifier = 4294967296 * 3 + 4 })).space 152 8
       ≡ words (3 ∷ 4 ∷ [])
   -- CREATE: the reply's head; "4,294,967,295 is never given out"; NOSPC for a size; UNCHECKED on an existing file
   pub created : part (served (create_call name_a) (fresh 2 1 16)).space 24 24 ≡ words (0 ∷ 1 ∷ 12 ∷ 9 ∷ 1 ∷ 0 ∷ [])

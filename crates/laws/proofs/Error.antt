@@ -24,7 +24,7 @@ use Rattle.spec.specs.Procedures.{cut, act}
 use Rattle.spec.specs.Procedures.Attributes.{getattr, check_setattr, setattr_edit, edited, setattr, granted_bits, access}
 use Rattle.spec.specs.Procedures.Data.{reach_regular, read_result, read, check_write, write_done, write, commit}
 use Rattle.spec.specs.Procedures.Link.{check_link, link_edit, fail_linking, linked_to, link}
-use Rattle.spec.specs.Procedures.Listing.{Rules, rules_of, check_readdir, readdir}
+use Rattle.spec.specs.Procedures.Listing.{check_readdir, readdir}
 use Rattle.spec.specs.Procedures.Names.{check_lookup, lookup, new_object, touch_directory, new_edit, created_in, Target, new, existing, check_create}
 use Rattle.spec.specs.Procedures.Names.{create_edit, create, check_mkdir, mkdir}
 use Rattle.spec.specs.Procedures.Removal.{check_remove, check_rmdir, remove_from, remove, rmdir, check_rename, rename_edit, fail_renaming, renamed_to, rename}
@@ -159,10 +159,10 @@ module _ (s : Store) (h : List ℕ) where
   unfolding read
   read_store offset count = settle_unchanged s (fail_showing s h) (reach_regular s h) (λ o. read_result s o offset count)
 
-  pub readdir_store : (r : Rules) (cookie verifier count : ℕ) → (readdir r s h cookie verifier count).store ≡ s
+  pub readdir_store : (cookie verifier count : ℕ) → (readdir s h cookie verifier count).store ≡ s
   unfolding readdir
-  readdir_store r cookie verifier count =
-      settle_unchanged s (fail_showing s h) (check_readdir r s h cookie verifier count) (λ p. listed (attributes s p.0) p.1 p.2)
+  readdir_store cookie verifier count =
+      settle_unchanged s (fail_showing s h) (check_readdir s h cookie verifier count) (λ p. listed (attributes s p.0) p.1 p.2)
 
   pub fsstat_store : (fsstat s h).store ≡ s
   unfolding fsstat
@@ -199,7 +199,7 @@ act_kept s c call (Arguments.Rmdir p) n =
 act_kept s c call (Arguments.Rename p q) n =
     rename_error s c (cut call p.directory) (cut call p.name) (cut call q.directory) (cut call q.name) n
 act_kept s c call (Arguments.Link h p) n = link_error s c (cut call h) (cut call p.directory) (cut call p.name) n
-act_kept s c call (Arguments.Readdir h cookie verifier count) n = readdir_store s (cut call h) (rules_of c.edition) cookie verifier count
+act_kept s c call (Arguments.Readdir h cookie verifier count) n = readdir_store s (cut call h) cookie verifier count
 act_kept s c call (Arguments.Fsstat h) n = fsstat_store s (cut call h)
 act_kept s c call (Arguments.Fsinfo h) n = fsinfo_store s (cut call h)
 act_kept s c call (Arguments.Pathconf h) n = pathconf_store s (cut call h)

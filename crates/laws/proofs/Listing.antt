@@ -7,13 +7,11 @@ use native.Mathlib.Omega.{arith}
 use native.Mathlib.Numerals.{add-one}
 use lib.Dec.{ltb, leb}
 use lib.ListN.{length, take, drop, length-append, take-append-drop}
-use borrow.Author.Tests.{leb-true, lt-ltb, le-ltb}
+use borrow.Author.Tests.{leb-true}
 use Rattle.kinds.specs.Numbers.{entry_fixed_cost}
 use Rattle.spec.specs.Count.{passing}
 use Rattle.spec.specs.Results.{Entry}
-use Rattle.spec.specs.Room.{is_in}
-use Rattle.spec.specs.Image.{Store, names}
-use Rattle.spec.specs.Procedures.Listing.{entry_of, dot_entries, entries, entries_above, entry_cost, fitting}
+use Rattle.spec.specs.Procedures.Listing.{entries_above, entry_cost, fitting}
 use Rattle.spec.specs.Replies.{entry_bytes, entries_bytes}
 use Rattle.laws.proofs.Count.{by_bool, passing_front}
 use Rattle.laws.proofs.Words.{words_length, opaque_length}
@@ -58,23 +56,6 @@ module _ {A : Type 0} (f : ℕ → A) (p : ℕ → Bool) where
       ap (map f) (sym (take-append-drop i (passing m p)))
       ∙ map-append f (take i (passing m p)) (drop i (passing m p))
       ∙ ap (λ (l : List ℕ). map f l ++ map f (drop i (passing m p))) (passing_front p n m h)
-
--- ---- with dots and without them
--- the entries of name records have cookies above 2
-pub records_above : (s : Store) (cookie : ℕ) (ns : List ℕ) → cookie ≤ 2 → entries_above cookie (map (entry_of s) ns) ≡ map (entry_of s) ns
-unfolding entries_above entry_of
-records_above s cookie [] h = refl
-records_above s cookie (n ∷ ns) h =
-    rw (lt-ltb cookie (n + 3) (omega (arith, h)), records_above s cookie ns h)
-
--- the dots have cookies up to 2: above 2 a listing with them is one without them
-pub dots_below : (s : Store) (d cookie : ℕ) → 2 ≤ cookie → entries_above cookie (entries true s d) ≡ entries_above cookie (entries false s d)
-unfolding entries_above entries dot_entries
-dots_below s d cookie h = rw (le-ltb cookie 1 (omega (arith, h)), le-ltb cookie 2 (omega (arith, h)))
-
-pub none_below : (s : Store) (d cookie : ℕ) → cookie ≤ 2 → entries_above cookie (entries false s d) ≡ entries false s d
-unfolding entries
-none_below s d cookie h = records_above s cookie (passing (names s) (is_in s d)) h
 
 -- ---- what an entry costs
 pub entry_length : (e : Entry) → length (entry_bytes e) ≡ entry_cost entry_fixed_cost e

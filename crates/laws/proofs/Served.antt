@@ -23,7 +23,7 @@ use Rattle.spec.specs.Header.{header, header_fault}
 use Rattle.spec.specs.Image.{Store}
 use Rattle.spec.specs.Procedures.{act}
 use Rattle.spec.specs.Rpc.{nfs, judge}
-use Rattle.spec.specs.Serve.{Outcome, refuse, send, finish, perform, answer, respond, complete, good_edition, serve}
+use Rattle.spec.specs.Serve.{Outcome, refuse, send, finish, perform, answer, respond, complete, serve}
 use Rattle.laws.proofs.Count.{by_bool}
 use Rattle.laws.proofs.Error.{status_of, NotDone, act_kept, status_word}
 
@@ -32,7 +32,6 @@ pub record Ran (call : List ℕ) (s : Store) (space : List ℕ) (c : Context) : 
   pub space_long : least_reply_bytes ≤ length space
   pub clock_valid : c.clock.nanoseconds < nanoseconds_end
   pub call_short : length call ≤ most_call_bytes
-  pub edition_good : good_edition c.edition ≡ true
   pub store_passes : passes s ≡ true
   pub head : CallHeader
   pub at : ℕ
@@ -45,25 +44,24 @@ pub record Ran (call : List ℕ) (s : Store) (space : List ℕ) (c : Context) : 
 
 module _ (call : List ℕ) (s : Store) (space : List ℕ) (c : Context) where
   -- the tests before the header
-  after_tests : ltb (length space) least_reply_bytes ≡ false → good_time c.clock ≡ true → ltb most_call_bytes (length call) ≡ false
-      → good_edition c.edition ≡ true → passes s ≡ true → serve call s space c ≡ complete space s c call (header call 0)
+  after_tests : ltb (length space) least_reply_bytes ≡ false → good_time c.clock ≡ true → ltb most_call_bytes (length call) ≡ false → passes s ≡ true
+      → serve call s space c ≡ complete space s c call (header call 0)
   unfolding serve
-  after_tests a b d g e = rw (a, b, d, g, e)
+  after_tests a b d e = rw (a, b, d, e)
 
   module _ (a : ltb (length space) least_reply_bytes ≡ false) (b : good_time c.clock ≡ true)
-      (d : ltb most_call_bytes (length call) ≡ false) (g : good_edition c.edition ≡ true) (e : passes s ≡ true) where
+      (d : ltb most_call_bytes (length call) ≡ false) (e : passes s ≡ true) where
     by_arguments : (h : CallHeader) (at : ℕ) → header call 0 ≡ got (Header.Call h) at → judge nfs h ≡ passed tt
         → (r : Read Arguments) → arguments h.procedure call at ≡ r → ((serve call s space c).store ≡ s) ⊎ Ran call s space c
     unfolding good_time
     by_arguments h at q j (bad p) f =
-        let w : serve call s space c ≡ send space (perform s c call h (bad p)) = after_tests a b d g e ∙ rw (q, j, f) in
+        let w : serve call s space c ≡ send space (perform s c call h (bad p)) = after_tests a b d e ∙ rw (q, j, f) in
         ◌⊎◌.inl (ap (λ (o : Outcome). o.store) w)
     by_arguments h at q j (got asked next) f =
         ◌⊎◌.inr (record {
           space_long = ltb-false (length space) least_reply_bytes a;
           clock_valid = ltb-true c.clock.nanoseconds nanoseconds_end b;
           call_short = ltb-false most_call_bytes (length call) d;
-          edition_good = g;
           store_passes = e;
           head = h;
           at = at;
@@ -72,22 +70,22 @@ module _ (call : List ℕ) (s : Store) (space : List ℕ) (c : Context) where
           asked = asked;
           next = next;
           asked_read = f;
-          outcome = after_tests a b d g e ∙ rw (q, j, f);
+          outcome = after_tests a b d e ∙ rw (q, j, f);
         })
 
     by_judged : (h : CallHeader) (at : ℕ) → header call 0 ≡ got (Header.Call h) at → (j : Checked (Unit {0})) → judge nfs h ≡ j
         → ((serve call s space c).store ≡ s) ⊎ Ran call s space c
     by_judged h at q (refused stat) f =
-        let w : serve call s space c ≡ send space (answer s c call h at (refused stat)) = after_tests a b d g e ∙ rw (q, f) in
+        let w : serve call s space c ≡ send space (answer s c call h at (refused stat)) = after_tests a b d e ∙ rw (q, f) in
         ◌⊎◌.inl (ap (λ (o : Outcome). o.store) w)
     by_judged h at q (passed tt) f = by_arguments h at q f (arguments h.procedure call at) refl
 
     by_header : (r : Read Header) → header call 0 ≡ r → ((serve call s space c).store ≡ s) ⊎ Ran call s space c
     by_header (bad p) q =
-        let w : serve call s space c ≡ refuse (header_fault call p) space s = after_tests a b d g e ∙ rw q in
+        let w : serve call s space c ≡ refuse (header_fault call p) space s = after_tests a b d e ∙ rw q in
         ◌⊎◌.inl (ap (λ (o : Outcome). o.store) w)
     by_header (got (Header.OtherVersion xid) at) q =
-        let w : serve call s space c ≡ send space (respond s c call (Header.OtherVersion xid) at) = after_tests a b d g e ∙ rw q in
+        let w : serve call s space c ≡ send space (respond s c call (Header.OtherVersion xid) at) = after_tests a b d e ∙ rw q in
         ◌⊎◌.inl (ap (λ (o : Outcome). o.store) w)
     by_header (got (Header.Call h) at) q = by_judged h at q (judge nfs h) refl
 
@@ -100,11 +98,9 @@ module _ (call : List ℕ) (s : Store) (space : List ℕ) (c : Context) where
       (λ a. by_bool (good_time c.clock)
       (λ b. by_bool (ltb most_call_bytes (length call))
       (λ d. ◌⊎◌.inl (rw (a, b, d)))
-      (λ d. by_bool (good_edition c.edition)
-      (λ g. by_bool (passes s)
-      (λ e. by_header a b d g e (header call 0) refl)
-      (λ e. ◌⊎◌.inl (rw (a, b, d, g, e))))
-      (λ g. ◌⊎◌.inl (rw (a, b, d, g)))))
+      (λ d. by_bool (passes s)
+      (λ e. by_header a b d e (header call 0) refl)
+      (λ e. ◌⊎◌.inl (rw (a, b, d, e)))))
       (λ b. ◌⊎◌.inl (rw (a, b))))
 
   -- ---- errors

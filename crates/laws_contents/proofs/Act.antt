@@ -22,7 +22,6 @@ use Rattle.spec.specs.Procedures.{cut, act}
 use Rattle.spec.specs.Procedures.Attributes.{check_setattr, setattr_edit, edited, setattr}
 use Rattle.spec.specs.Procedures.Data.{check_write, write_done, write}
 use Rattle.spec.specs.Procedures.Link.{check_link, link_edit, fail_linking, linked_to, link}
-use Rattle.spec.specs.Procedures.Listing.{rules_of}
 use Rattle.spec.specs.Procedures.Names.{new_object, touch_directory, new_edit, created_in, Target, new, existing}
 use Rattle.spec.specs.Procedures.Names.{settable_in, new_file, create_edit, check_create, create, check_mkdir, mkdir}
 use Rattle.spec.specs.Procedures.Removal.{check_remove, check_rmdir, remove_from, remove, rmdir, check_rename, rename_edit, fail_renaming, renamed_to, rename}
@@ -205,7 +204,7 @@ module _ (s : Store) (g : GoodRecords s) (c : Context) (k : GoodClock c.clock) (
   act_others call (Arguments.Rename q j) w f z =
       rename_frame (cut call q.directory) (cut call q.name) (cut call j.directory) (cut call j.name) (cut_below call j.name w) z
   act_others call (Arguments.Link h q) w f z = link_frame (cut call h) (cut call q.directory) (cut call q.name) (cut_below call q.name w)
-  act_others call (Arguments.Readdir h cookie verifier count) w f z = kept _ (readdir_store s (cut call h) (rules_of c.edition) cookie verifier count)
+  act_others call (Arguments.Readdir h cookie verifier count) w f z = kept _ (readdir_store s (cut call h) cookie verifier count)
   act_others call (Arguments.Fsstat h) w f z = kept _ (fsstat_store s (cut call h))
   act_others call (Arguments.Fsinfo h) w f z = kept _ (fsinfo_store s (cut call h))
   act_others call (Arguments.Pathconf h) w f z = kept _ (pathconf_store s (cut call h))

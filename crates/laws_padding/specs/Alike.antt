@@ -29,7 +29,7 @@ pub record SameButPads (s t : List ℕ) : Type 0 where
   pub same_length : length t ≡ length s
   pub same_byte : (i : ℕ) → is_pad s i ≡ false → get_or t i 0 ≡ get_or s i 0
 
--- the same clock, verifier, edition and reply space, and a call that differs at most in padding
+-- the same clock, verifier and reply space, and a call that differs at most in padding
 pub record SameRequest (x y : Request) : Type 0 where
   pub call : SameButPads x.call y.call
   pub context : y.context ≡ x.context

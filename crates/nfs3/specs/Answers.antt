@@ -18,9 +18,9 @@ pub record Writes (w : Written) (r : Answer) (store : List ℕ) : Type 0 where
   pub answers : r ≡ answer_of w.number
   pub leaves : store ≡ w.store
 
--- a clock of two numbers, a verifier and an edition
-abbrev pub context_of : ℕ → ℕ → ℕ → ℕ → Context
-context_of seconds nanoseconds verifier edition = record { clock = clock_of seconds nanoseconds; verifier = verifier; edition = edition }
+-- a clock of two numbers, and a verifier
+abbrev pub context_of : ℕ → ℕ → ℕ → Context
+context_of seconds nanoseconds verifier = record { clock = clock_of seconds nanoseconds; verifier = verifier }
 
 -- an answer, a reply space and a store are what a call gives
 pub record Serves (o : Outcome) (r : Answer) (reply store : List ℕ) : Type 0 where

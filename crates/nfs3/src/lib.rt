@@ -12,8 +12,8 @@ use fsck::shape::Found;
 use kinds::numbers::{Answer, Limit};
 use kinds::object::{Context, Time};
 
-// Answers a call: 2, 3, 4, 10, 1, 5, 7, 8 or 9, which change nothing, or 0 with the length of the reply. 8, 9 and GARBAGE_ARGS come with the byte at
-// which the field starts that cannot be read.
+// Answers a call: 2, 3, 4, 1, 5, 7, 8 or 9, which change nothing, or 0 with the length of the reply. 8, 9 and GARBAGE_ARGS come with the byte at which
+// the field starts that cannot be read.
 #[unsafe(no_mangle)]
 pub extern "C" fn nfs3_call(
     call: &[u8],
@@ -22,19 +22,14 @@ pub extern "C" fn nfs3_call(
     seconds: u32,
     nanoseconds: u32,
     verifier: u64,
-    edition: u32,
 ) -> Answer
-    ensures { Serves (serve call.now store.old reply.old (context_of seconds nanoseconds verifier edition)) result reply.new store.new }
+    ensures { Serves (serve call.now store.old reply.old (context_of seconds nanoseconds verifier)) result reply.new store.new }
 {
     let clock = Time {
         seconds,
         nanoseconds,
     };
-    let context = Context {
-        clock,
-        verifier,
-        edition,
-    };
+    let context = Context { clock, verifier };
     let mut used = [0u8; Limit::MOST_BLOCKS];
     let opened = open(call, store, reply, context, &mut used);
     match opened {

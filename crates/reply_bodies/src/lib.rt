@@ -1,6 +1,6 @@
 // The parts of each procedure's results in a reply. The results begin with the status; most go on with attributes that are read from the store,
 // and end with what is written here from numbers alone.
-ghost use Rattle.std.specs.Prelude.{◌≡◌, true, [], ◌∷◌, ◌++◌, ◌+◌, ◌*◌, ◌/◌, ◌%◌, ◌≤◌, length, take};
+ghost use Rattle.std.specs.Prelude.{◌≡◌, [], ◌∷◌, ◌++◌, ◌+◌, ◌*◌, ◌/◌, ◌%◌, ◌≤◌, length, take};
 ghost use Rattle.kinds.specs.Numbers.{OK, most_file_bytes, most_name_bytes, most_transfer_bytes, most_links, file_sync, file_system_properties};
 ghost use Rattle.spec.specs.Bytes.{words, opaque_bytes, padding};
 ghost use Rattle.spec.specs.Count.{bit};
@@ -197,8 +197,8 @@ pub fn put_listing(
     n: usize,
 ) -> usize
     requires listable { Listable store.now o.0 cookie n }
-    requires o_in_bounds { at + (8 + length (entries_bytes (take n (entries_above cookie (entries true store.now o.0)))) + 8) ≤ length reply.old }
-    ensures { Wrote (8 + length (entries_bytes (take n (entries_above cookie (entries true store.now o.0)))) + 8) reply.old reply.new at result (words (hyper 0) ++ entries_bytes (take n (entries_above cookie (entries true store.now o.0))) ++ words (0 ∷ bit eof ∷ [])) }
+    requires o_in_bounds { at + (8 + length (entries_bytes (take n (entries_above cookie (entries store.now o.0)))) + 8) ≤ length reply.old }
+    ensures { Wrote (8 + length (entries_bytes (take n (entries_above cookie (entries store.now o.0)))) + 8) reply.old reply.new at result (words (hyper 0) ++ entries_bytes (take n (entries_above cookie (entries store.now o.0))) ++ words (0 ∷ bit eof ∷ [])) }
 {
     let zeros = [0u32, 0];
     let first = put_words(reply, at, &zeros);

@@ -90,7 +90,7 @@ pub above_dots : (cookie d p : ℕ)
 above_dots cookie d p = above_append cookie (entry (d + 1) (0x2E ∷ []) 1 ∷ []) (entry (p + 1) (0x2E ∷ 0x2E ∷ []) 2 ∷ [])
 
 pub above_entries : (s : Store) (cookie d p : ℕ) → p ≡ parent s d
-    → entries_above cookie (entries true s d) ≡ entries_above cookie (dots d p) ++ entries_above cookie (named_entries s d (names s))
+    → entries_above cookie (entries s d) ≡ entries_above cookie (dots d p) ++ entries_above cookie (named_entries s d (names s))
 unfolding entries dot_entries
 above_entries s cookie d p e = rw e (above_append cookie (dots d (parent s d)) (named_entries s d (names s)))
 

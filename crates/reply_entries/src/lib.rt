@@ -1,5 +1,5 @@
 // The entries of a directory in a reply.
-ghost use Rattle.std.specs.Prelude.{true, [], ◌∷◌, ◌++◌, ◌≡◌, ◌+◌, ◌*◌, ◌<◌, ◌≤◌, length, take};
+ghost use Rattle.std.specs.Prelude.{[], ◌∷◌, ◌++◌, ◌≡◌, ◌+◌, ◌*◌, ◌<◌, ◌≤◌, length, take};
 ghost use Rattle.kinds.specs.Numbers.{most_objects, entry_fixed_cost};
 ghost use Rattle.spec.specs.Bytes.{part, overlay, padding, zeros};
 ghost use Rattle.spec.specs.Image.{names, name_start};
@@ -195,8 +195,8 @@ pub fn put_entries(
     count: usize,
 ) -> usize
     requires listable { Listable store.now directory.0 cookie count }
-    requires directory_in_bounds { at + length (entries_bytes (take count (entries_above cookie (entries true store.now directory.0)))) ≤ length reply.old }
-    ensures { Wrote (length (entries_bytes (take count (entries_above cookie (entries true store.now directory.0))))) reply.old reply.new at result (entries_bytes (take count (entries_above cookie (entries true store.now directory.0)))) }
+    requires directory_in_bounds { at + length (entries_bytes (take count (entries_above cookie (entries store.now directory.0)))) ≤ length reply.old }
+    ensures { Wrote (length (entries_bytes (take count (entries_above cookie (entries store.now directory.0))))) reply.old reply.new at result (entries_bytes (take count (entries_above cookie (entries store.now directory.0)))) }
 {
     let parent = parent_of(store, directory);
     let start = Place { at, left: count };

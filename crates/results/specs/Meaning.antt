@@ -1,6 +1,6 @@
 -- What each reply value stands for, by the store that it is written from.
-use Rattle.std.specs.Prelude.{true, take}
 use Rattle.std.proofs.Math.Option.{Option, some, none}
+use Rattle.std.specs.Prelude.{take}
 use Rattle.kinds.specs.declared.object.Attributes.{Attributes}
 use Rattle.kinds.specs.declared.object.Change.{Change}
 use Rattle.kinds.specs.declared.numbers.ObjectNumber.{ObjectNumber}
@@ -48,7 +48,7 @@ result_of s (Reply.Granted o bits) = granted (attributes s o.0) bits
 result_of s (Reply.GotBytes o eof offset n) = got_bytes (attributes s o.0) eof (read_file s o.0 offset n)
 result_of s (Reply.Wrote c count verifier) = wrote (change_in s c) count verifier
 result_of s (Reply.Created o d) = created (handle_of s o.0) (attributes s o.0) (change_in s d)
-result_of s (Reply.Listed d eof cookie n) = listed (attributes s d.0) (take n (entries_above cookie (entries true s d.0))) eof
+result_of s (Reply.Listed d eof cookie n) = listed (attributes s d.0) (take n (entries_above cookie (entries s d.0))) eof
 result_of s (Reply.GotRoom o total free objects available) = got_room (attributes s o.0) total free objects available
 result_of s (Reply.GotLimits o) = got_limits (attributes s o.0)
 result_of s (Reply.GotNaming o) = got_naming (attributes s o.0)

@@ -1,5 +1,5 @@
 -- What must hold of a store and a reply value so that the reply can be written from them.
-use Rattle.std.specs.Prelude.{ℕ, ◌+◌, ◌-◌, ◌≤◌, ◌<◌, true, length, take}
+use Rattle.std.specs.Prelude.{ℕ, ◌+◌, ◌-◌, ◌≤◌, ◌<◌, length, take}
 use Rattle.kinds.specs.Numbers.{most_transfer_bytes, listing_cost}
 use Rattle.spec.specs.Image.{Store, objects}
 use Rattle.spec.specs.Room.{size_of}
@@ -33,12 +33,12 @@ pub record Readable (s : Store) (o offset n : ℕ) : Type 0 where
   pub few : n ≤ most_transfer_bytes
   pub left : n ≤ size_of s o - offset
 
--- the first `count` entries of directory d above a cookie, the dots among them: "The result body after the status costs 104 bytes plus 24 + padded name each",
+-- the first `count` entries of directory d above a cookie: "The result body after the status costs 104 bytes plus 24 + padded name each",
 -- at most 4,096
 pub record Listable (s : Store) (d cookie count : ℕ) : Type 0 where
   pub good : GoodRecords s
   pub directory : d < objects s
-  pub few : listing_cost + length (entries_bytes (take count (entries_above cookie (entries true s d)))) ≤ most_transfer_bytes
+  pub few : listing_cost + length (entries_bytes (take count (entries_above cookie (entries s d)))) ≤ most_transfer_bytes
 
 -- what a reply value asks of the store that it is written from
 abbrev pub Writable : Store → Reply → Type 0

@@ -10,14 +10,13 @@ use Rattle.spec.proofs.Setting.{remove_call, readdir_call, root_words, name_a, r
 use Rattle.spec.proofs.Setting.{rename_call, name_b, answer_to, word_after, two_directories, three_directories, computing}
 
 pub record Edges : Type 0 where
-  -- answers 2, 3, 4, 10, 1, and then the header, in this order: "reply space under 4,224 bytes" first
-  pub space_first : answer_to (zeros 8193) [] (zeros 4223) 1000000000 3 ≡ 2
-  pub clock_second : answer_to (zeros 8193) [] (zeros 4224) 1000000000 3 ≡ 3
-  pub call_third : answer_to (zeros 8193) [] (zeros 4224) 999999999 3 ≡ 4
-  pub edition_fourth : answer_to (zeros 7) [] (zeros 4224) 999999999 3 ≡ 10
-  pub store_fifth : answer_to (zeros 7) [] (zeros 4224) 999999999 2 ≡ 1
-  pub header_sixth : answer_to (zeros 7) root_alone (zeros 4224) 999999999 1 ≡ 5
-  pub credential_fits : answer_to (words (7 ∷ 0 ∷ 2 ∷ 100003 ∷ 3 ∷ 0 ∷ 0 ∷ 400 ∷ []) ++ zeros 408) root_alone space 0 1 ≡ 0
+  -- answers 2, 3, 4, 1, and then the header, in this order: "reply space under 4,224 bytes" first
+  pub space_first : answer_to (zeros 8193) [] (zeros 4223) 1000000000 ≡ 2
+  pub clock_second : answer_to (zeros 8193) [] (zeros 4224) 1000000000 ≡ 3
+  pub call_third : answer_to (zeros 8193) [] (zeros 4224) 999999999 ≡ 4
+  pub store_fourth : answer_to (zeros 7) [] (zeros 4224) 999999999 ≡ 1
+  pub header_fifth : answer_to (zeros 7) root_alone (zeros 4224) 999999999 ≡ 5
+  pub credential_fits : answer_to (words (7 ∷ 0 ∷ 2 ∷ 100003 ∷ 3 ∷ 0 ∷ 0 ∷ 400 ∷ []) ++ zeros 408) root_alone space 0 ≡ 0
   -- "RPC version not 2 is denied with RPC_MISMATCH 2 2", "program not 100003, PROG_UNAVAIL; version not 3, PROG_MISMATCH 3 3; procedure over
   -- 21, PROC_UNAVAIL; .."
   pub other_rpc : served (words (7 ∷ 0 ∷ 3 ∷ [])) root_alone ≡ replied (words (7 ∷ 1 ∷ 1 ∷ 0 ∷ 2 ∷ 2 ∷ [])) root_alone
@@ -83,9 +82,8 @@ edges =
       space_first = refl;
       clock_second = refl;
       call_third = refl;
-      edition_fourth = refl;
-      store_fifth = refl;
-      header_sixth = refl;
+      store_fourth = refl;
+      header_fifth = refl;
       credential_fits = refl;
       other_rpc = refl;
       other_program = refl;

@@ -1,6 +1,5 @@
 pub mod Conversion
 pub mod Edges
-pub mod Editions
 pub mod Exclusive
 pub mod Faults
 pub mod Linking

@@ -33,12 +33,12 @@ use Rattle.spec.specs.Room.{is_live, is_regular, is_directory, size_of, held, us
 use Rattle.spec.specs.Room.{available_count, available_object, is_used_name, available_name, free_name_count, is_naming, namings, is_in, is_named}
 use Rattle.spec.specs.Room.{find_name, compared_at, compared, subdirectories, parent, above, byte_at}
 use Rattle.spec.specs.Rpc.{denied, accepted, judge, mismatch}
-use Rattle.spec.specs.Serve.{Outcome, good_edition, serve, check, formatted, format, convert}
+use Rattle.spec.specs.Serve.{Outcome, serve, check, formatted, format, convert}
 use Rattle.spec.specs.Xdr.{number, word, long, choice, flag, bytes, opaque, end}
 
--- a clock, a verifier and the edition with dots, and a reply space of 4,224 bytes whose bytes are not zero
+-- a clock, a verifier and a reply space of 4,224 bytes whose bytes are not zero
 abbrev pub context : Context
-context = record { clock = record { seconds = 5; nanoseconds = 6 }; verifier = 8; edition = 1 }
+context = record { clock = record { seconds = 5; nanoseconds = 6 }; verifier = 8 }
 
 abbrev pub space : List ℕ
 space = replicate 4224 165
@@ -170,10 +170,9 @@ link_call o d name = call_to 15 (handle_to o ++ handle_to d ++ opaque_bytes name
 abbrev pub name_b : List ℕ
 name_b = 0x62 ∷ []
 
--- the answer's number alone, by the clock's nanoseconds and the edition
-abbrev pub answer_to : List ℕ → Store → List ℕ → ℕ → ℕ → ℕ
-answer_to call s room nanoseconds edition =
-    (serve call s room (record { clock = record { seconds = 5; nanoseconds = nanoseconds }; verifier = 8; edition = edition })).number
+-- the answer's number alone
+abbrev pub answer_to : List ℕ → Store → List ℕ → ℕ → ℕ
+answer_to call s room nanoseconds = (serve call s room (record { clock = record { seconds = 5; nanoseconds = nanoseconds }; verifier = 8 })).number
 
 abbrev pub name_c : List ℕ
 name_c = 0x63 ∷ []
@@ -191,7 +190,7 @@ three_directories = after (mkdir_in 2 name_c ∷ []) two_directories
 
 -- another clock: 7 s 8 ns
 abbrev pub later : Context
-later = record { clock = record { seconds = 7; nanoseconds = 8 }; verifier = 8; edition = 1 }
+later = record { clock = record { seconds = 7; nanoseconds = 8 }; verifier = 8 }
 
 -- EXCLUSIVE CREATE of a name in the root with a verifier of two words, and what a record of the store holds after a call: four bytes at an index
 abbrev pub exclusive_call : List ℕ → ℕ → ℕ → List ℕ
@@ -216,5 +215,5 @@ unfolding handle unbounded name_in time set_number set_size set_time settable gu
     check_replace check_move check_rename move_edit fail_renaming rename check_added check_link link_edit fail_linking link fsstat fsinfo pathconf fattr3 post_op pre_op wcc_data entry_bytes entries_bytes result_bytes
     fail_showing fail_changing is_live is_regular is_directory size_of held uses is_free_block free_blocks free_block_count is_available available_count available_object
     is_used_name available_name free_name_count is_naming namings is_in is_named find_name compared_at compared subdirectories parent above byte_at denied accepted
-    judge mismatch good_edition serve check formatted format convert number word long choice flag bytes opaque end
+    judge mismatch serve check formatted format convert number word long choice flag bytes opaque end
 computing = 0

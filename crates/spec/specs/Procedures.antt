@@ -18,7 +18,7 @@ use Rattle.spec.specs.Image.{Store}
 use Rattle.spec.specs.Procedures.Attributes.{getattr, setattr, access}
 use Rattle.spec.specs.Procedures.Data.{read, write, commit}
 use Rattle.spec.specs.Procedures.Link.{link}
-use Rattle.spec.specs.Procedures.Listing.{rules_of, readdir}
+use Rattle.spec.specs.Procedures.Listing.{readdir}
 use Rattle.spec.specs.Procedures.Names.{lookup, create, mkdir}
 use Rattle.spec.specs.Procedures.Removal.{remove, rmdir, rename}
 use Rattle.spec.specs.Procedures.Volume.{fsstat, fsinfo, pathconf}
@@ -44,7 +44,7 @@ act s c call (Arguments.Remove p) = remove s c (cut call p.directory) (cut call 
 act s c call (Arguments.Rmdir p) = rmdir s c (cut call p.directory) (cut call p.name)
 act s c call (Arguments.Rename p q) = rename s c (cut call p.directory) (cut call p.name) (cut call q.directory) (cut call q.name)
 act s c call (Arguments.Link h p) = link s c (cut call h) (cut call p.directory) (cut call p.name)
-act s c call (Arguments.Readdir h cookie verifier count) = readdir (rules_of c.edition) s (cut call h) cookie verifier count
+act s c call (Arguments.Readdir h cookie verifier count) = readdir s (cut call h) cookie verifier count
 act s c call (Arguments.Fsstat h) = fsstat s (cut call h)
 act s c call (Arguments.Fsinfo h) = fsinfo s (cut call h)
 act s c call (Arguments.Pathconf h) = pathconf s (cut call h)

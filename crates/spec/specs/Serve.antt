@@ -1,6 +1,6 @@
 -- The four entries: for any bytes, what each answers and what it leaves in the lent buffers.
-use Rattle.std.specs.Prelude.{ℕ, ◌*◌, ◌-◌, List, [], ◌∷◌, ◌++◌, Bool, not, cond, ◌||◌, eqb, ltb, length}
-use Rattle.kinds.specs.Numbers.{least_reply_bytes, most_call_bytes, WITH_DOTS, WITHOUT_DOTS}
+use Rattle.std.specs.Prelude.{ℕ, ◌*◌, ◌-◌, List, [], ◌∷◌, ◌++◌, not, cond, eqb, ltb, length}
+use Rattle.kinds.specs.Numbers.{least_reply_bytes, most_call_bytes}
 use Rattle.kinds.specs.Layout.{object_length, name_record_length, block_length}
 use Rattle.kinds.specs.Reading.{Read, got, bad}
 use Rattle.kinds.specs.Objects.{root_object}
@@ -73,17 +73,12 @@ abbrev pub outcome : List ℕ → Store → Checked Outcome → Outcome
 outcome space s (refused number) = refuse (fault number 0) space s
 outcome space s (passed o) = o
 
--- E8: "The caller passes listing edition 1 or 2"
-unfoldable pub good_edition : ℕ → Bool
-good_edition edition = eqb edition WITH_DOTS || eqb edition WITHOUT_DOTS
-
--- the call entry: its tests in the table's order, 2, 3, 4, 10, 1, and then the header, 5, 7, 8, 9; E8: "another number gets answer 10, tested after 4"
+-- the call entry: its tests in the table's order, 2, 3, 4, 1, and then the header, 5, 7, 8, 9
 unfoldable pub serve : List ℕ → Store → List ℕ → Context → Outcome
 serve call s space c = outcome space s (do
   refuse_if (ltb (length space) least_reply_bytes) 2
   refuse_if (not (good_time c.clock)) 3
   refuse_if (ltb most_call_bytes (length call)) 4
-  refuse_if (not (good_edition c.edition)) 10
   refuse_if (not (passes s)) 1
   passed (complete space s c call (header call 0)))
 

@@ -39,10 +39,7 @@ impl Tag {
 
     pub const HOST: usize = 15;
 
-    // The edition of listings.
-    pub const EDITION: usize = 16;
-
-    pub const LAST_GIVEN: usize = 16;
+    pub const LAST_GIVEN: usize = 15;
 
     // Numbers that must come back: the answer's length, the digest of the store, the byte pairs that the last search compared, the digest of the mount table
     // after the last call of MOUNT, the answer's offset, ..

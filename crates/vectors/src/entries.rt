@@ -31,7 +31,6 @@ fn send(numbers: &Numbers, store: &mut [u8], call: &[u8], reply: &mut [u8]) -> A
         numbers[Tag::SECONDS],
         numbers[Tag::NANOSECONDS],
         verifier,
-        numbers[Tag::EDITION],
     )
 }
 

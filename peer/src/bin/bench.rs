@@ -60,7 +60,6 @@ mod measuring {
             call.seconds,
             call.nanoseconds,
             call.verifier,
-            call.edition,
         )
     }
 
@@ -71,11 +70,9 @@ mod measuring {
         store: Vec<u8>,
         reply: Vec<u8>,
         seconds: u32,
-        edition: u32,
     }
 
     impl Side {
-        /// Its calls have edition 1.
         fn new(name: &'static str, call: Entry, store: &[u8]) -> Side {
             Side {
                 name,
@@ -83,7 +80,6 @@ mod measuring {
                 store: store.to_vec(),
                 reply: vec![0; 4224],
                 seconds: 1,
-                edition: 1,
             }
         }
 
@@ -95,7 +91,6 @@ mod measuring {
                 seconds: self.seconds,
                 nanoseconds: 5,
                 verifier: 9,
-                edition: self.edition,
                 space: self.reply.len(),
             };
             black_box((self.call)(&call, &mut self.store, &mut self.reply))
@@ -174,15 +169,8 @@ mod measuring {
     /// The times of both for the calls, made on the store again and again. Each
     /// is answered with the status.
     fn call_times(store: &[u8], calls: &[Vec<u8>], wanted: Status) -> (f64, f64) {
-        edition_times(store, 1, calls, wanted)
-    }
-
-    /// The same in an edition.
-    fn edition_times(store: &[u8], edition: u32, calls: &[Vec<u8>], wanted: Status) -> (f64, f64) {
         let mut own = Side::new("peer", peer_call, store);
         let mut other = Side::new("library", library::call, store);
-        own.edition = edition;
-        other.edition = edition;
         own.try_round(calls, wanted);
         other.try_round(calls, wanted);
         best_of_both(|| own.round(calls), || other.round(calls))
@@ -266,7 +254,7 @@ mod measuring {
     fn apply(store: &mut [u8], request: &Request) {
         let mut reply = vec![0; 4224];
         let bytes = request.call(1);
-        peer::call(&bytes, store, &mut reply, 3, 4, 5, 1);
+        peer::call(&bytes, store, &mut reply, 3, 4, 5);
         assert_eq!(status_of(&reply), Some(0), "{request:?}");
     }
 
@@ -468,9 +456,8 @@ mod measuring {
         name: &'static str,
         /// What is done to the store before.
         setup: Vec<Request>,
-        /// The calls of one turn, and their edition.
+        /// The calls of one turn.
         calls: Vec<Vec<u8>>,
-        edition: u32,
     }
 
     impl Operation {
@@ -479,7 +466,6 @@ mod measuring {
                 name,
                 setup: Vec::new(),
                 calls: requests.iter().map(|request| request.call(77)).collect(),
-                edition: 1,
             }
         }
 
@@ -489,7 +475,7 @@ mod measuring {
             for request in &self.setup {
                 apply(&mut store, request);
             }
-            edition_times(&store, self.edition, &self.calls, Status::OK)
+            call_times(&store, &self.calls, Status::OK)
         }
     }
 
@@ -566,10 +552,6 @@ mod measuring {
                 &[link(&file, &root, b"link"), remove(&root, b"link")],
             ),
             Operation::new("READDIR", &[readdir(&root, 0, 0, 4096)]),
-            Operation {
-                edition: 2,
-                ..Operation::new("READDIR, edition 2", &[readdir(&root, 0, 0, 4096)])
-            },
             Operation::new("mix of 12 calls", &mix),
         ]
     }
@@ -646,11 +628,9 @@ mod measuring {
             let (peer, other) = call_times(&store, &calls, Status::OK);
             rows.push((name, peer, other));
         }
-        let listing = [readdir(&root, 0, 0, 4096).call(77)];
-        let (peer, other) = edition_times(&store, 2, &listing, Status::OK);
-        rows.push(("READDIR, ed. 2, 128 names", peer, other));
         let store = with_links(shape, &all_names(shape, 32));
-        let (peer, other) = call_times(&store, &listing, Status::OK);
+        let calls = [readdir(&root, 0, 0, 4096).call(77)];
+        let (peer, other) = call_times(&store, &calls, Status::OK);
         rows.push(("READDIR, cut at 4,096", peer, other));
         rows
     }

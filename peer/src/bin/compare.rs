@@ -9,10 +9,9 @@
 //! The scripted runs come first, then random runs until N calls are made.
 //! `--run R` makes only that random run; `--show` prints each step before it
 //! is made. `--mounts` does the same with the runs of the file of mounts and
-//! with random ones of their kind, until N MOUNT calls are made. `--old-images`
-//! converts N old images, whole and damaged. `--replay` replays a vector file on
-//! the library; the searches of a file are the peer's, through the stores that
-//! the library leaves.
+//! with random ones of their kind, until N MOUNT calls are made. `--old-images` converts N old images, whole and damaged.
+//! `--replay` replays a vector file on the library; the searches of a file are
+//! the peer's, through the stores that the library leaves.
 
 #[cfg(nfs3_library)]
 #[path = "shared/library.rs"]
@@ -223,13 +222,12 @@ mod comparison {
                 Step::Call(call) => {
                     let _ = writeln!(
                         text,
-                        "call of {} bytes: {}\nclock {} {}, verifier {:#018x}, edition {}, reply space {}",
+                        "call of {} bytes: {}\nclock {} {}, verifier {:#018x}, reply space {}",
                         call.bytes.len(),
                         hex(call.bytes),
                         call.seconds,
                         call.nanoseconds,
                         call.verifier,
-                        call.edition,
                         call.space
                     );
                 }
@@ -443,7 +441,7 @@ mod comparison {
                 self.reply.inside_mut(),
             );
             self.finish(&step, outcome.answer, other);
-            self.coverage.call(&call, &outcome);
+            self.coverage.call(call.bytes, &outcome);
             outcome
         }
 
@@ -499,10 +497,8 @@ mod comparison {
                 rules::MOUNT_GROUP,
                 rules::PLACE_GROUP,
                 rules::LINK_GROUP,
-                rules::EDITION_GROUP,
                 random_runs::RENAMES,
                 random_runs::LINKS,
-                random_runs::LISTINGS,
             ];
             if counted.contains(&group) {
                 self.coverage.note(group, label);

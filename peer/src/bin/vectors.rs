@@ -9,7 +9,7 @@ use std::process::ExitCode;
 
 use peer::generator::recorder::{record, record_mounts, record_searches, Recording};
 
-const LARGEST_FILE: usize = 5_100_000;
+const LARGEST_FILE: usize = 4_600_000;
 const LARGEST_SEARCHES: usize = 1_500_000;
 const LARGEST_MOUNTS: usize = 2_500_000;
 const LARGEST_DIGESTED: u64 = 300_000_000;

@@ -3,11 +3,11 @@
 use std::collections::BTreeMap;
 use std::fmt::Write;
 
-use super::driver::{Call, Outcome};
+use super::driver::Outcome;
 use super::lane::status_of;
 use super::mounts::counts::Mounts;
 use super::places;
-use super::random_runs::{link_kinds, listing_kinds, meetings, LINKS, LISTINGS, RENAMES};
+use super::random_runs::{link_kinds, meetings, LINKS, RENAMES};
 use super::rules;
 use super::searches;
 use crate::arguments::{How, Place};
@@ -188,24 +188,19 @@ pub const OUTCOMES: [&str; 6] = [
     "SUCCESS",
 ];
 
-/// One more than the largest answer of these entries.
-const ANSWERS: usize = 11;
-
 /// Counters of what has been reached.
 #[derive(Default)]
 pub struct Coverage {
     pub pairs: BTreeMap<(u32, u32), u64>,
-    /// READDIR by edition and status.
-    listings: BTreeMap<(u32, u32), u64>,
     /// Those of EXCLUSIVE CREATE, by status.
     exclusive: BTreeMap<u32, u64>,
     pub null: u64,
     pub garbage: BTreeMap<u32, u64>,
     outcomes: BTreeMap<usize, u64>,
-    calls: [u64; ANSWERS],
-    formats: [u64; ANSWERS],
-    checks: [u64; ANSWERS],
-    conversions: [u64; ANSWERS],
+    calls: [u64; 10],
+    formats: [u64; 10],
+    checks: [u64; 10],
+    conversions: [u64; 10],
     /// Where calls are broken.
     places: places::Counts,
     /// Those of MOUNT calls.
@@ -249,9 +244,7 @@ impl Coverage {
             .or_default() += 1;
     }
 
-    pub fn call(&mut self, call: &Call<'_>, outcome: &Outcome) {
-        let edition = call.edition;
-        let call = call.bytes;
+    pub fn call(&mut self, call: &[u8], outcome: &Outcome) {
         self.calls[outcome.answer.number as usize] += 1;
         if [0, 5, 7, 8, 9].contains(&outcome.answer.number) {
             self.places.add(places::nfs(call), call);
@@ -268,9 +261,6 @@ impl Coverage {
             match status_of(&outcome.reply) {
                 Some(status) => {
                     *self.pairs.entry((number, status)).or_default() += 1;
-                    if number == procedure::READDIR {
-                        *self.listings.entry((edition, status)).or_default() += 1;
-                    }
                     if is_exclusive(call) {
                         *self.exclusive.entry(status).or_default() += 1;
                     }
@@ -297,15 +287,6 @@ impl Coverage {
                 ));
             }
         }
-        for edition in [1, 2] {
-            for &(number, status) in &expected_pairs() {
-                let known = self.listings.contains_key(&(edition, status.0));
-                if number == procedure::READDIR && !known {
-                    let status = status_name(status.0);
-                    missing.push(format!("READDIR in edition {edition} {status}"));
-                }
-            }
-        }
         for status in expected_of_exclusive() {
             if !self.exclusive.contains_key(&status.0) {
                 missing.push(format!("EXCLUSIVE {}", status_name(status.0)));
@@ -324,16 +305,6 @@ impl Coverage {
         for rule in rules::link::all() {
             if !self.noted(rules::LINK_GROUP, &rule) {
                 missing.push(format!("rule of E7: {rule}"));
-            }
-        }
-        for rule in rules::edition::all() {
-            if !self.noted(rules::EDITION_GROUP, &rule) {
-                missing.push(format!("rule of E8: {rule}"));
-            }
-        }
-        for kind in listing_kinds() {
-            if !self.noted(LISTINGS, &kind) {
-                missing.push(format!("random READDIR: {kind}"));
             }
         }
         for meeting in meetings() {
@@ -361,7 +332,7 @@ impl Coverage {
         if self.null == 0 {
             missing.push("NULL".to_owned());
         }
-        for number in [0, 1, 2, 3, 4, 5, 7, 8, 9, 10] {
+        for number in [0, 1, 2, 3, 4, 5, 7, 8, 9] {
             if self.calls[number] == 0 {
                 missing.push(format!("call answer {number}"));
             }
@@ -418,15 +389,6 @@ impl Coverage {
     /// What the file of mounts should have reached and has not.
     pub fn missing_mounts(&self) -> Vec<String> {
         let mut missing = self.mounts.missing();
-        // The NFS calls between bring editions of all kinds.
-        if self.calls[10] == 0 {
-            missing.push("call answer 10".to_owned());
-        }
-        for edition in [1, 2] {
-            if !self.listings.contains_key(&(edition, Status::OK.0)) {
-                missing.push(format!("READDIR in edition {edition}"));
-            }
-        }
         for rule in rules::mount::all() {
             if !self.noted(rules::MOUNT_GROUP, &rule) {
                 missing.push(format!("rule of E5: {rule}"));
@@ -485,13 +447,6 @@ impl Coverage {
             let status = status_name(status);
             line(format!("| {procedure} | {status} | {count} |"));
         }
-        line("\n## READDIR by edition and status\n".to_owned());
-        line("| edition | status | calls |".to_owned());
-        line("|---:|---|---:|".to_owned());
-        for (&(edition, status), count) in &self.listings {
-            let status = status_name(status);
-            line(format!("| {edition} | {status} | {count} |"));
-        }
         line("\n## EXCLUSIVE CREATE by status\n".to_owned());
         line("| status | calls |".to_owned());
         line("|---|---:|".to_owned());
@@ -514,7 +469,7 @@ impl Coverage {
         line("\n## By answer number of each entry\n".to_owned());
         line("| answer | calls | formats | checks | conversions |".to_owned());
         line("|---:|---:|---:|---:|---:|".to_owned());
-        for number in 0..ANSWERS {
+        for number in 0..10 {
             line(format!(
                 "| {number} | {} | {} | {} | {} |",
                 self.calls[number],

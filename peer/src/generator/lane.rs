@@ -17,7 +17,6 @@ pub struct Lane<'d> {
     pub seconds: u32,
     pub nanoseconds: u32,
     pub verifier: u64,
-    pub edition: u32,
     pub space: usize,
     xid: u32,
 }
@@ -74,7 +73,6 @@ impl<'d> Lane<'d> {
             seconds: 1000,
             nanoseconds: 1,
             verifier: 0x0102_0304_0506_0708,
-            edition: 1,
             space: 4224,
             xid: number.wrapping_mul(0x0001_0001),
         }
@@ -99,7 +97,6 @@ impl<'d> Lane<'d> {
             seconds: self.seconds,
             nanoseconds: self.nanoseconds,
             verifier: self.verifier,
-            edition: self.edition,
             space: self.space,
         })
     }

@@ -6,7 +6,6 @@ pub mod coverage;
 pub mod driver;
 pub mod encode;
 pub mod lane;
-pub mod listings;
 pub mod mounts;
 pub mod old_images;
 pub mod padding;

@@ -206,8 +206,6 @@ pub fn of_call(call: &Call<'_>, store: &[u8]) -> Place {
         sound(3)
     } else if call.bytes.len() > 8192 {
         sound(4)
-    } else if !(1..=2).contains(&call.edition) {
-        sound(10)
     } else if crate::check(store).number != 0 {
         sound(1)
     } else {

@@ -6,11 +6,9 @@ use super::coverage::status_name;
 use super::driver::{Call, Driver, Format};
 use super::encode::{handle, malformed, Attributes, Header, How, Request, Time};
 use super::lane::{exclusive, link, mkdir, readdir, rename, status_of, Lane};
-use super::listings::{self, Entry};
 use super::old_images::{empty, free_further_names, old_image, Damaged};
 use super::padding::Padded;
 use super::random::Random;
-use super::rules::edition::{COOKIES, OTHERS};
 use super::view::{Named, View};
 use crate::layout::{
     name_field, object_field, word, Shape, MAX_BLOCKS, MAX_NAMES, MAX_OBJECTS, NAME_BYTES,
@@ -115,9 +113,6 @@ pub const RENAMES: &str = "RENAME in random runs";
 
 /// The group of labels for what random calls do with names of files.
 pub const LINKS: &str = "Names of files in random runs";
-
-/// The group of labels for what random READDIRs come to.
-pub const LISTINGS: &str = "READDIR in random runs";
 
 /// The largest store that takes part in conversions.
 const LARGEST_CONVERTED: usize = 50_000;
@@ -228,103 +223,6 @@ fn link_events(view: &View, request: &Request, status: Status) -> Vec<String> {
         _ => return vec![],
     };
     vec![label.to_owned()]
-}
-
-/// Where the cookie of a READDIR leads.
-const FROM_START: &str = "cookie 0";
-const FROM_DOT: &str = "cookie 1 or 2";
-const FROM_ENTRY: &str = "cookie of an entry";
-const FROM_GAP: &str = "cookie of a gap";
-const FROM_BEYOND: &str = "cookie beyond every record";
-/// How a READDIR ends.
-const TO_END: &str = "nothing remains";
-const NOT_TO_END: &str = "more remains";
-
-fn listed(edition: u32, what: &str, status: Status) -> String {
-    let status = status_name(status.0);
-    format!("edition {edition}, {what}: {status}")
-}
-
-/// What random READDIRs come to, as it is counted.
-pub fn listing_kinds() -> Vec<String> {
-    let mut kinds = Vec::new();
-    for edition in [1, 2] {
-        let from_dot = if edition == 1 {
-            Status::OK
-        } else {
-            Status::BAD_COOKIE
-        };
-        let done = [FROM_START, FROM_ENTRY, FROM_GAP, FROM_BEYOND];
-        let ends = [TO_END, NOT_TO_END];
-        kinds.extend(
-            done.iter()
-                .chain(&ends)
-                .map(|what| listed(edition, what, Status::OK)),
-        );
-        kinds.push(listed(edition, FROM_DOT, from_dot));
-        let refused = [
-            Status::BADHANDLE,
-            Status::STALE,
-            Status::NOTDIR,
-            Status::BAD_COOKIE,
-            Status::TOOSMALL,
-        ];
-        kinds.extend(refused.map(|status| listed(edition, ANY_COOKIE, status)));
-    }
-    kinds
-}
-
-const ANY_COOKIE: &str = "any cookie";
-
-/// What a READDIR with this reply comes to.
-fn listing_events(view: &View, request: &Request, edition: u32, reply: &[u8]) -> Vec<String> {
-    let (
-        Request::Readdir {
-            directory, cookie, ..
-        },
-        Some(status),
-    ) = (request, status_of(reply))
-    else {
-        return vec![];
-    };
-    let status = Status(status);
-    let from = match *cookie {
-        0 => FROM_START,
-        1 | 2 => FROM_DOT,
-        beyond if beyond >= view.shape.names as u64 + 3 => FROM_BEYOND,
-        inside => {
-            let named = view.names.iter().any(|named| {
-                named.record as u64 + 3 == inside && view.handle(named.directory) == Some(directory)
-            });
-            if named {
-                FROM_ENTRY
-            } else {
-                FROM_GAP
-            }
-        }
-    };
-    if status == Status::OK {
-        let all = word(reply, reply.len() - 4) == 1;
-        let end = if all { TO_END } else { NOT_TO_END };
-        return [from, end]
-            .map(|what| listed(edition, what, status))
-            .to_vec();
-    }
-    let mut labels = vec![listed(edition, ANY_COOKIE, status)];
-    if (edition, from, status) == (2, FROM_DOT, Status::BAD_COOKIE) {
-        labels.push(listed(edition, from, status));
-    }
-    labels
-}
-
-/// The edition of a call: mostly 1 or 2, now and then another number.
-pub fn any_edition(random: &mut Random) -> u32 {
-    match random.below(40) {
-        0 => random.pick(&OTHERS),
-        1 => random.pick(&[3, 0]),
-        2..=20 => 1,
-        _ => 2,
-    }
 }
 
 /// What meets in a RENAME onto a name that exists.
@@ -439,7 +337,6 @@ pub fn run(
 
 impl RandomRun<'_> {
     fn step(&mut self) {
-        self.draw_edition();
         match self.random.below(103) {
             0..=67 => {
                 let request = self.request();
@@ -506,24 +403,14 @@ impl RandomRun<'_> {
         call.cut(place, self.random.between(1, call.count(place)))
     }
 
-    /// Draws the edition of the next call.
-    fn draw_edition(&mut self) {
-        self.lane.edition = any_edition(&mut self.random);
-    }
-
     /// Sends a call and keeps the handle that its reply gives out.
     fn send(&mut self, request: &Request) {
         let view = self.view();
         let meeting = view.as_ref().and_then(|view| meeting(view, request));
         self.last = self.call(request).bytes;
-        let edition = self.lane.edition;
         let outcome = self.lane.raw(&self.last);
-        self.draw_edition();
         let status = status_of(&outcome.reply);
         if let (Some(view), Some(status)) = (view, status) {
-            for label in listing_events(&view, request, edition, &outcome.reply) {
-                self.lane.driver.note(LISTINGS, &label);
-            }
             for label in link_events(&view, request, Status(status)) {
                 self.lane.driver.note(LINKS, &label);
             }
@@ -728,9 +615,8 @@ impl RandomRun<'_> {
         let Some(view) = self.view() else {
             return Request::Null;
         };
-        match self.random.below(118) {
+        match self.random.below(113) {
             100..=112 => self.link_request(&view),
-            113..=117 => self.readdir_request(&view),
             0..=13 => {
                 let directory = self.handle(&view, true);
                 let existing = self.existing_once_in(4);
@@ -814,7 +700,30 @@ impl RandomRun<'_> {
                 Request::Rmdir { directory, name }
             }
             67..=82 => self.rename_request(&view),
-            83..=88 => self.readdir_request(&view),
+            83..=88 => {
+                let directory = self.handle(&view, true);
+                let cookie = match self.random.below(6) {
+                    0..=2 => 0,
+                    3 => self.random.below(8) as u64,
+                    4 => self.random.below(140) as u64,
+                    _ => self.random.pick(&ODD_SIZES),
+                };
+                let count = match self.random.below(5) {
+                    0 | 1 => 4096,
+                    2 | 3 => self.random.between(90, 400) as u32,
+                    _ => self.random.pick(&[0, 103, 104, 131, 132, 160, u32::MAX]),
+                };
+                let mut verifier = [0; 8];
+                if self.random.once_in(20) {
+                    verifier[self.random.below(8)] = 1;
+                }
+                Request::Readdir {
+                    directory,
+                    cookie,
+                    verifier,
+                    count,
+                }
+            }
             89..=90 => {
                 let directory = self.random.once_in(2);
                 let object = self.handle(&view, directory);
@@ -858,67 +767,6 @@ impl RandomRun<'_> {
                     arguments,
                 }
             }
-        }
-    }
-
-    /// A READDIR with a cookie near those of the directory's entries, and a
-    /// count near what its entries need in the edition of the next call.
-    fn readdir_request(&mut self, view: &View) -> Request {
-        let directory = self.handle(view, true);
-        let number = match directory.len() {
-            12 => word(&directory, 4) as usize,
-            _ => 0,
-        };
-        let entries = listings::entries(view, self.lane.edition, number);
-        let random = &mut self.random;
-        let cookie = match random.below(16) {
-            0..=4 => 0,
-            5..=7 => random.below(5) as u64,
-            8..=11 if !entries.is_empty() => {
-                let at = random.below(entries.len());
-                (entries[at].0 + random.pick(&[0, 0, 1])).saturating_sub(random.pick(&[0, 0, 1]))
-            }
-            12 => random.below(140) as u64,
-            13 => view.shape.names as u64 + random.below(6) as u64,
-            14 => random.pick(&COOKIES),
-            _ => 0,
-        };
-        let rest: Vec<Entry> = entries
-            .into_iter()
-            .filter(|entry| entry.0 > cookie)
-            .collect();
-        let near = |cost: usize, random: &mut Random| (cost + random.below(3) - 1) as u32;
-        let count = match random.below(12) {
-            0..=1 => 4096,
-            2..=7 => {
-                let sent = random.below(rest.len().min(6) + 1);
-                near(listings::cost(&rest[..sent]), random)
-            }
-            8 => near(listings::cost(&rest), random),
-            9..=10 => random.between(90, 400) as u32,
-            _ => random.pick(&[
-                0,
-                103,
-                104,
-                105,
-                131,
-                132,
-                160,
-                4095,
-                4097,
-                1 << 31,
-                u32::MAX,
-            ]),
-        };
-        let mut verifier = [0; 8];
-        if random.once_in(20) {
-            verifier[random.below(8)] = 1;
-        }
-        Request::Readdir {
-            directory,
-            cookie,
-            verifier,
-            count,
         }
     }
 
@@ -969,7 +817,6 @@ impl RandomRun<'_> {
         let mut left = self.lane.shape.objects - 1;
         let mut file = Vec::new();
         for number in 0..names {
-            self.lane.edition = 1 + number as u32 % 2;
             let name = format!("one of many names in the root{number:03}");
             if number % each == 0 && left > 0 {
                 file = self.lane.exclusive(&root, name.as_bytes(), VERIFIERS[1]);
@@ -1488,7 +1335,6 @@ impl RandomRun<'_> {
                 .random
                 .pick(&[0, 999_999_999, 999_999_999, 1_000_000_000, u32::MAX]),
             verifier: self.random.next(),
-            edition: any_edition(&mut self.random),
             space: self
                 .random
                 .pick(&[0, 1, 24, 4223, 4224, 4224, 4225, 4999, 8192]),
@@ -1629,7 +1475,6 @@ pub fn raw_store_run(driver: &mut dyn Driver, number: u32, seed: u64) {
             seconds: random.word(),
             nanoseconds: random.pick(&[0, 999_999_999, 1_000_000_000]),
             verifier: random.next(),
-            edition: any_edition(&mut random),
             space: random.pick(&[0, 4223, 4224, 4224, 4224, 8192]),
         });
     }

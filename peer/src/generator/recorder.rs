@@ -15,8 +15,8 @@ const SEED: u64 = 1813;
 /// Random runs after the scripted ones: extent, how many, steps in each, the
 /// largest transfer.
 const RANDOM_RUNS: [(Extent, usize, usize, usize); 5] = [
-    (Extent::Small, 46, 60, 250),
-    (Extent::Middle, 14, 110, 250),
+    (Extent::Small, 50, 60, 250),
+    (Extent::Middle, 17, 110, 250),
     (Extent::Middle, 3, 50, 5000),
     (Extent::Wide, 4, 120, 200),
     (Extent::Largest, 2, 60, 600),
@@ -80,7 +80,7 @@ impl Driver for Recorder {
         let outcome = self.peer.call(call);
         let digest = self.digest();
         self.writer.call(&call, &outcome, digest);
-        self.coverage.call(&call, &outcome);
+        self.coverage.call(call.bytes, &outcome);
         outcome
     }
 

@@ -23,8 +23,7 @@ mod tag {
     pub const DIRECTORY: u8 = 13;
     pub const TABLE_LENGTH: u8 = 14;
     pub const HOST: u8 = 15;
-    pub const EDITION: u8 = 16;
-    pub const LAST_GIVEN: u8 = 16;
+    pub const LAST_GIVEN: u8 = 15;
     // Numbers that must come back.
     pub const LENGTH: u8 = 64;
     pub const STORE_DIGEST: u8 = 65;
@@ -300,7 +299,6 @@ impl Writer {
         self.number(tag::SECONDS, call.seconds);
         self.number(tag::NANOSECONDS, call.nanoseconds);
         self.hyper(tag::VERIFIER, call.verifier);
-        self.number(tag::EDITION, call.edition);
         self.lend_call(call.bytes);
         self.number(tag::REPLY_LENGTH, call.space as u32);
         self.buffer(tag::REPLY, 0, &outcome.reply);
@@ -415,7 +413,6 @@ impl Subject for Own {
             call.seconds,
             call.nanoseconds,
             call.verifier,
-            call.edition,
         )
     }
 
@@ -531,7 +528,6 @@ impl Buffers {
                     seconds,
                     nanoseconds,
                     verifier: numbers.hyper(tag::VERIFIER),
-                    edition: numbers.get(tag::EDITION),
                     space: reply.len(),
                 };
                 subject.call(store, &call, reply)

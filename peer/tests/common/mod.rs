@@ -19,7 +19,6 @@ pub struct Lane {
     pub seconds: u32,
     pub nanoseconds: u32,
     pub verifier: u64,
-    pub edition: u32,
     pub shape: Shape,
 }
 
@@ -170,7 +169,6 @@ impl Lane {
             seconds: 1001,
             nanoseconds: 5,
             verifier: 0x0102_0304_0506_0708,
-            edition: 1,
             shape,
         }
     }
@@ -195,7 +193,6 @@ impl Lane {
             self.seconds,
             self.nanoseconds,
             self.verifier,
-            self.edition,
         );
         assert_eq!(answer.number, 0);
         let length = answer.length as usize;

@@ -1,4 +1,3 @@
-use mathlib.Core.Bool.{true}
 use mathlib.Core.Path.{sym, ◌∙◌}
 use borrow.Author.Rules.{rules}
 use borrow.Author.Tests.{lt-ltb}
@@ -20,13 +19,13 @@ nothing-fits-requires c κs = search rules
 returns-2 : tie.Need-returns-2
 returns-2 c =
     let a = c.before.before.before.before.before.args in
-    listing_small a.given a.limit (entries true a.store.now a.d.0) c.before.before.before.if1.false _ c.before.before.run_of.ensures
+    listing_small a.given a.limit (entries a.store.now a.d.0) c.before.before.before.if1.false _ c.before.before.run_of.ensures
     (sym c.before.nothing_fits.ensures ∙ c.if2.true)
 
 returns-3 : tie.Need-returns-3
 returns-3 c =
     let a = c.before.before.before.before.before.before.args in
-    listing_sent a.given a.limit (entries true a.store.now a.d.0) c.before.before.before.before.if1.false _
+    listing_sent a.given a.limit (entries a.store.now a.d.0) c.before.before.before.before.if1.false _
     c.before.before.before.run_of.ensures
     (sym c.before.before.nothing_fits.ensures ∙ c.before.if2.false)
 

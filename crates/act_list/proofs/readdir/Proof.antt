@@ -46,7 +46,7 @@ returns-2 c =
     let sent = c.before.before.before.check-readdir-in.ensures in
     let is = c.before.listing.given.1 in (
       rw (← reached, found, ← sent, is),
-      listable a.store.now _ a.context.edition a.cookie a.verifier a.count _ _ _ _ st.requires.0 (directory_reached _ _ _ _ found reached).0.below is sent,
+      listable a.store.now _ a.cookie a.verifier a.count _ _ _ st.requires.0 (directory_reached _ _ _ _ found reached).0.below is sent,
     )
 
 returns-3 : tie.Need-returns-3

@@ -302,7 +302,7 @@ returns-14 : tie.Need-returns-14
 unfolding act
 returns-14 c =
     let a = c.before.before.before.before.before.before.before.args in
-    reading a.store.now a.context a.call.now a.a _ c.readdir.result c.before.before.before.a13.given.1 (readdir_store _ _ _ _ _ _)
+    reading a.store.now a.context a.call.now a.a _ c.readdir.result c.before.before.before.a13.given.1 (readdir_store _ _ _ _ _)
     c.readdir.ensures
 
 same-length-14 : tie.Need-same-length-14

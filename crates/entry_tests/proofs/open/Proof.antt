@@ -1,4 +1,3 @@
-use mathlib.Core.Bool.{not}
 use mathlib.Core.Path.{sym, ap, ◌∙◌}
 use native.Mathlib.Omega.{arith}
 use borrow.Author.Rules.{rules}
@@ -11,7 +10,7 @@ use Rattle.spec.specs.Header.{header_fault}
 use Rattle.spec.specs.Serve.{refuse}
 use Rattle.laws.proofs.Places.{inside_header}
 use Rattle.rpc.specs.Meaning.{header_of}
-use Rattle.entry_tests.proofs.Tests.{small_space, bad_clock, long_call, bad_edition, bad_store, bad_header, hears}
+use Rattle.entry_tests.proofs.Tests.{small_space, bad_clock, long_call, bad_store, bad_header, hears}
 use Rattle.entry_tests.proofs.open.Statement.{statement}
 use Rattle.entry_tests.proofs.open.Tie as tie
 
@@ -30,18 +29,8 @@ returns-3 c =
     let a = c.before.before.before.before.before.before.before.before.args in
     long_call a.call.now a.store.now a.reply.now a.context c.before.before.before.if1.false c.before.if2.false c.if3.true
 
-is-edition-requires : tie.Need-is-edition-requires
-is-edition-requires c κs = search rules
-
-returns-4 : tie.Need-returns-4
-returns-4 c =
-    let else3 = c.before.before in
-    let a = else3.before.before.before.before.before.before.before.before.args in
-    bad_edition a.call.now a.store.now a.reply.now a.context else3.before.before.before.if1.false else3.before.if2.false
-    else3.if3.false (ap not (sym c.before.is-edition.ensures) ∙ c.if4.true)
-
 check-store-requires : tie.Need-check-store-requires
-check-store-requires c κs = (c.before.before.before.before.before.before.before.before.before.before.before.before.before.requires, (blank_of most_objects, blank_of most_objects))
+check-store-requires c κs = (c.before.before.before.before.before.before.before.before.before.before.before.requires, (blank_of most_objects, blank_of most_objects))
 
 enum_told : tie.Need-enum-told
 enum_told c = search rules
@@ -49,14 +38,12 @@ enum_told c = search rules
 enum-told-2 : tie.Need-enum-told-2
 enum-told-2 c = search rules
 
-returns-5 : tie.Need-returns-5
-returns-5 c =
-    let else4 = c.before.before.before.before.before.before in
-    let else3 = else4.before.before in
-    let a = else3.before.before.before.before.before.before.before.before.args in
+returns-4 : tie.Need-returns-4
+returns-4 c =
+    let a = c.before.before.before.before.before.before.before.before.before.before.before.before.before.before.args in
     let s = a.store.now in
-    bad_store a.call.now s a.reply.now a.context else3.before.before.before.if1.false else3.before.if2.false else3.if3.false
-    (ap not (sym else4.before.is-edition.ensures) ∙ else4.if4.false)
+    bad_store a.call.now s a.reply.now a.context c.before.before.before.before.before.before.before.before.before.if1.false
+    c.before.before.before.before.before.before.before.if2.false c.before.before.before.before.before.before.if3.false
     (bad_fails s (sym c.enum-told2.given.1 ∙ c.before.before.check-store.ensures.is))
 
 read-call-requires : tie.Need-read-call-requires
@@ -74,19 +61,18 @@ place-requires c κs = search rules
 fault-requires : tie.Need-fault-requires
 fault-requires c κs =
     let after-read-call = c.before.before.before in
-    let else3 = after-read-call.before.before.before.before.before.before.before.before.before in
+    let else3 = after-read-call.before.before.before.before.before.before.before in
     let a = else3.before.before.before.before.before.before.before.before.args in
     let k = inside_header.place a.call.now 0 (omega arith) in
     omega (arith, c.place.ensures, ap place_of after-read-call.read-call.ensures.0, k, else3.if3.false)
 
-returns-6 : tie.Need-returns-6
-returns-6 c =
+returns-5 : tie.Need-returns-5
+returns-5 c =
     let after-enum-told3 = c.before.before in
     let after-read-call = after-enum-told3.before.before in
     let after-enum-told = after-read-call.before in
     let after-check-store = after-enum-told.before.before in
-    let else4 = after-check-store.before.before.before.before in
-    let else3 = else4.before.before in
+    let else3 = after-check-store.before.before.before.before in
     let else2 = else3.before in
     let else1 = else2.before.before in
     let start = else1.before.before.before.before.before in
@@ -98,17 +84,16 @@ returns-6 c =
     bad_header a.call.now s a.reply.now a.context
     else1.if1.false
     else2.if2.false
-    else3.if3.false (ap not (sym else4.before.is-edition.ensures) ∙ else4.if4.false) e
+    else3.if3.false e
     _ (sym after-read-call.read-call.ensures.0 ∙ bad)
     ∙ ap (λ (f : Fault). refuse f a.reply.now s) (sym broken)
 
-returns-7 : tie.Need-returns-7
-returns-7 c =
+returns-6 : tie.Need-returns-6
+returns-6 c =
     let after-read-call = c.before.before.before in
     let after-enum-told = after-read-call.before in
     let after-check-store = after-enum-told.before.before in
-    let else4 = after-check-store.before.before.before.before in
-    let else3 = else4.before.before in
+    let else3 = after-check-store.before.before.before.before in
     let else2 = else3.before in
     let after-struct-known = else2.before in
     let else1 = after-struct-known.before in
@@ -122,7 +107,7 @@ returns-7 c =
     hears a.call.now s a.reply.now a.context
     else1.if1.false
     else2.if2.false
-    else3.if3.false (ap not (sym else4.before.is-edition.ensures) ∙ else4.if4.false) e
+    else3.if3.false e
     _ _ _ _ (sym f₁.0 ∙ ap header_of c.before.read.given.1) f₁.1 (f.map e)
     (λ i. (after-shared-slice-known2.shared-slice-known2.given i).fits)
     (record {
@@ -138,16 +123,14 @@ open_spec =
     returns
     returns-2
     returns-3
-    is-edition-requires
-    returns-4
     check-store-requires
     enum_told
     enum-told-2
-    returns-5
+    returns-4
     read-call-requires
     enum-known-read
     enum-told-3
     place-requires
     fault-requires
-    returns-6
-    returns-7)
+    returns-5
+    returns-6)

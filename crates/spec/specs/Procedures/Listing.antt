@@ -1,6 +1,6 @@
 -- READDIR.
-use Rattle.std.specs.Prelude.{ℕ, ◌+◌, ◌-◌, min, eqb, leb, ltb, length, Bool, true, false, ◌&&◌, ◌||◌, not, cond, List, [], ◌∷◌, ◌++◌, map}
-use Rattle.kinds.specs.Numbers.{BAD_COOKIE, TOOSMALL, WITH_DOTS, most_transfer_bytes, listing_cost, entry_fixed_cost}
+use Rattle.std.specs.Prelude.{ℕ, ◌+◌, ◌-◌, min, eqb, leb, ltb, length, Bool, true, false, ◌&&◌, not, cond, List, [], ◌∷◌, ◌++◌, map}
+use Rattle.kinds.specs.Numbers.{BAD_COOKIE, TOOSMALL, most_transfer_bytes, listing_cost, entry_fixed_cost}
 use Rattle.spec.specs.Bytes.{padding}
 use Rattle.spec.specs.Checked.{Checked, ◌>>=◌, ◌>>◌, refuse_if, passed}
 use Rattle.spec.specs.Count.{passing}
@@ -8,16 +8,6 @@ use Rattle.spec.specs.Handles.{reach_directory, attributes}
 use Rattle.spec.specs.Image.{Store, names, name_at}
 use Rattle.spec.specs.Results.{Entry, Done, unchanged, fail_showing, settle, listed}
 use Rattle.spec.specs.Room.{is_in, parent}
-
--- what listings differ in: what a listing costs beside its entries, what an entry costs beside its padded name, and whether the dots are listed
-pub record Rules : Type 0 where
-  pub head : ℕ
-  pub each : ℕ
-  pub dots : Bool
-
--- "The result body after the status costs 104 bytes plus 24 + padded name each"; E8: "Edition 1 is today's READDIR."; edition 2: "dots never listed"
-abbrev pub rules_of : ℕ → Rules
-rules_of edition = record { head = listing_cost; each = entry_fixed_cost; dots = eqb edition WITH_DOTS }
 
 -- "name record s has s + 3"
 unfoldable pub entry_of : Store → ℕ → Entry
@@ -32,16 +22,16 @@ dot_entries s d =
 abbrev pub named_entries : Store → ℕ → ℕ → List Entry
 named_entries s d n = map (entry_of s) (passing n (is_in s d))
 
--- what directory d lists, with its dots or without them
-unfoldable pub entries : Bool → Store → ℕ → List Entry
-entries dots s d = cond dots (dot_entries s d) [] ++ named_entries s d (names s)
+unfoldable pub entries : Store → ℕ → List Entry
+entries s d = dot_entries s d ++ named_entries s d (names s)
 
 -- "those above the given cookie, ascending"
 unfoldable pub entries_above : ℕ → List Entry → List Entry
 entries_above cookie [] = []
 entries_above cookie (e ∷ es) = cond (ltb cookie e.cookie) (e ∷ entries_above cookie es) (entries_above cookie es)
 
--- what an entry costs: so many bytes "+ padded name"
+-- what an entry costs beside its padded name, and what a listing costs beside its entries: "The result body after the status costs 104
+-- bytes plus 24 + padded name each"
 abbrev pub entry_cost : ℕ → Entry → ℕ
 entry_cost each e = each + (length e.name + padding (length e.name))
 
@@ -61,24 +51,19 @@ check_listing head each limit es = do
   refuse_if (not (is_nothing es) && is_nothing (fitting each (limit - head) es)) TOOSMALL
   passed (fitting each (limit - head) es, eqb (length (fitting each (limit - head) es)) (length es))
 
--- E8, where the dots are not listed: "arguments 1 and 2 BAD_COOKIE"
-abbrev pub is_reserved : Bool → ℕ → Bool
-is_reserved dots cookie = not dots && (eqb cookie 1 || eqb cookie 2)
-
 -- what READDIR checks in directory d: "verifier not zero, BAD_COOKIE"; the run, and eof
-unfoldable pub check_readdir_in : Rules → Store → ℕ → ℕ → ℕ → ℕ → Checked (List Entry × Bool)
-check_readdir_in r s d cookie verifier count = do
+unfoldable pub check_readdir_in : Store → ℕ → ℕ → ℕ → ℕ → Checked (List Entry × Bool)
+check_readdir_in s d cookie verifier count = do
   refuse_if (not (eqb verifier 0)) BAD_COOKIE
-  refuse_if (is_reserved r.dots cookie) BAD_COOKIE
-  check_listing r.head r.each (min count most_transfer_bytes) (entries_above cookie (entries r.dots s d))
+  check_listing listing_cost entry_fixed_cost (min count most_transfer_bytes) (entries_above cookie (entries s d))
 
 -- the directory, the run, and eof
-unfoldable pub check_readdir : Rules → Store → List ℕ → ℕ → ℕ → ℕ → Checked (ℕ × List Entry × Bool)
-check_readdir r s h cookie verifier count = do
+unfoldable pub check_readdir : Store → List ℕ → ℕ → ℕ → ℕ → Checked (ℕ × List Entry × Bool)
+check_readdir s h cookie verifier count = do
   d ← reach_directory s h
-  p ← check_readdir_in r s d cookie verifier count
+  p ← check_readdir_in s d cookie verifier count
   passed (d, p.0, p.1)
 
-unfoldable pub readdir : Rules → Store → List ℕ → ℕ → ℕ → ℕ → Done
-readdir r s h cookie verifier count =
-    settle s (fail_showing s h) (check_readdir r s h cookie verifier count) (λ p. unchanged s (listed (attributes s p.0) p.1 p.2))
+unfoldable pub readdir : Store → List ℕ → ℕ → ℕ → ℕ → Done
+readdir s h cookie verifier count =
+    settle s (fail_showing s h) (check_readdir s h cookie verifier count) (λ p. unchanged s (listed (attributes s p.0) p.1 p.2))

@@ -33,7 +33,6 @@ extern "C" {
         seconds: u32,
         nanoseconds: u32,
         verifier: u64,
-        edition: u32,
     ) -> RawAnswer;
     fn nfs3_check(store: *const u8, store_len: usize) -> RawAnswer;
     fn nfs3_format(
@@ -64,7 +63,6 @@ pub fn call(call: &Call<'_>, store: &mut [u8], reply: &mut [u8]) -> Answer {
             call.seconds,
             call.nanoseconds,
             call.verifier,
-            call.edition,
         )
     };
     raw.into()

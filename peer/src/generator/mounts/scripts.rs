@@ -769,7 +769,6 @@ fn changes(runs: &mut Runs<'_>) {
         seconds: 1,
         nanoseconds: 2,
         verifier: 3,
-        edition: 1,
         space: 4224,
     };
     assert_eq!(gate.lane.driver.call(call).answer.length, 24);

@@ -9,7 +9,6 @@ use super::super::encode::{Attributes, Header, Request};
 use super::super::lane::*;
 use super::super::padding::Padded;
 use super::super::random::Random;
-use super::super::random_runs::any_edition;
 use super::super::view::View;
 use super::tables::{self, row_at, Row, DAMAGES};
 use super::*;
@@ -345,17 +344,12 @@ impl MountRun<'_> {
         }
     }
 
-    /// An NFS call that changes names, or seldom one that shows them.
+    /// An NFS call that changes names.
     fn request(&mut self) -> Request {
         let Some((directory, name, is_directory)) = self.named() else {
             return self.making();
         };
-        match self.random.below(11) {
-            10 => {
-                let cookie = self.random.below(6) as u64;
-                let count = self.random.pick(&[104, 160, 300, 4096]);
-                readdir(&directory, cookie, 0, count)
-            }
+        match self.random.below(10) {
             0..=3 => self.making(),
             4..=6 => {
                 let to = self.directory();
@@ -370,7 +364,6 @@ impl MountRun<'_> {
 
     /// Sends an NFS call and looks at the store anew.
     fn change(&mut self, request: &Request) {
-        self.gate.lane.edition = any_edition(&mut self.random);
         self.gate.lane.send(request);
         if let Some(view) = View::of(self.gate.lane.driver.store()) {
             self.view = view;
@@ -484,7 +477,6 @@ impl MountRun<'_> {
         }
         let bytes = odd.encode();
         if self.random.once_in(3) {
-            self.gate.lane.edition = any_edition(&mut self.random);
             self.gate.lane.raw(&bytes);
             self.gate.lane.raw(&call(1, odd.procedure, Some(b"/")));
         }

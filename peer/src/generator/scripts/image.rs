@@ -1,8 +1,8 @@
 //! A store taken apart: what calls that change names leave of it, and what they
 //! answer.
 
+use crate::generator::encode::opaque;
 use crate::generator::lane::Lane;
-use crate::generator::listings::{result, Asked};
 use crate::generator::view::View;
 use crate::layout::*;
 use crate::numbers::Status;
@@ -242,14 +242,36 @@ impl Image {
     }
 }
 
-/// The result of READDIR in edition 1 from its status on.
+/// The result of READDIR from its status on, for a live directory and a count of
+/// at least 104.
 pub fn listing(image: &Image, directory: &[u8], cookie: u64, count: u32) -> Vec<u8> {
-    let asked = Asked {
-        edition: 1,
-        directory,
-        cookie,
-        verifier: 0,
-        count,
-    };
-    result(image, &asked)
+    let view = image.view();
+    let number = word(directory, 4) as usize;
+    let above = view.names.iter().find(|named| named.child == number);
+    let parent = above.map_or(0, |named| named.directory);
+    let dots = [(1, &b"."[..], number), (2, b"..", parent)];
+    let named = view.names.iter().filter(|named| named.directory == number);
+    let named = named.map(|named| (named.record as u64 + 3, &named.name[..], named.child));
+    let entries = dots.into_iter().chain(named);
+    let entries: Vec<_> = entries.filter(|entry| entry.0 > cookie).collect();
+    let mut room = count.min(4096) as usize - 104;
+    let mut bytes = vec![0, 0, 0, 0, 0, 0, 0, 1];
+    bytes.extend(image.attributes(number));
+    bytes.extend([0; 8]);
+    let mut sent = 0;
+    for (cookie, name, child) in &entries {
+        let mut entry = vec![0, 0, 0, 1];
+        entry.extend((*child as u64 + 1).to_be_bytes());
+        opaque(&mut entry, name);
+        entry.extend(cookie.to_be_bytes());
+        if entry.len() > room {
+            break;
+        }
+        room -= entry.len();
+        bytes.extend(entry);
+        sent += 1;
+    }
+    bytes.extend([0; 4]);
+    bytes.extend(u32::from(sent == entries.len()).to_be_bytes());
+    bytes
 }

@@ -851,7 +851,7 @@ fn judged(lane: &mut Lane<'_>, patches: &[(usize, &[u8])], valid: bool, label: &
 }
 
 /// A name record.
-pub(super) fn name_record(directory: u32, child: u32, text: &[u8]) -> Vec<u8> {
+fn name_record(directory: u32, child: u32, text: &[u8]) -> Vec<u8> {
     let mut record = [directory, child, text.len() as u32]
         .map(u32::to_be_bytes)
         .concat();

@@ -123,7 +123,6 @@ pub(super) fn entry_answers(runs: &mut Runs<'_>) {
                 seconds: 5,
                 nanoseconds: if clock { 1_000_000_000 } else { 999_999_999 },
                 verifier: 1,
-                edition: 1,
                 space: if small { 4223 } else { 4224 },
             });
             assert_eq!(outcome.answer.number, wanted);
@@ -147,7 +146,6 @@ pub(super) fn entry_answers(runs: &mut Runs<'_>) {
             seconds: 0,
             nanoseconds: 0,
             verifier: 0,
-            edition: 1,
             space,
         });
         assert_eq!(outcome.answer.number, wanted);
@@ -167,7 +165,6 @@ pub(super) fn entry_answers(runs: &mut Runs<'_>) {
             seconds: u32::MAX,
             nanoseconds,
             verifier: u64::MAX,
-            edition: 1,
             space: 4224,
         });
         assert_eq!(outcome.answer.number, wanted);
@@ -393,7 +390,6 @@ pub(super) fn formats(runs: &mut Runs<'_>) {
                 seconds: 0,
                 nanoseconds: 0,
                 verifier: 0,
-                edition: 1,
                 space: 4224,
             });
         }

@@ -2,13 +2,12 @@
 //! RPC outcome, every status of every procedure, full stores, spent
 //! generations, damaged stores, the rules of EXCLUSIVE CREATE, conversions, pad
 //! bytes that are not zero, RENAME over names that exist, files with several
-//! names, listings in both editions and calls that are broken at every place.
+//! names and calls that are broken at every place.
 
 mod conversions;
 mod damage;
-mod editions;
 mod exclusive;
-pub(in crate::generator) mod image;
+mod image;
 mod limits;
 mod links;
 mod messages;
@@ -23,7 +22,7 @@ use super::lane::*;
 use crate::layout::Shape;
 
 const EXAMPLES: &str = "Examples of document 01";
-const ANSWERS: &str = "Ways to the answers 1 to 10";
+const ANSWERS: &str = "Ways to the answers 1 to 9";
 const OUTCOMES: &str = "RPC outcomes brought about one by one";
 const MALFORMED: &str = "Malformed arguments";
 const BROKEN: &str = "Broken demands of the check";
@@ -124,19 +123,6 @@ pub fn all(runs: &mut Runs<'_>) {
     links::full_store(runs);
     links::damaged(runs);
     links::conversions(runs);
-    editions::refusals(runs);
-    editions::order(runs);
-    editions::cookies(runs);
-    editions::handles(runs);
-    editions::counts(runs);
-    editions::lengths(runs);
-    editions::in_pieces(runs);
-    editions::gaps(runs);
-    editions::directories(runs);
-    editions::sixty_three(runs);
-    editions::longest(runs);
-    editions::limit(runs);
-    editions::other_procedures(runs);
     places::headers(runs);
     places::arguments(runs);
     places::bad_handles(runs);

@@ -80,7 +80,6 @@ fn alike(lane: &mut Lane<'_>, call: &Padded) -> Outcome {
         seconds: lane.seconds,
         nanoseconds: lane.nanoseconds,
         verifier: lane.verifier,
-        edition: lane.edition,
         space: lane.space,
     });
     assert_eq!(outcome, wanted);

@@ -15,7 +15,6 @@ impl Sender for Lane<'_> {
             seconds: self.seconds,
             nanoseconds: self.nanoseconds,
             verifier: self.verifier,
-            edition: self.edition,
             space: self.space,
         })
     }
@@ -344,7 +343,6 @@ fn earlier(lane: &mut Lane<'_>) {
                 seconds: 1,
                 nanoseconds: if number == 3 { 1_000_000_000 } else { 5 },
                 verifier: 2,
-                edition: 1,
                 space: if number == 2 { 4223 } else { 4224 },
             });
             let answer = outcome.answer;

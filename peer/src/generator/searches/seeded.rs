@@ -396,8 +396,6 @@ impl Searched<'_> {
                 4 => rename(&place, &named.name, &to, &named.name),
                 _ => guarded(&to, &fresh, Attributes::default()),
             };
-            // No search goes by the edition.
-            self.lane.edition = 3 - self.lane.edition;
             self.lane.send(&request);
             let after = self.view();
             let there = |old: &Named| {

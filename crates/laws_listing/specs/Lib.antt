@@ -1,2 +1,0 @@
--- What holds of one listing, and of a listing in pieces.
-pub mod Statement
