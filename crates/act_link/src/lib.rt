@@ -1,4 +1,6 @@
 // What LINK does: its checks, its edit of the store, and its result.
+#![tactic(auto)]
+
 ghost use Rattle.std.specs.Prelude.{◌≡◌, ◌+◌, ◌≤◌, length};
 ghost use Rattle.kinds.specs.Numbers.{most_name_bytes};
 ghost use Rattle.spec.specs.Procedures.{cut};

@@ -1,4 +1,6 @@
 // READDIR.
+#![tactic(auto)]
+
 ghost use Rattle.std.specs.Prelude.{◌≡◌, ◌&&◌, ◌+◌, ◌≤◌, eqb, length};
 ghost use Rattle.kinds.specs.Numbers.{most_name_bytes, listing_cost, entry_fixed_cost};
 ghost use Rattle.kinds.specs.Layout.{text_offset};
@@ -19,7 +21,7 @@ use results::Reply;
 use store_records::counts::{name_count, names_start};
 
 // A run of entries: the room that is left, how many there are, and whether the next one did not fit.
-#[derive(Drop)]
+#[derive(Clone, Copy)]
 pub struct Run {
     pub room: usize,
     pub count: usize,
@@ -27,7 +29,7 @@ pub struct Run {
 }
 
 // How many entries are sent, and whether nothing remains.
-#[derive(Drop)]
+#[derive(Clone, Copy)]
 pub enum Listing {
     Sent(usize, bool),
     Refused(Status),

@@ -1,4 +1,6 @@
 // What a call does: the procedure of each kind of arguments.
+#![tactic(auto)]
+
 ghost use Rattle.std.specs.Prelude.{length};
 ghost use Rattle.spec.specs.Procedures.{act};
 ghost use Rattle.laws.proofs.Arguments.{Within};

@@ -16,7 +16,7 @@ use kinds::numbers::{ObjectNumber, Status};
 use results::Reply;
 
 // The directory and the object that was found in it.
-#[derive(Drop)]
+#[derive(Clone, Copy)]
 pub enum Looked {
     At(ObjectNumber, ObjectNumber),
     Refused(Status),

@@ -1,2 +1,4 @@
 // REMOVE, RMDIR and RENAME.
+#![tactic(auto)]
+
 pub mod act; // what each procedure does

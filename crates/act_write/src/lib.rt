@@ -1,4 +1,6 @@
 // What WRITE does to a file, and its reply.
+#![tactic(auto)]
+
 ghost use Rattle.std.specs.Prelude.{◌≡◌, ◌+◌, ◌<◌, ◌≤◌, min, length, take};
 ghost use Rattle.kinds.specs.Numbers.{most_transfer_bytes};
 ghost use Rattle.spec.specs.Bytes.{part};

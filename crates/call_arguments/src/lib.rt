@@ -1,4 +1,6 @@
 // The arguments of a call (RFC 1813), by the number of its procedure.
+#![tactic(auto)]
+
 ghost use Rattle.std.specs.Prelude.{◌≡◌};
 ghost use Rattle.kinds.specs.Reading.{got};
 ghost use Rattle.spec.specs.Arguments.{form, arguments, whole};
@@ -15,7 +17,7 @@ use kinds::numbers::Procedure;
 use reader::Reader;
 
 // What the arguments of a procedure begin with; those of a procedure that is not served stay unread.
-#[derive(Drop)]
+#[derive(Clone, Copy)]
 enum First {
     Nothing,
     Handle,

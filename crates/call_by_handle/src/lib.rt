@@ -1,4 +1,6 @@
 // The arguments of the procedures whose first argument is a handle.
+#![tactic(auto)]
+
 ghost use Rattle.std.specs.Prelude.{◌≡◌};
 ghost use Rattle.spec.specs.Arguments.{setattr_arguments, access_arguments, read_arguments, write_arguments, link_arguments, readdir_arguments, commit_arguments, whole, arguments};
 ghost use Rattle.call_end.specs.Reading.{arguments_of};

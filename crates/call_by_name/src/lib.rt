@@ -1,4 +1,6 @@
 // The arguments of the procedures whose first argument is a name in a directory.
+#![tactic(auto)]
+
 ghost use Rattle.std.specs.Prelude.{◌≡◌};
 ghost use Rattle.spec.specs.Arguments.{create_arguments, mkdir_arguments, rename_arguments, whole, arguments};
 ghost use Rattle.call_end.specs.Reading.{arguments_of};

@@ -1,4 +1,6 @@
 // What reading arguments answers, and the end of the call after them.
+#![tactic(auto)]
+
 ghost use Rattle.std.specs.Prelude.{◌≡◌};
 ghost use Rattle.spec.specs.Arguments.{whole};
 ghost use Rattle.spec.specs.Xdr.{done};

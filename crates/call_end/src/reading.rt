@@ -1,7 +1,7 @@
 // What reading arguments answers: their value and where reading goes on, or the place of the refusal.
 use kinds::call::{Arguments, Cursor};
 
-#[derive(Drop)]
+#[derive(Clone, Copy)]
 pub enum ArgumentsRead {
     Got(Arguments, Cursor),
     Bad(usize),

@@ -6,7 +6,7 @@ ghost use Rattle.call_types.specs.Reading.{name_in_of, time_of, set_number_of, s
 use kinds::call::{Cursor, Guard, How, NameIn, SetNumber, SetSize, SetTime, Settable};
 use kinds::object::Time;
 
-#[derive(Drop)]
+#[derive(Clone, Copy)]
 pub enum NameInRead {
     Got(NameIn, Cursor),
     Bad(usize),
@@ -24,7 +24,7 @@ impl NameInRead {
     }
 }
 
-#[derive(Drop)]
+#[derive(Clone, Copy)]
 pub enum TimeRead {
     Got(Time, Cursor),
     Bad(usize),
@@ -42,7 +42,7 @@ impl TimeRead {
     }
 }
 
-#[derive(Drop)]
+#[derive(Clone, Copy)]
 pub enum SetNumberRead {
     Got(SetNumber, Cursor),
     Bad(usize),
@@ -60,7 +60,7 @@ impl SetNumberRead {
     }
 }
 
-#[derive(Drop)]
+#[derive(Clone, Copy)]
 pub enum SetSizeRead {
     Got(SetSize, Cursor),
     Bad(usize),
@@ -78,7 +78,7 @@ impl SetSizeRead {
     }
 }
 
-#[derive(Drop)]
+#[derive(Clone, Copy)]
 pub enum SetTimeRead {
     Got(SetTime, Cursor),
     Bad(usize),
@@ -96,7 +96,7 @@ impl SetTimeRead {
     }
 }
 
-#[derive(Drop)]
+#[derive(Clone, Copy)]
 pub enum SettableRead {
     Got(Settable, Cursor),
     Bad(usize),
@@ -114,7 +114,7 @@ impl SettableRead {
     }
 }
 
-#[derive(Drop)]
+#[derive(Clone, Copy)]
 pub enum GuardRead {
     Got(Guard, Cursor),
     Bad(usize),
@@ -132,7 +132,7 @@ impl GuardRead {
     }
 }
 
-#[derive(Drop)]
+#[derive(Clone, Copy)]
 pub enum HowRead {
     Got(How, Cursor),
     Bad(usize),

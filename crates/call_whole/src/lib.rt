@@ -1,4 +1,6 @@
 // A call read whole, by one reader: its header, and the arguments after it.
+#![tactic(auto)]
+
 ghost use Rattle.std.specs.Prelude.{◌≡◌};
 ghost use Rattle.spec.specs.Header.{header};
 ghost use Rattle.rpc.specs.Meaning.{header_of};
@@ -10,7 +12,7 @@ use call_end::reading::ArgumentsRead;
 use reader::{Reader, past};
 use rpc::header::{HeaderRead, next_header};
 
-#[derive(Drop)]
+#[derive(Clone, Copy)]
 pub struct CallRead {
     pub header: HeaderRead,
     pub arguments: ArgumentsRead,

@@ -1,4 +1,6 @@
 // The checks of CREATE.
+#![tactic(auto)]
+
 ghost use Rattle.std.specs.Prelude.{◌≡◌, ◌+◌, ◌≤◌, length};
 ghost use Rattle.spec.specs.Procedures.{cut};
 ghost use Rattle.spec.specs.Procedures.Names.{check_how, check_create};
@@ -15,7 +17,7 @@ use kinds::call::{How, NameIn, Part};
 use kinds::numbers::{Limit, ObjectNumber, Status};
 
 // The directory and the target, or the status.
-#[derive(Drop)]
+#[derive(Clone, Copy)]
 pub enum CreateChecked {
     At(ObjectNumber, Target),
     Refused(Status),

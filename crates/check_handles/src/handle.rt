@@ -12,7 +12,7 @@ use kinds::numbers::{Limit, ObjectNumber, Status};
 use store_records::counts::{object_count, stamp_of};
 use store_records::object::{generation_of, is_directory, is_live, is_regular};
 
-#[derive(Drop)]
+#[derive(Clone, Copy)]
 pub enum Reached {
     At(ObjectNumber),
     Refused(Status),

@@ -9,7 +9,7 @@ ghost use Rattle.check_handles.specs.Meaning.{text_checked_of};
 use kinds::call::Part;
 use kinds::numbers::{Limit, Status};
 
-#[derive(Drop)]
+#[derive(Clone, Copy)]
 pub enum TextChecked {
     Good,
     Refused(Status),

@@ -1,4 +1,6 @@
 // What LINK checks, in the order that decides the status.
+#![tactic(auto)]
+
 ghost use Rattle.std.specs.Prelude.{◌≡◌, ◌+◌, ◌≤◌, length};
 ghost use Rattle.spec.specs.Procedures.{cut};
 ghost use Rattle.spec.specs.Procedures.Link.{check_added, check_link};
@@ -17,7 +19,7 @@ use store_search::name::{find_free_name, naming_count};
 use store_search::search::find_name;
 
 // The file, the directory and the free name record of a name that may be added, or the status.
-#[derive(Drop)]
+#[derive(Clone, Copy)]
 pub enum Linkable {
     At(ObjectNumber, ObjectNumber, NameNumber),
     Refused(Status),

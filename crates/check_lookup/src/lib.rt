@@ -1,4 +1,6 @@
 // What LOOKUP checks in a directory: the name, and then the object that has it. A step of a mounted path is the same.
+#![tactic(auto)]
+
 ghost use Rattle.std.specs.Prelude.{◌≡◌, ◌+◌, ◌≤◌, length};
 ghost use Rattle.spec.specs.Procedures.{cut};
 ghost use Rattle.spec.specs.Procedures.Names.{look_in, check_in};

@@ -23,20 +23,20 @@ use store_search::found::FoundName;
 use store_search::search::find_name;
 
 // What CREATE's checks find: records for a new file, or the file of that name.
-#[derive(Drop)]
+#[derive(Clone, Copy)]
 pub enum Target {
     New(ObjectNumber, NameNumber),
     Existing(ObjectNumber),
 }
 
-#[derive(Drop)]
+#[derive(Clone, Copy)]
 pub enum TargetChecked {
     At(Target),
     Refused(Status),
 }
 
 // The directory, the object record and the name record, or the status.
-#[derive(Drop)]
+#[derive(Clone, Copy)]
 pub enum MkdirChecked {
     At(ObjectNumber, ObjectNumber, NameNumber),
     Refused(Status),

@@ -1,4 +1,6 @@
 // What REMOVE and RMDIR check, in the order that decides the status.
+#![tactic(auto)]
+
 ghost use Rattle.std.specs.Prelude.{◌≡◌, ◌+◌, ◌≤◌, length};
 ghost use Rattle.spec.specs.Procedures.{cut};
 ghost use Rattle.spec.specs.Procedures.Removal.{check_entry, check_remove, check_rmdir};
@@ -16,14 +18,14 @@ use store_search::found::FoundName;
 use store_search::search::find_name;
 
 // The record of a name in a directory, or the status.
-#[derive(Drop)]
+#[derive(Clone, Copy)]
 pub enum EntryChecked {
     At(NameNumber),
     Refused(Status),
 }
 
 // The directory and the name record of what may be removed, or the status.
-#[derive(Drop)]
+#[derive(Clone, Copy)]
 pub enum Removable {
     At(ObjectNumber, NameNumber),
     Refused(Status),

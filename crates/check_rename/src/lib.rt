@@ -1,4 +1,6 @@
 // What RENAME checks, in the order that decides the status.
+#![tactic(auto)]
+
 ghost use Rattle.std.specs.Prelude.{◌≡◌, ◌+◌, ◌<◌, ◌≤◌, length};
 ghost use Rattle.spec.specs.Image.{objects};
 ghost use Rattle.spec.specs.Procedures.{cut};
@@ -18,7 +20,7 @@ use store_search::found::FoundName;
 use store_search::search::find_name;
 
 // What the new name is: not there, a name of the object that is renamed, or the name record of an object that is replaced.
-#[derive(Drop)]
+#[derive(Clone, Copy)]
 pub enum Onto {
     NewName,
     SameObject,
@@ -26,14 +28,14 @@ pub enum Onto {
 }
 
 // The same, or the status.
-#[derive(Drop)]
+#[derive(Clone, Copy)]
 pub enum OntoChecked {
     At(Onto),
     Refused(Status),
 }
 
 // Both directories and the name record of what may be renamed, and what the new name is; or the status.
-#[derive(Drop)]
+#[derive(Clone, Copy)]
 pub enum Renamable {
     At(ObjectNumber, ObjectNumber, NameNumber, Onto),
     Refused(Status),

@@ -1,4 +1,6 @@
 // Free blocks and records for what a call adds.
+#![tactic(auto)]
+
 ghost use Rattle.std.specs.Prelude.{◌≡◌, ◌+◌, ◌<◌, ◌≤◌, ltb};
 ghost use Rattle.kinds.specs.Numbers.{most_file_bytes, most_transfer_bytes};
 ghost use Rattle.spec.specs.Image.{objects};
@@ -21,7 +23,7 @@ use store_search::name::find_free_name;
 use store_search::object::find_available;
 
 // A free object record and a free name record, or the status.
-#[derive(Drop)]
+#[derive(Clone, Copy)]
 pub enum RoomChecked {
     At(ObjectNumber, NameNumber),
     Refused(Status),

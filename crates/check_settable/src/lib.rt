@@ -1,4 +1,6 @@
 // The attributes that a call may set, those that CREATE gives, and the ctime that a call may ask for.
+#![tactic(auto)]
+
 ghost use Rattle.std.specs.Prelude.{◌≡◌, ◌&&◌, eqb};
 ghost use Rattle.spec.specs.Edits.{only_ctime};
 ghost use Rattle.spec.specs.Procedures.Attributes.{is_given, size_set, number_over, bad_time, bad_attributes, differs};

@@ -1,4 +1,6 @@
 // Whether a directory has entries, and whether one lies within another.
+#![tactic(auto)]
+
 ghost use Rattle.std.specs.Prelude.{◌≡◌, ◌<◌};
 ghost use Rattle.spec.specs.Image.{objects};
 ghost use Rattle.spec.specs.Procedures.Removal.{has_entries, is_within};

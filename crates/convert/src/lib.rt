@@ -1,4 +1,6 @@
 // The converter from the layout of document 01, in which an object record has 80 bytes.
+#![tactic(auto)]
+
 ghost use Rattle.std.specs.Prelude.{◌≡◌, ◌&&◌, ◌+◌, ◌*◌, ◌≤◌, length};
 ghost use Rattle.kinds.specs.Layout.{object_length, old_object_length};
 ghost use Rattle.kinds.specs.Numbers.{most_objects};

@@ -1,4 +1,6 @@
 // The first two edits of the store: an object's attributes and times, and its verifier forgotten.
+#![tactic(auto)]
+
 ghost use Rattle.std.specs.Prelude.{◌≡◌, ◌+◌, ◌-◌, ◌≤◌, ◌++◌, length};
 ghost use Rattle.kinds.specs.Layout.{mode_offset, size_offset, object_length};
 ghost use Rattle.spec.specs.Bytes.{overlay, bytes_of};

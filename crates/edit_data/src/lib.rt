@@ -1,4 +1,6 @@
 // The blocks and the bytes of a file: zeroed, and written.
+#![tactic(auto)]
+
 ghost use Rattle.std.specs.Prelude.{◌≡◌, ◌+◌, ◌-◌, ◌≤◌, ◌<◌, length};
 ghost use Rattle.kinds.specs.BlockNumbers.{numbers_of};
 ghost use Rattle.kinds.specs.Numbers.{REGULAR, file_blocks};

@@ -1,5 +1,7 @@
 // What REMOVE, RMDIR, RENAME and LINK do to the store: an entry of a directory is removed, moved, put in the place of another or added, and times
 // are set.
+#![tactic(auto)]
+
 ghost use Rattle.std.specs.Prelude.{◌≡◌, ◌+◌, ◌<◌, ◌≤◌, length};
 ghost use Rattle.kinds.specs.Layout.{object_length};
 ghost use Rattle.kinds.specs.Numbers.{most_name_bytes};

@@ -1,4 +1,6 @@
 // Objects with their names: the fourth, fifth and sixth edit of the store.
+#![tactic(auto)]
+
 ghost use Rattle.std.specs.Prelude.{◌≡◌, ◌+◌, ◌≤◌, ◌<◌, length};
 ghost use Rattle.kinds.specs.Layout.{object_length};
 ghost use Rattle.kinds.specs.Numbers.{most_name_bytes};

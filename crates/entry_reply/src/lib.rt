@@ -1,4 +1,6 @@
 // The reply to a call, written once every test has passed.
+#![tactic(auto)]
+
 ghost use Rattle.std.specs.Prelude.{◌≡◌, ◌≤◌, length};
 ghost use Rattle.kinds.specs.Numbers.{least_reply_bytes, most_call_bytes};
 ghost use Rattle.kinds.specs.Reading.{place_of};

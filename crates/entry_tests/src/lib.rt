@@ -1,4 +1,6 @@
 // The tests of a call before anything is written.
+#![tactic(auto)]
+
 ghost use Rattle.kinds.specs.Numbers.{most_blocks};
 ghost use Rattle.fsck_objects.specs.Objects.{Blank};
 ghost use Rattle.entry_tests.specs.Opens.{Opens};
@@ -13,7 +15,7 @@ use kinds::object::Context;
 use rpc::header::{HeaderRead, fault};
 
 // What the tests find of a call: the number and the offset of the answer that refuses it, or its header, where that ends, and its arguments.
-#[derive(Drop)]
+#[derive(Clone, Copy)]
 pub enum Opened {
     Refused(u32, u32),
     Heard(Header, Cursor, ArgumentsRead),

@@ -1,4 +1,6 @@
 // The store check, and format.
+#![tactic(auto)]
+
 pub mod shape; // the counts and the length
 pub mod tree; // that parents lead to the root
 pub mod check; // the whole check

@@ -8,7 +8,7 @@ use kinds::layout::{Block, Image, NameRecord};
 use kinds::numbers::Limit;
 
 // How many objects, name records and blocks a store has.
-#[derive(Drop)]
+#[derive(Clone, Copy)]
 pub struct Counts {
     pub objects: usize,
     pub names: usize,
@@ -16,7 +16,7 @@ pub struct Counts {
 }
 
 // What was found of a store: that it fails, or its counts.
-#[derive(Drop)]
+#[derive(Clone, Copy)]
 pub enum Found {
     Bad,
     Good(Counts),

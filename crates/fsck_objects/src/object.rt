@@ -19,7 +19,7 @@ use store_records::object::{
 };
 
 // What was found of an object: that it fails, or how many blocks it has.
-#[derive(Drop)]
+#[derive(Clone, Copy)]
 pub enum Uses {
     Bad,
     Blocks(usize),

@@ -2,34 +2,34 @@
 use crate::object::Time;
 
 // The bytes of the call from `start` on, `length` of them.
-#[derive(Drop)]
+#[derive(Clone, Copy)]
 pub struct Part {
     pub start: usize,
     pub length: usize,
 }
 
 // Where reading goes on.
-#[derive(Drop)]
+#[derive(Clone, Copy)]
 pub struct Cursor {
     pub at: usize,
 }
 
 // set_mode3, set_uid3, set_gid3.
-#[derive(Drop)]
+#[derive(Clone, Copy)]
 pub enum SetNumber {
     Keep,
     To(u32),
 }
 
 // set_size3.
-#[derive(Drop)]
+#[derive(Clone, Copy)]
 pub enum SetSize {
     Keep,
     To(u64),
 }
 
 // set_atime, set_mtime.
-#[derive(Drop)]
+#[derive(Clone, Copy)]
 pub enum SetTime {
     Keep,
     ToServer,
@@ -37,7 +37,7 @@ pub enum SetTime {
 }
 
 // The settable attributes: sattr3.
-#[derive(Drop)]
+#[derive(Clone, Copy)]
 pub struct Settable {
     pub mode: SetNumber,
     pub uid: SetNumber,
@@ -48,21 +48,21 @@ pub struct Settable {
 }
 
 // sattrguard3: no guard, or the ctime that the object must have.
-#[derive(Drop)]
+#[derive(Clone, Copy)]
 pub enum Guard {
     Absent,
     Ctime(Time),
 }
 
 // A name in a directory: diropargs3.
-#[derive(Drop)]
+#[derive(Clone, Copy)]
 pub struct NameIn {
     pub directory: Part,
     pub name: Part,
 }
 
 // createhow3.
-#[derive(Drop)]
+#[derive(Clone, Copy)]
 pub enum How {
     Unchecked(Settable),
     Guarded(Settable),
@@ -70,7 +70,7 @@ pub enum How {
 }
 
 // What was read of a call's arguments, by procedure.
-#[derive(Drop)]
+#[derive(Clone, Copy)]
 pub enum Arguments {
     Null,
     Getattr(Part),
@@ -98,14 +98,14 @@ pub enum Arguments {
 }
 
 // opaque_auth.
-#[derive(Drop)]
+#[derive(Clone, Copy)]
 pub struct Credential {
     pub flavor: u32,
     pub body: Part,
 }
 
 // The header of a call with RPC version 2.
-#[derive(Drop)]
+#[derive(Clone, Copy)]
 pub struct CallHeader {
     pub xid: u32,
     pub program: u32,
@@ -116,7 +116,7 @@ pub struct CallHeader {
 }
 
 // A message that is a call: of another RPC version than 2, with its xid, or with its header.
-#[derive(Drop)]
+#[derive(Clone, Copy)]
 pub enum Header {
     OtherVersion(u32),
     Call(CallHeader),

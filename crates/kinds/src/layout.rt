@@ -3,7 +3,7 @@ ghost use Rattle.std.specs.Prelude.{◌≡◌};
 ghost use Rattle.kinds.specs.Layout.{layout};
 
 // The image: where the stamp and the count of objects stand, and the bytes of counts and of the stamp before each section's records.
-#[derive(Drop)]
+#[derive(Clone, Copy)]
 pub struct Image(pub usize);
 
 impl Image {
@@ -52,7 +52,7 @@ impl Image {
 }
 
 // An object record: the type stands first, each other field at its offset.
-#[derive(Drop)]
+#[derive(Clone, Copy)]
 pub struct ObjectRecord(pub usize);
 
 impl ObjectRecord {
@@ -85,7 +85,7 @@ impl ObjectRecord {
 }
 
 // A time: the seconds stand first.
-#[derive(Drop)]
+#[derive(Clone, Copy)]
 pub struct TimeField(pub usize);
 
 impl TimeField {
@@ -95,7 +95,7 @@ impl TimeField {
 }
 
 // A name record: the directory stands first, each other field at its offset.
-#[derive(Drop)]
+#[derive(Clone, Copy)]
 pub struct NameRecord(pub usize);
 
 impl NameRecord {
@@ -108,7 +108,7 @@ impl NameRecord {
     pub const BYTES: usize = 44;
 }
 
-#[derive(Drop)]
+#[derive(Clone, Copy)]
 pub struct Block(pub usize);
 
 impl Block {

@@ -5,7 +5,7 @@ ghost use Rattle.kinds.specs.Mount.{mount_procedures, mount_numbers};
 use crate::call::Part;
 
 // A procedure of MOUNT version 3, RFC 1813 section 5.2.
-#[derive(Drop)]
+#[derive(Clone, Copy)]
 pub struct MountProcedure(pub u32);
 
 impl MountProcedure {
@@ -37,7 +37,7 @@ impl MountProcedure {
 }
 
 // The program, its version, the flavors of credentials that MNT lists, and the least reply space.
-#[derive(Drop)]
+#[derive(Clone, Copy)]
 pub struct Mount(pub u64);
 
 impl Mount {
@@ -72,11 +72,11 @@ impl Mount {
 }
 
 // The number of a row of the mount table.
-#[derive(Drop)]
+#[derive(Clone, Copy)]
 pub struct RowNumber(pub usize);
 
 // The rows of the mount table: how many there are, the longest path, where the fields of one stand after its host, and how long one and all are.
-#[derive(Drop)]
+#[derive(Clone, Copy)]
 pub struct Row(pub usize);
 
 impl Row {
@@ -94,7 +94,7 @@ impl Row {
 }
 
 // What was read of the arguments of a call of MOUNT, by procedure.
-#[derive(Drop)]
+#[derive(Clone, Copy)]
 pub enum MountArguments {
     Null,
     Mnt(Part),

@@ -4,17 +4,17 @@ ghost use Rattle.kinds.specs.Numbers.{statuses, procedures, limits, answers, mes
 
 // The number of an object, of a name record and of a block: three types, so that none is taken for another. A block number has two bytes, as an
 // object record holds it.
-#[derive(Drop)]
+#[derive(Clone, Copy)]
 pub struct ObjectNumber(pub usize);
 
-#[derive(Drop)]
+#[derive(Clone, Copy)]
 pub struct NameNumber(pub usize);
 
-#[derive(Drop)]
+#[derive(Clone, Copy)]
 pub struct BlockNumber(pub u16);
 
 // An NFS version 3 status, RFC 1813 section 2.6.
-#[derive(Drop)]
+#[derive(Clone, Copy)]
 pub struct Status(pub u32);
 
 impl Status {
@@ -82,7 +82,7 @@ impl Status {
 }
 
 // A procedure of NFS version 3, RFC 1813 section 3.
-#[derive(Drop)]
+#[derive(Clone, Copy)]
 pub struct Procedure(pub u32);
 
 impl Procedure {
@@ -174,7 +174,7 @@ impl Procedure {
 }
 
 // What a message must say to be a call of NFS version 3, and what a reply says, RFC 5531 section 9.
-#[derive(Drop)]
+#[derive(Clone, Copy)]
 pub struct Message(pub u32);
 
 impl Message {
@@ -227,7 +227,7 @@ impl Message {
 }
 
 // The type of an object.
-#[derive(Drop)]
+#[derive(Clone, Copy)]
 pub struct Kind(pub u32);
 
 impl Kind {
@@ -246,7 +246,7 @@ impl Kind {
 }
 
 // The limits, lengths and costs of the rules.
-#[derive(Drop)]
+#[derive(Clone, Copy)]
 pub struct Limit(pub u64);
 
 impl Limit {
@@ -343,7 +343,7 @@ impl Limit {
 
 // The answer of an entry: its number, the length of the reply, and the byte of the call at which a field starts that cannot be read.
 #[repr(C)]
-#[derive(Drop)]
+#[derive(Clone, Copy)]
 pub struct Answer {
     pub number: u32,
     pub length: u32,
@@ -394,7 +394,7 @@ impl Answer {
 }
 
 // Why the header of a call is refused: the number of the answer, and its offset.
-#[derive(Drop)]
+#[derive(Clone, Copy)]
 pub struct Fault {
     pub number: u32,
     pub offset: u32,

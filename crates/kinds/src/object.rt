@@ -4,7 +4,7 @@ ghost use Rattle.kinds.specs.Objects.{root_object};
 
 use crate::numbers::{Kind, Limit};
 
-#[derive(Drop)]
+#[derive(Clone, Copy)]
 pub struct Time {
     pub seconds: u32,
     pub nanoseconds: u32,
@@ -12,7 +12,7 @@ pub struct Time {
 
 // An object record of the store. The verifier is that of the EXCLUSIVE CREATE that made the file, and is kept where the flag `exclusive` is 1; else
 // both are 0.
-#[derive(Drop)]
+#[derive(Clone, Copy)]
 pub struct Object {
     pub kind: u32,
     pub generation: u32,
@@ -51,7 +51,7 @@ impl Object {
 }
 
 // The attributes of a live object as replies show them (fattr3); numbers of 64 bits have 0 as their high word.
-#[derive(Drop)]
+#[derive(Clone, Copy)]
 pub struct Attributes {
     pub kind: u32,
     pub mode: u32,
@@ -68,7 +68,7 @@ pub struct Attributes {
 }
 
 // The attributes of an object before a call, as replies show them (wcc_attr).
-#[derive(Drop)]
+#[derive(Clone, Copy)]
 pub struct Before {
     pub size: u32,
     pub mtime: Time,
@@ -76,14 +76,14 @@ pub struct Before {
 }
 
 // An object's attributes before and after a call (wcc_data, both present).
-#[derive(Drop)]
+#[derive(Clone, Copy)]
 pub struct Change {
     pub before: Before,
     pub after: Attributes,
 }
 
 // What the caller gives with a call: the clock, and the verifier that WRITE and COMMIT answer.
-#[derive(Drop)]
+#[derive(Clone, Copy)]
 pub struct Context {
     pub clock: Time,
     pub verifier: u64,

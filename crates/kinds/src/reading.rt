@@ -4,7 +4,7 @@ ghost use Rattle.kinds.specs.Reading.{place_of, word_of, long_of, flag_of, part_
 
 use crate::call::{Cursor, Part};
 
-#[derive(Drop)]
+#[derive(Clone, Copy)]
 pub enum WordRead {
     Got(u32, Cursor),
     Bad(usize),
@@ -22,7 +22,7 @@ impl WordRead {
     }
 }
 
-#[derive(Drop)]
+#[derive(Clone, Copy)]
 pub enum LongRead {
     Got(u64, Cursor),
     Bad(usize),
@@ -40,7 +40,7 @@ impl LongRead {
     }
 }
 
-#[derive(Drop)]
+#[derive(Clone, Copy)]
 pub enum FlagRead {
     Got(bool, Cursor),
     Bad(usize),
@@ -58,7 +58,7 @@ impl FlagRead {
     }
 }
 
-#[derive(Drop)]
+#[derive(Clone, Copy)]
 pub enum PartRead {
     Got(Part, Cursor),
     Bad(usize),
@@ -77,7 +77,7 @@ impl PartRead {
 }
 
 // For what has no value: the end of the call.
-#[derive(Drop)]
+#[derive(Clone, Copy)]
 pub enum SkipRead {
     Got(Cursor),
     Bad(usize),

@@ -1,1 +1,2 @@
 // The laws of the definitions in spec, for the proofs of the crates above it.
+#![tactic(auto)]

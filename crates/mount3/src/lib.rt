@@ -1,4 +1,6 @@
 // MOUNT version 3: the function that a C program calls.
+#![tactic(auto)]
+
 ghost use Rattle.mount_spec.specs.Serve.{serve_mount};
 ghost use Rattle.mount3.specs.Answers.{ServesMount};
 

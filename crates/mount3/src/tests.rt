@@ -11,7 +11,7 @@ use mount_check::check_table;
 use rpc::header::{HeaderRead, fault};
 
 // What the tests find of a call: the number and the offset of the answer that refuses it, or its header, where that ends, and its arguments.
-#[derive(Drop)]
+#[derive(Clone, Copy)]
 pub enum MountOpened {
     Refused(u32, u32),
     Heard(Header, Cursor, MountRead),

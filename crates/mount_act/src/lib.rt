@@ -1,4 +1,6 @@
 // What a call of MOUNT does, by what was read of its arguments.
+#![tactic(auto)]
+
 ghost use Rattle.std.specs.Prelude.{◌≡◌, ◌+◌, ◌≤◌, length};
 ghost use Rattle.kinds.specs.Mount.{most_path_bytes, table_length};
 ghost use Rattle.spec.specs.Procedures.{cut};

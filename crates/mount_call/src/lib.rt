@@ -1,4 +1,6 @@
 // A call of MOUNT read whole, by one reader: its header, and the arguments after it.
+#![tactic(auto)]
+
 ghost use Rattle.std.specs.Prelude.{◌≡◌};
 ghost use Rattle.kinds.specs.Reading.{part_of};
 ghost use Rattle.spec.specs.Header.{header};
@@ -14,7 +16,7 @@ use rpc::header::{HeaderRead, next_header};
 use xdr::read::{end, opaque};
 
 // What reading arguments answers: their value and where reading goes on, or the place of the refusal.
-#[derive(Drop)]
+#[derive(Clone, Copy)]
 pub enum MountRead {
     Got(MountArguments, Cursor),
     Bad(usize),
@@ -90,7 +92,7 @@ fn next_arguments<'a>(r: Reader<'a>, procedure: u32) -> MountRead
     arguments_at(r.call, r.at, procedure)
 }
 
-#[derive(Drop)]
+#[derive(Clone, Copy)]
 pub struct MountCallRead {
     pub header: HeaderRead,
     pub arguments: MountRead,

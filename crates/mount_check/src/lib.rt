@@ -1,4 +1,6 @@
 // The check of the mount table. Each used row gets a digest of its path, so that two rows are compared byte by byte only where their digests agree.
+#![tactic(auto)]
+
 ghost use Rattle.std.specs.Prelude.{◌≡◌, ◌+◌, ◌*◌, ◌<◌, ◌≤◌, true, length};
 ghost use Rattle.kinds.specs.Mount.{rows, table_length};
 ghost use Rattle.mount_spec.specs.Table.{path_length, is_used_row, good_row, good_used_row, passes_table};

@@ -1,4 +1,6 @@
 // What MNT, UMNT and UMNTALL make of the mount table.
+#![tactic(auto)]
+
 ghost use Rattle.std.specs.Prelude.{◌≡◌, ◌+◌, ◌≤◌, ◌<◌, length};
 ghost use Rattle.kinds.specs.Mount.{rows, most_path_bytes, table_length};
 ghost use Rattle.spec.specs.Procedures.{cut};
@@ -10,7 +12,7 @@ use kinds::mount::{Row, RowNumber};
 use kinds::numbers::Status;
 use mount_rows::{clear_row, has_pair, is_of_host, is_used, put_row};
 
-#[derive(Drop)]
+#[derive(Clone, Copy)]
 pub enum FoundRow {
     At(RowNumber),
     Nothing,
@@ -48,7 +50,7 @@ pub fn available_row(table: &[u8]) -> FoundRow
     FoundRow::Nothing
 }
 
-#[derive(Drop)]
+#[derive(Clone, Copy)]
 pub enum Added {
     Done,
     Refused(Status),

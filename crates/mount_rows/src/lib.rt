@@ -1,4 +1,6 @@
 // One row of the mount table: where it stands, what it holds, and how it is written.
+#![tactic(auto)]
+
 ghost use Rattle.std.specs.Prelude.{◌≡◌, ◌+◌, ◌≤◌, ◌<◌, length};
 ghost use Rattle.kinds.specs.Mount.{rows, most_path_bytes, row_length, table_length};
 ghost use Rattle.spec.specs.Procedures.{cut};

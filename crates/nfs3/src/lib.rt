@@ -1,4 +1,6 @@
 // The functions that a C program calls.
+#![tactic(auto)]
+
 ghost use Rattle.std.specs.Prelude.{◌≡◌};
 ghost use Rattle.spec.specs.Serve.{serve, check, format, convert};
 ghost use Rattle.nfs3.specs.Answers.{answer_of, clock_of, context_of, Writes, Serves};

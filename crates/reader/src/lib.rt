@@ -1,8 +1,10 @@
 // A reader that borrows the bytes of a call and keeps its place. It is made once for a call, moved past what was read, and handed on; the reading
 // itself is done by functions on the slice and the place.
+#![tactic(auto)]
+
 ghost use Rattle.std.specs.Prelude.{◌≡◌};
 
-#[derive(Drop)]
+#[derive(Clone, Copy)]
 pub struct Reader<'a> {
     pub call: &'a [u8],
     pub at: usize,

@@ -1,5 +1,7 @@
 // The parts of each procedure's results in a reply. The results begin with the status; most go on with attributes that are read from the store,
 // and end with what is written here from numbers alone.
+#![tactic(auto)]
+
 ghost use Rattle.std.specs.Prelude.{◌≡◌, [], ◌∷◌, ◌++◌, ◌+◌, ◌*◌, ◌/◌, ◌%◌, ◌≤◌, length, take};
 ghost use Rattle.kinds.specs.Numbers.{OK, most_file_bytes, most_name_bytes, most_transfer_bytes, most_links, file_sync, file_system_properties};
 ghost use Rattle.spec.specs.Bytes.{words, opaque_bytes, padding};

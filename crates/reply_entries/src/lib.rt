@@ -1,4 +1,6 @@
 // The entries of a directory in a reply.
+#![tactic(auto)]
+
 ghost use Rattle.std.specs.Prelude.{[], ◌∷◌, ◌++◌, ◌≡◌, ◌+◌, ◌*◌, ◌<◌, ◌≤◌, length, take};
 ghost use Rattle.kinds.specs.Numbers.{most_objects, entry_fixed_cost};
 ghost use Rattle.spec.specs.Bytes.{part, overlay, padding, zeros};
@@ -18,7 +20,7 @@ use store_search::name::parent_of;
 use xdr::write::put_word;
 
 // Where the next entry is written, and how many more are sent.
-#[derive(Drop)]
+#[derive(Clone, Copy)]
 pub struct Place {
     pub at: usize,
     pub left: usize,

@@ -1,4 +1,6 @@
 // The bytes of a file in a reply.
+#![tactic(auto)]
+
 ghost use Rattle.std.specs.Prelude.{◌+◌, ◌≤◌, length};
 ghost use Rattle.spec.specs.Bytes.{opaque_bytes, padding};
 ghost use Rattle.spec.specs.Edits.{read_file};

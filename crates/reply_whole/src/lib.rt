@@ -1,2 +1,4 @@
 // The bytes of each reply.
+#![tactic(auto)]
+
 pub mod result; // a whole reply

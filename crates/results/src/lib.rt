@@ -1,30 +1,32 @@
 // What a procedure gives, as a value: the reply is written from it and from the store that the procedure leaves.
+#![tactic(auto)]
+
 use kinds::numbers::{ObjectNumber, Status};
 use kinds::object::Before;
 
 // wcc_data, both parts present: an object's attributes before the call, and the object, whose attributes are shown as they are after it.
-#[derive(Drop)]
+#[derive(Clone, Copy)]
 pub struct ObjectChange {
     pub before: Before,
     pub object: ObjectNumber,
 }
 
 // wcc_data: present exactly where its handle is live.
-#[derive(Drop)]
+#[derive(Clone, Copy)]
 pub enum HandleChange {
     Absent,
     Present(ObjectChange),
 }
 
 // post_op_attr: present exactly where its handle is live.
-#[derive(Drop)]
+#[derive(Clone, Copy)]
 pub enum HandleObject {
     Absent,
     Present(ObjectNumber),
 }
 
 // An object number stands for the attributes of the object in the store.
-#[derive(Drop)]
+#[derive(Clone, Copy)]
 pub enum Reply {
     Null,
     // A failure with no live handle.

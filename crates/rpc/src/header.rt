@@ -19,7 +19,7 @@ const TYPE_START: usize = 4;
 
 const TYPE_END: usize = 8;
 
-#[derive(Drop)]
+#[derive(Clone, Copy)]
 pub enum CredentialRead {
     Got(Credential, Cursor),
     Bad(usize),
@@ -37,7 +37,7 @@ impl CredentialRead {
     }
 }
 
-#[derive(Drop)]
+#[derive(Clone, Copy)]
 pub enum HeaderRead {
     Got(Header, Cursor),
     Bad(usize),

@@ -9,7 +9,7 @@ use kinds::numbers::{Message, Procedure};
 use xdr::write::put_words;
 
 // A program: its number, its lowest and highest version, and its last procedure.
-#[derive(Drop)]
+#[derive(Clone, Copy)]
 pub struct Program {
     pub number: u32,
     pub lowest: u32,
@@ -31,7 +31,7 @@ impl Program {
     }
 }
 
-#[derive(Drop)]
+#[derive(Clone, Copy)]
 pub enum Judged {
     Runs,
     Stopped(u32),

@@ -1,4 +1,6 @@
 // The attributes of an object, as replies show them.
+#![tactic(auto)]
+
 ghost use Rattle.std.specs.Prelude.{◌≡◌, ◌<◌};
 ghost use Rattle.spec.specs.Image.{objects};
 ghost use Rattle.spec.specs.Handles.{size_attribute, used_bytes, link_count, attributes, before};

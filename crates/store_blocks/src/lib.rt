@@ -1,4 +1,6 @@
 // Free blocks, by a map of those that are used.
+#![tactic(auto)]
+
 ghost use Rattle.std.specs.Prelude.{◌≡◌, ◌+◌, ◌<◌, ◌≤◌, eqb};
 ghost use Rattle.kinds.specs.BlockNumbers.{numbers_of};
 ghost use Rattle.kinds.specs.Numbers.{file_blocks};

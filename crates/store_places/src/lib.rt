@@ -1,4 +1,6 @@
 // Where records and blocks start, by the counts of a store, and how many blocks a size needs.
+#![tactic(auto)]
+
 ghost use Rattle.std.specs.Prelude.{◌≡◌, ◌+◌, ◌*◌, ◌≤◌, ◌<◌};
 ghost use Rattle.kinds.specs.Layout.{names_head, blocks_head, object_length, name_record_length, block_length};
 ghost use Rattle.kinds.specs.Numbers.{most_file_bytes};

@@ -4,13 +4,13 @@ ghost use Rattle.spec.specs.Count.{bit};
 
 use kinds::numbers::{NameNumber, ObjectNumber};
 
-#[derive(Drop)]
+#[derive(Clone, Copy)]
 pub enum FoundObject {
     At(ObjectNumber),
     Nothing,
 }
 
-#[derive(Drop)]
+#[derive(Clone, Copy)]
 pub enum FoundName {
     At(NameNumber),
     Nothing,

@@ -16,7 +16,7 @@ use store_records::counts::{name_count, names_start};
 use wire::Compared;
 
 // What a search found, and how many byte pairs it compared.
-#[derive(Drop)]
+#[derive(Clone, Copy)]
 pub struct Search {
     pub found: FoundName,
     pub compared: usize,

@@ -56,7 +56,7 @@ pub fn wide(x: u8) -> u32
 }
 
 // The two lanes of a digest.
-#[derive(Drop)]
+#[derive(Clone, Copy)]
 pub struct Lanes {
     pub first: u32,
     pub second: u32,

@@ -1,4 +1,6 @@
 // The file of vectors: its rows, what is compared after a step, and what is printed.
+#![tactic(auto)]
+
 pub mod tags; // what the rows name
 pub mod numbers; // the table of numbers
 pub mod buffers; // filling, comparing, and the digest of a buffer

@@ -9,7 +9,7 @@ use crate::tags::Tag;
 // The byte of a new store.
 const STORE_BYTE: u8 = 0xA5;
 
-#[derive(Drop)]
+#[derive(Clone, Copy)]
 pub struct Row {
     pub tag: usize,
     pub word: u32,

@@ -1,5 +1,5 @@
 // What the rows of the file name. A row is a tag of one byte and a word of four; the table of numbers has a place for every tag.
-#[derive(Drop)]
+#[derive(Clone, Copy)]
 pub struct Tag(pub usize);
 
 impl Tag {

@@ -1,6 +1,8 @@
 // Runs the steps of the files `vectors`, `searches` and `mounts` through the entries of the libraries and the search for a name, and prints a line for each
 // thing that differs, the counts, and what the searches of a table found. The files in `data` and `stdout` are what the independent program in `peer`
 // wrote (`peer/README.md`).
+#![tactic(auto)]
+
 mod entries;
 mod search;
 

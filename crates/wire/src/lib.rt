@@ -1,4 +1,6 @@
 // Big-endian numbers in byte slices; bytes copied, cleared, compared and tested for zero; the smaller and the larger of two numbers.
+#![tactic(auto)]
+
 ghost use Rattle.std.specs.Prelude.{◌≡◌, ◌+◌, ◌<◌, ◌≤◌, min, max, reverse, length, replicate};
 ghost use Rattle.spec.specs.Bytes.{be_at, overlay, bytes_of, part, same_bytes, pairs};
 ghost use Rattle.spec.specs.Check.{is_zero};
@@ -178,7 +180,7 @@ pub fn is_zero(s: &[u8], at: usize, n: usize) -> bool
 }
 
 // What a comparison of bytes says: how many pairs were compared, and whether all bytes are the same.
-#[derive(Drop)]
+#[derive(Clone, Copy)]
 pub struct Compared {
     pub pairs: usize,
     pub same: bool,
