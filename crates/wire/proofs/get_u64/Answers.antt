@@ -1,0 +1,6 @@
+use Rattle.std.proofs.Common.{arith, rules}
+use Rattle.laws.proofs.Bytes.{be_add}
+use Rattle.wire.proofs.get_u64.Goals as goal
+
+pub returns : goal.returns
+returns c = omega (arith, be_add c.args.s.now c.args.at 4 4 c.requires)

@@ -1,0 +1,16 @@
+use borrow.Author.Tests.{le-leb, lt-leb}
+use borrow.Author.Rules.{rules}
+use Rattle.spec.specs.Xdr.{choice}
+use Rattle.xdr.proofs.read.choice.Goals as goal
+
+pub returns-in_default : goal.returns-in_default
+unfolding choice
+returns-in_default c = rw (← c.word.ensures, c.enum_told-1.given.1)
+
+pub returns-then-n-top : goal.returns-then-n-top
+unfolding choice
+returns-then-n-top c = rw (← c.word.ensures, c.n-1.given.1, le-leb _ _ c.if-n-top.true)
+
+pub returns-else-n-top : goal.returns-else-n-top
+unfolding choice
+returns-else-n-top c = rw (← c.word.ensures, c.n-1.given.1, lt-leb _ _ c.if-n-top.false)

@@ -1,0 +1,27 @@
+use mathlib.Core.Path.{sym, ap, ◌∙◌}
+use native.Mathlib.Omega.{arith}
+use borrow.Author.Rules.{rules}
+use Rattle.kinds.specs.Reading.{part_of}
+use Rattle.spec.specs.Xdr.{long}
+use Rattle.xdr.proofs.Fields.{number_by_bytes, bytes_fit}
+use Rattle.xdr.proofs.read.long.Goals as goal
+
+)
+
+
+pub returns-in_default : goal.returns-in_default
+unfolding long
+returns-in_default c = let a = c.args in rw
+    (c.place.ensures, number_by_bytes 8 a.s.now a.c.at, ← c.bytes-answer.ensures, c.enum_told-1.given.1)
+
+pub get_u64-requires : goal.get_u64-requires
+get_u64-requires c = let a = c.args in omega
+    (arith, bytes_fit 8 a.s.now a.c.at _ _ (sym c.bytes-answer.ensures ∙ ap part_of c.answer-1.given.1))
+
+pub returns : goal.returns
+unfolding long
+returns c = let a = c.args in rw (
+  number_by_bytes 8 a.s.now a.c.at,
+  ← c.bytes-answer.ensures,
+  c.answer-1.given.1,
+  c.get_u64.ensures,
