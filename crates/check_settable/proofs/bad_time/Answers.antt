@@ -2,4 +2,4 @@ use borrow.Author.Rules.{rules}
 use Rattle.check_settable.proofs.bad_time.Goals as goal
 
 pub returns-in-ToClient : goal.returns-in-ToClient
-returns-in-ToClient c = rw c.time-1.given.1
+returns-in-ToClient c = rw c.in-ToClient.is

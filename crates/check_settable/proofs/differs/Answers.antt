@@ -2,4 +2,4 @@ use borrow.Author.Rules.{rules}
 use Rattle.check_settable.proofs.differs.Goals as goal
 
 pub returns-in-Ctime : goal.returns-in-Ctime
-returns-in-Ctime c = rw (c.guard-1.given.1, c.same_time.ensures)
+returns-in-Ctime c = rw (c.in-Ctime.is, c.same_time.ensures)

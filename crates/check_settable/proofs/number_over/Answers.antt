@@ -2,4 +2,4 @@ use borrow.Author.Rules.{rules}
 use Rattle.check_settable.proofs.number_over.Goals as goal
 
 pub returns-in-To : goal.returns-in-To
-returns-in-To c = rw c.number-1.given.1
+returns-in-To c = rw c.in-To.is

@@ -12,26 +12,26 @@ use Rattle.xdr.proofs.read.opaque.Goals as goal
 
 pub returns-in_default : goal.returns-in_default
 unfolding opaque
-returns-in_default c = rw (← c.word.ensures, c.enum_told-1.given.1)
+returns-in_default c = rw (← c.word.ensures, c.in_default.is)
 
 pub returns-then-most-length : goal.returns-then-most-length
 unfolding opaque
-returns-then-most-length c = rw (← c.word.ensures, c.n-1.given.1, lt-leb _ _ c.if-most-length.true)
+returns-then-most-length c = rw (← c.word.ensures, c.in-Got.is, lt-leb _ _ c.if-most-length.true)
 
 pub returns-in_default-bytes : goal.returns-in_default-bytes
 unfolding opaque
 returns-in_default-bytes c = let a = c.args in
     let s = a.s.now in
-    let n = c.n-1.given.0.0 in
-    let at = c.n-1.given.0.1.0.at in
+    let n = c.in-Got.n in
+    let at = c.in-Got.c1.at in
     let cut : length s < at + (n + padding n) = omega (
       arith,
-      bytes_cut _ s at _ (sym c.bytes.ensures ∙ ap part_of c.enum_told-in_default-bytes-1.given.1),
+      bytes_cut _ s at _ (sym c.bytes.ensures ∙ ap part_of c.in_default-bytes.is),
       c.padding-rest.ensures,
     ) in
     rw (
       ← c.word.ensures,
-      c.n-1.given.1,
+      c.in-Got.is,
       le-leb _ _ c.if-most-length.false,
     )
     (sym (padded_cut n (padding n) s at a.c.at cut))
@@ -40,22 +40,22 @@ pub returns : goal.returns
 unfolding opaque
 returns c = let a = c.args in
     let s = a.s.now in
-    let n = c.n-1.given.0.0 in
-    let at = c.n-1.given.0.1.0.at in
+    let n = c.in-Got.n in
+    let at = c.in-Got.c1.at in
     let fits : at + (n + padding n) ≤ length s = omega (
       arith,
-      bytes_fit _ s at _ _ (sym c.bytes.ensures ∙ ap part_of c.next-1.given.1),
+      bytes_fit _ s at _ _ (sym c.bytes.ensures ∙ ap part_of c.in-Got-bytes.is),
       c.padding-rest.ensures,
     ) in
-    let behind : c.next-1.given.0.1.0.at ≡ at + (n + padding n) =
+    let behind : c.in-Got-bytes.next.at ≡ at + (n + padding n) =
     omega (
       arith,
-      bytes_next _ s at _ _ (sym c.bytes.ensures ∙ ap part_of c.next-1.given.1),
+      bytes_next _ s at _ _ (sym c.bytes.ensures ∙ ap part_of c.in-Got-bytes.is),
       c.padding-rest.ensures,
     ) in
     rw (
       ← c.word.ensures,
-      c.n-1.given.1,
+      c.in-Got.is,
       le-leb _ _ c.if-most-length.false,
       padded_fits n (padding n) s at fits,
       behind,

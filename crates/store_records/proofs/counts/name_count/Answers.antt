@@ -1,0 +1,7 @@
+use Rattle.spec.specs.Image.{names}
+use borrow.Author.Rules.{rules}
+use Rattle.store_records.proofs.counts.name_count.Goals as goal
+
+pub returns : goal.returns
+unfolding names
+returns c = rw (c.get_u32.ensures, c.object_count-p.ensures)

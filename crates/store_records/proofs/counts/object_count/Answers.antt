@@ -1,0 +1,7 @@
+use Rattle.spec.specs.Image.{objects}
+use borrow.Author.Rules.{rules}
+use Rattle.store_records.proofs.counts.object_count.Goals as goal
+
+pub returns : goal.returns
+unfolding objects
+returns c = c.get_u32.ensures

@@ -1,0 +1,15 @@
+use borrow.Author.Rules.{rules}
+use native.Mathlib.Omega.{arith}
+use mathlib.Core.Path.{◌≡◌, refl}
+use Prim.Native.Nat.{◌-◌, ◌≤◌, zero-le}
+use lib.ListN.{length, take, length-set}
+use Rattle.kinds.specs.BlockNumbers.{numbers_of}
+use Rattle.kinds.specs.Numbers.{file_blocks}
+use Rattle.store_records.proofs.Numbered.{numbers_next, numbers_all}
+use Rattle.store_records.proofs.object.block_numbers.Given as goal
+
+abbrev pub invariant-loop-k : goal.invariant-loop-k
+invariant-loop-k l = (l.k ≤ file_blocks) × (length l.numbers ≡ file_blocks) × (length l.blocks ≡ file_blocks) × (take l.k (numbers_of l.blocks) ≡ take l.k l.numbers)
+
+abbrev pub decreases-loop-k : goal.decreases-loop-k
+decreases-loop-k l = file_blocks - l.k

@@ -1,0 +1,7 @@
+use Rattle.spec.specs.Image.{object_at, object_from}
+use borrow.Author.Rules.{rules}
+use Rattle.store_records.proofs.object.exclusive_of.Goals as goal
+
+pub returns : goal.returns
+unfolding object_at object_from
+returns c = rw (c.get_u32.ensures, c.object_start-at.ensures)

@@ -1,0 +1,8 @@
+use Rattle.spec.specs.Image.{object_at, object_from}
+use Rattle.spec.specs.Room.{size_of}
+use borrow.Author.Rules.{rules}
+use Rattle.store_records.proofs.object.size_of.Goals as goal
+
+pub returns : goal.returns
+unfolding size_of object_at object_from
+returns c = rw (c.get_u32.ensures, c.object_start-at.ensures)
