@@ -1,0 +1,25 @@
+use mathlib.Core.Path.{subst}
+use borrow.Author.Rules.{rules}
+use Rattle.spec.specs.Arguments.{arguments}
+use Rattle.call_arguments.specs.First.{Begins}
+use Rattle.call_arguments.proofs.arguments_at.Goals as goal
+
+pub of_handle-requires : goal.of_handle-requires
+of_handle-requires c = subst (Begins _) c.in-Handle.is c.first_of.ensures
+
+pub of_name-requires : goal.of_name-requires
+of_name-requires c = subst (Begins _) c.in-Name.is c.first_of.ensures
+
+pub returns-in-Nothing : goal.returns-in-Nothing
+unfolding arguments
+returns-in-Nothing c = rw (c.null.ensures, subst (Begins _) c.in-Nothing.is c.first_of.ensures)
+
+pub returns-in-Handle : goal.returns-in-Handle
+returns-in-Handle c = c.of_handle.ensures
+
+pub returns-in-Name : goal.returns-in-Name
+returns-in-Name c = c.of_name.ensures
+
+pub returns-in-Unread : goal.returns-in-Unread
+unfolding arguments
+returns-in-Unread c = rw (c.unserved.ensures, subst (Begins _) c.in-Unread.is c.first_of.ensures)

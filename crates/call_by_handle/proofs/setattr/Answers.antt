@@ -1,0 +1,23 @@
+use borrow.Author.Rules.{rules}
+use Rattle.call_by_handle.proofs.setattr.Goals as goal
+
+pub returns-in_default : goal.returns-in_default
+returns-in_default c = rw (c.place.ensures, ← c.settable-answer.ensures, c.in_default.is)
+
+pub returns-in_default-answer : goal.returns-in_default-answer
+returns-in_default-answer c = rw (
+  c.place-in_default-answer.ensures,
+  ← c.settable-answer.ensures,
+  c.in-Got.is,
+  ← c.guard-answer.ensures,
+  c.in_default-answer.is,
+)
+
+pub returns : goal.returns
+returns c = rw (
+  c.finish.ensures,
+  ← c.settable-answer.ensures,
+  c.in-Got.is,
+  ← c.guard-answer.ensures,
+  c.in-Got-answer.is,
+)

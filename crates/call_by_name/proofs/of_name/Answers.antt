@@ -1,0 +1,66 @@
+use mathlib.Core.Path.{sym, ap, ◌∙◌}
+use borrow.Author.Rules.{rules}
+use Rattle.call_types.specs.Reading.{name_in_of}
+use Rattle.spec.specs.Arguments.{form, arguments}
+use Rattle.call_by_name.proofs.First.{refused, last}
+use Rattle.call_by_name.proofs.of_name.Goals as goal
+
+pub returns-in_default : goal.returns-in_default
+unfolding arguments
+returns-in_default c = rw (c.place.ensures, c.in_default.is)
+    (refused (form c.args.procedure) c.requires c.args.s.now c.args.c.at _
+    (sym c.name_in-answer.ensures ∙ ap name_in_of c.in_default.is))
+
+pub returns-in-3 : goal.returns-in-3
+unfolding arguments form
+returns-in-3 c = rw (
+  c.in-3.is,
+  c.finish.ensures,
+  ← c.name_in-answer.ensures,
+  c.in-Got.is,
+)
+
+pub returns-in-8 : goal.returns-in-8
+unfolding arguments form
+returns-in-8 c = rw (
+  c.in-8.is,
+  c.create.ensures,
+  ← c.name_in-answer.ensures,
+  c.in-Got.is,
+)
+
+pub returns-in-9 : goal.returns-in-9
+unfolding arguments form
+returns-in-9 c = rw (
+  c.in-9.is,
+  c.mkdir.ensures,
+  ← c.name_in-answer.ensures,
+  c.in-Got.is,
+)
+
+pub returns-in-12 : goal.returns-in-12
+unfolding arguments form
+returns-in-12 c = rw (
+  c.in-12.is,
+  c.finish-in-12.ensures,
+  ← c.name_in-answer.ensures,
+  c.in-Got.is,
+)
+
+pub returns-in-13 : goal.returns-in-13
+unfolding arguments form
+returns-in-13 c = rw (
+  c.in-13.is,
+  c.finish-in-13.ensures,
+  ← c.name_in-answer.ensures,
+  c.in-Got.is,
+)
+
+pub returns-in_default-procedure : goal.returns-in_default-procedure
+unfolding arguments
+returns-in_default-procedure c = rw (
+  last c.args.procedure c.requires c.in_default-procedure.in_default-procedure-own.rest,
+  c.rename.ensures,
+  ← c.name_in-answer.ensures,
+  c.in-Got.is,
+)

@@ -1,0 +1,32 @@
+use borrow.Author.Rules.{rules}
+use Rattle.spec.specs.Arguments.{set_size}
+use Rattle.call_types.proofs.types.set_size.Goals as goal
+
+pub returns-in_default : goal.returns-in_default
+unfolding set_size
+returns-in_default c = rw (c.place.ensures, ← c.flag-answer.ensures, c.in_default.is)
+
+pub returns-in_default-answer : goal.returns-in_default-answer
+unfolding set_size
+returns-in_default-answer c = rw (
+  c.place-in_default-answer.ensures,
+  ← c.flag-answer.ensures,
+  c.in-Got.is,
+  c.if-given.true,
+  ← c.long-answer.ensures,
+  c.in_default-answer.is,
+)
+
+pub returns-in-Got-answer : goal.returns-in-Got-answer
+unfolding set_size
+returns-in-Got-answer c = rw (
+  ← c.flag-answer.ensures,
+  c.in-Got.is,
+  c.if-given.true,
+  ← c.long-answer.ensures,
+  c.in-Got-answer.is,
+)
+
+pub returns-else-given : goal.returns-else-given
+unfolding set_size
+returns-else-given c = rw (← c.flag-answer.ensures, c.in-Got.is, c.if-given.false)

@@ -1,0 +1,7 @@
+use borrow.Author.Rules.{rules}
+use Rattle.spec.specs.Arguments.{unbounded}
+use Rattle.call_types.proofs.types.unbounded.Goals as goal
+
+pub returns : goal.returns
+unfolding unbounded
+returns c = rw (← c.opaque.ensures)

@@ -1,0 +1,18 @@
+use Prim.Native.Nat.{◌-◌, ◌≤◌}
+use mathlib.Core.Path.{◌≡◌, refl}
+use native.Mathlib.Omega.{arith}
+use borrow.Author.Rules.{rules}
+use lib.ListN.{length}
+use Rattle.kinds.specs.BlockNumbers.{numbers_of}
+use Rattle.kinds.specs.Numbers.{file_blocks}
+use Rattle.spec.specs.Bytes.{part}
+use Rattle.spec.specs.Edits.{clear_blocks}
+use Rattle.store_records.proofs.Numbered.{numbers_length, numbers_at}
+use Rattle.edit_data.proofs.ClearedBlocks.{cleared_shape, next_fits, cleared_next}
+use Rattle.edit_data.proofs.clear_blocks.Given as goal
+
+abbrev pub invariant-loop-k : goal.invariant-loop-k
+invariant-loop-k l = (length l.list ≡ file_blocks) × (l.start ≤ l.k) × (l.k ≤ l.end) × (l.store ≡ clear_blocks l.initial.store (part (numbers_of l.list) l.start (l.k - l.start)))
+
+abbrev pub decreases-loop-k : goal.decreases-loop-k
+decreases-loop-k l = l.end - l.k

@@ -1,0 +1,16 @@
+use mathlib.Core.Bool.{◌&&◌}
+use Rattle.spec.specs.Count.{count, sum}
+use Rattle.spec.specs.Image.{names, name_start, name_at}
+use Rattle.spec.specs.Room.{is_in, is_directory, subdirectories}
+use Rattle.laws.proofs.Count.{count_more}
+use borrow.Author.Rules.{rules}
+use native.Mathlib.Omega.{arith}
+use mathlib.Core.Path.{◌≡◌, refl}
+use Prim.Native.Nat.{◌-◌, ◌≤◌, zero-le}
+use Rattle.store_search.proofs.name.subdirectory_count.Given as goal
+
+abbrev pub invariant-loop-i : goal.invariant-loop-i
+invariant-loop-i l = (l.i ≤ l.total) × (l.at ≡ name_start l.store l.i) × (l.found ≤ l.i) × (l.found ≡ count l.i (λ n. is_in l.store l.directory.0 n && is_directory l.store (name_at l.store n).child))
+
+abbrev pub decreases-loop-i : goal.decreases-loop-i
+decreases-loop-i l = l.total - l.i

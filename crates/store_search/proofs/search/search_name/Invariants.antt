@@ -1,0 +1,21 @@
+use mathlib.Core.Option.{none}
+use mathlib.Core.Path.{◌≡◌, refl, sym, ◌∙◌}
+use Prim.Native.Nat.{◌-◌, ◌*◌, ◌≤◌, zero-le}
+use native.Mathlib.Omega.{arith}
+use Rattle.spec.specs.Count.{sum, lowest, passing}
+use Rattle.spec.specs.Image.{names, name_start}
+use Rattle.spec.specs.Room.{is_named, find_name, compared_at, compared}
+use Rattle.laws.proofs.Bytes.{part_length}
+use Rattle.laws.proofs.Count.{sum_more, lowest_more, lowest_hit}
+use Rattle.store_records.specs.Text.{text_of}
+use Rattle.laws.proofs.SearchCost.{compared_bound}
+use Rattle.store_search.proofs.Named.{empty_name}
+use borrow.Author.Rules.{rules}
+use Rattle.store_search.proofs.search.search_name.Given as goal
+
+abbrev pub invariant-loop-i : goal.invariant-loop-i
+invariant-loop-i l = (l.i ≤ l.total) × (l.at ≡ name_start l.store l.i) × (l.compared ≤ 32 * l.i) × (lowest l.i (is_named l.store l.directory.0 (text_of l.call l.name)) ≡ none)
+    × (l.compared ≡ sum l.i (compared_at l.store l.directory.0 (text_of l.call l.name)))
+
+abbrev pub decreases-loop-i : goal.decreases-loop-i
+decreases-loop-i l = l.total - l.i
