@@ -10,19 +10,12 @@ use Rattle.edit_attributes.proofs.Kept.{owner_length, owner_size, attributes_wri
 use borrow.Author.Rules.{rules}
 use Rattle.edit_attributes.proofs.set_attributes.Goals as goal
 
---FAIL a bare place st
 pub overflow_add-at : goal.overflow_add-at
-overflow_add-at c = let after-number-set2 = c.before.before.before.before.before.before.before.before.before.before.before.before in
-    let start = after-number-set2.before.before.before.before.before.before.before in
-    let st = start in omega (arith, c.before.object-start.ensures, st.requires, st)
+overflow_add-at c = omega (arith, c.object_start-at.ensures, c.requires)
 
---FAIL a bare place st
 pub overflow_add-at-2 : goal.overflow_add-at-2
-overflow_add-at-2 c = let after-object-start = c.before.before.before.before.before in
-    let after-uid-of = after-object-start.before.before.before.before.before.before.before.before.before.before.before.before in
-    let start = after-uid-of.before.before.before.before.before.before in
-    let st = start in omega
-    (arith, after-object-start.object-start.ensures, st.requires, st)
+overflow_add-at-2 c = omega
+    (arith, c.object_start-at.ensures, c.requires)
 
 pub save_times-requires : goal.save_times-requires
 save_times-requires c = let s = c.args.store.now in

@@ -1,4 +1,3 @@
-use mathlib.Core.Logic.{⊎_elim}
 use lib.ListN.{length, length-set}
 use Rattle.kinds.specs.BlockNumbers.{numbers_of}
 use Rattle.kinds.specs.Numbers.{file_blocks}
@@ -12,6 +11,7 @@ use native.Mathlib.Omega.{arith}
 use mathlib.Core.Path.{◌≡◌, refl, sym, ap, ◌∙◌}
 use Prim.Native.Nat.{◌-◌, ◌≤◌, zero-le}
 use Rattle.store_blocks.proofs.free_blocks.Goals as goal
+use Rattle.store_blocks.proofs.free_blocks.Goals.{then-is_free_block, else-is_free_block}
 
 pub loop-i-init : goal.loop-i-init
 loop-i-init c = (zero-le, refl, listed_none _ _)
@@ -52,13 +52,19 @@ is_free_block-requires-clause-r_bound c = omega arith
 pub loop-i-preserved : goal.loop-i-preserved
 loop-i-preserved c = let p = is_free_block c.args.store.now in (
   omega arith,
-  ⊎_elim (λ w. rw w.1 (simp length-set c.loop-i.invariant.1)) (λ w. rw w.1 c.loop-i.invariant.1) c.if-is_free_block.branch,
-  ⊎_elim
-      (λ w. listed_hit p c.args.wanted c.loop-i.i c.loop-i.k (numbers_of c.loop-i.list) c.loop-i.invariant.2 _ _ c.requires.wanted_le_file_blocks c.if-k-wanted.false
-      (sym c.is_free_block.ensures ∙ w.0.taken) (ap numbers_of w.1 ∙ numbers_set c.loop-i.list c.loop-i.k (block_of c.loop-i.i)) w.2)
-      (λ w. listed_miss p c.args.wanted c.loop-i.i c.loop-i.k (numbers_of c.loop-i.list) c.loop-i.invariant.2 _ _ (sym c.is_free_block.ensures ∙ w.0.left)
-      (ap numbers_of w.1) w.2)
-      c.if-is_free_block.branch,
+  elim c.if-is_free_block.branch [
+    then-is_free_block w ↦ rw w.list-is (simp length-set c.loop-i.invariant.1)
+    | else-is_free_block w ↦ rw w.list-is c.loop-i.invariant.1
+  ],
+  elim c.if-is_free_block.branch [
+    then-is_free_block w ↦
+        listed_hit p c.args.wanted c.loop-i.i c.loop-i.k (numbers_of c.loop-i.list) c.loop-i.invariant.2 _ _ c.requires.wanted_le_file_blocks
+        c.if-k-wanted.false (sym c.is_free_block.ensures ∙ w.if-is_free_block.true)
+        (ap numbers_of w.list-is ∙ numbers_set c.loop-i.list c.loop-i.k (block_of c.loop-i.i)) w.k-is
+    | else-is_free_block w ↦
+        listed_miss p c.args.wanted c.loop-i.i c.loop-i.k (numbers_of c.loop-i.list) c.loop-i.invariant.2 _ _
+        (sym c.is_free_block.ensures ∙ w.if-is_free_block.false) (ap numbers_of w.list-is) w.k-is
+  ],
 )
 
 pub returns : goal.returns

@@ -27,4 +27,4 @@ returns-else-flag-eq-KEPT_FLAG c = rw (
   ← c.exclusive_of-flag.ensures,
   ne_eqb _ _ c.if-flag-eq-KEPT_FLAG.false,
 )
-    (⊎_elim (λ w. rw w.1.left) (λ w. rw (ne_eqb _ _ w.left, and-false)) c.else-verifier-eq0.branch)
+    (⊎_elim (λ w. rw (ne_eqb c.exclusive_of-flag.result 0 w.1)) (λ w. rw (ne_eqb c.verifier_of-verifier.result 0 w, and-false)) c.else-verifier-eq0.either)

@@ -10,28 +10,6 @@ use Rattle.fsck_objects.proofs.Whole.{fields_need, fields_size, bad_fields, free
 use borrow.Author.Rules.{rules}
 use Rattle.fsck_objects.proofs.object.object_uses.Goals as goal
 
--- the size of a live object with good fields
-small : (c : tie.After-size-of) → c.type_size.result ≤ most_file_bytes
-unfolding size_of
-small c = rw c.type_size.ensures (fields_size _ (sym c.before.before.good-fields.ensures ∙ not-false _ c.before.if3.false))
-
--- what is known of it
-live_at : (c : tie.After-need) → LiveAt c.before.before.before.before.before.before.before.args.store.now
-    c.before.before.before.before.before.before.before.args.o.0 c.need.result
-unfolding size_of
-live_at c =
-    let st = c.before.before.before.before.before.before.before in
-    let f = sym c.before.before.before.good-fields.ensures ∙ not-false _ c.before.before.if3.false in
-    let e = c.need.ensures ∙ ap need c.before.type_size.ensures in
-    record {
-      below = st.requires.1.1.0;
-      live = true_live st.args.store.now st.args.o.0
-          (omega (arith, c.before.before.before.before.if1.false, c.before.before.before.before.before.kind-of.ensures));
-      fields = f;
-      needs = e;
-      most = rw e (fields_need _ f);
-    }
-
 pub returns-then-not-good_free : goal.returns-then-not-good_free
 returns-then-not-good_free c = let a = c.args in
     counted_bad (free_fails a.store.now a.o.0 c.requires.o_bound
@@ -50,14 +28,22 @@ returns-then-not-good_fields c = let a = c.args in
     (true_live a.store.now a.o.0 (omega (arith, c.if-kind_of-eq-FREE.false, c.kind_of.ensures)))
     (sym c.good_fields.ensures ∙ c.if-not-good_fields.true))
 
---FAIL a bare place c
 pub need-count-requires : goal.need-count-requires
-need-count-requires c = small c
+unfolding size_of
+need-count-requires c = rw c.size_of.ensures (fields_size _ (sym c.good_fields.ensures ∙ c.if-not-good_fields.false))
 
---FAIL a bare place c.before
-pub blocks_pass-requires : goal.blocks_pass-requires
-blocks_pass-requires c = let st = c.before.before.before.before.before.before.before.before in
-    (st.requires.0, (st.requires.1.0, (live_at c.before, (st.requires.1.1.1.0, st.requires.1.1.1.1))))
+pub blocks_pass-requires-clause-live_at : goal.blocks_pass-requires-clause-live_at
+unfolding size_of
+blocks_pass-requires-clause-live_at c =
+    let f = sym c.good_fields.ensures ∙ c.if-not-good_fields.false in
+    let e = c.need-count.ensures ∙ ap need c.size_of.ensures in
+    record {
+      below = c.requires.o_bound;
+      live = true_live c.args.store.now c.args.o.0 (omega (arith, c.if-kind_of-eq-FREE.false, c.kind_of.ensures));
+      fields = f;
+      needs = e;
+      most = rw e (fields_need _ f);
+    }
 
 pub returns-then-not-blocks_pass : goal.returns-then-not-blocks_pass
 returns-then-not-blocks_pass c = counted_bad (c.blocks_pass.ensures.no (c.if-not-blocks_pass.true))
