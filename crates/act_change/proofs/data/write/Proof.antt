@@ -2,17 +2,17 @@ use mathlib.Core.Path.{refl, sym, ap, ◌∙◌}
 use borrow.Author.Rules.{rules}
 use Rattle.spec.specs.Procedures.Data.{write}
 use Rattle.spec.specs.Procedures.{cut}
-use Rattle.store_blocks.proofs.Ready.{ready-records}
-use Rattle.check_handles.specs.Meaning.{reachedOf}
-use Rattle.laws.proofs.Passed.{write-passed}
-use Rattle.act_change.proofs.Edited.{few-moved, write-writable, write-left}
+use Rattle.store_blocks.proofs.Ready.{ready_records}
+use Rattle.check_handles.specs.Meaning.{reached_of}
+use Rattle.laws.proofs.Passed.{write_passed}
+use Rattle.act_change.proofs.Edited.{few_moved, write_writable, write_left}
 use Rattle.act_change.proofs.data.write.Statement.{statement}
 use Rattle.act_change.proofs.data.write.Tie as tie
 
 check-write-requires : tie.Need-check-write-requires
 check-write-requires c κs =
     let st = c.before.before.before in
-    let g = ready-records st.requires.0 in
+    let g = ready_records st.requires.0 in
     (g, (st.requires.0.map, (st.requires.1.0, st.requires.1.1)))
 
 enum-known-answer : tie.Need-enum-known-answer
@@ -24,11 +24,11 @@ write-checked-requires c κs =
     let s = st.args.store.now in
     let call = st.args.call.now in
     let bytes = st.args.bytes in
-    let g = ready-records st.requires.0 in
-    let e = sym c.before.before.before.before.check-write.ensures ∙ ap reachedOf c.before.before.answer.given.1 in
-    let p = write-passed s (cut call st.args.h) st.args.offset st.args.count (cut call bytes) _ e in
-    let few = few-moved call bytes st.args.count st.requires.1.1 p.counted in
-    let left = write-left s st.args.context st.requires.0.valid st.requires.0.bytes st.requires.0.clock call
+    let g = ready_records st.requires.0 in
+    let e = sym c.before.before.before.before.check-write.ensures ∙ ap reached_of c.before.before.answer.given.1 in
+    let p = write_passed s (cut call st.args.h) st.args.offset st.args.count (cut call bytes) _ e in
+    let few = few_moved call bytes st.args.count st.requires.1.1 p.counted in
+    let left = write_left s st.args.context st.requires.0.valid st.requires.0.bytes st.requires.0.clock call
     (λ k. (c.before.before.before.before.before.before.shared-slice-known.given k).fits) st.args.h st.args.offset
     st.args.count bytes _ e in (
       g,
@@ -38,7 +38,7 @@ write-checked-requires c κs =
           p.reached.below,
           (
             record {
-              some = write-writable s (cut call st.args.h) st.args.offset st.args.count
+              some = write_writable s (cut call st.args.h) st.args.offset st.args.count
                   (cut call bytes) _ p;
             },
             (st.requires.1.1, (few, left)),
@@ -53,7 +53,7 @@ enum-known-answer-2 c = search rules
 fail-changing-requires : tie.Need-fail-changing-requires
 fail-changing-requires c κs =
     let st = c.before.before.before.before.before.before.before.before in
-    let g = ready-records st.requires.0 in
+    let g = ready_records st.requires.0 in
     (g, st.requires.1.0)
 
 same_length : tie.Need-same-length

@@ -1,7 +1,7 @@
 use borrow.Author.Rules.{rules}
 use Rattle.spec.specs.Handles.{change}
 use Rattle.spec.specs.Procedures.Data.{commit}
-use Rattle.check_handles.proofs.Reach.{regular-reached, regular-showable}
+use Rattle.check_handles.proofs.Reach.{regular_reached, regular_showable}
 use Rattle.act_read.proofs.data.commit.Statement.{statement}
 use Rattle.act_read.proofs.data.commit.Tie as tie
 
@@ -14,7 +14,7 @@ enum-known-answer c = search rules
 unchanged-requires : tie.Need-unchanged-requires
 unchanged-requires c κs =
     let st = c.before.before.before.before.before.before in
-    (st.requires.0, (regular-reached _ _ _ _ c.before.answer.given.1 c.before.before.before.reach-regular.ensures).0.below)
+    (st.requires.0, (regular_reached _ _ _ _ c.before.answer.given.1 c.before.before.before.reach-regular.ensures).0.below)
 
 enum-known-answer-2 : tie.Need-enum-known-answer-2
 enum-known-answer-2 c = search rules
@@ -27,7 +27,7 @@ unfolding commit change
 returns c =
     let st = c.before.before.before.before.before.before.before in (
       rw (c.unchanged.ensures, ← c.before.before.before.before.reach-regular.ensures, c.before.before.answer.given.1),
-      rw c.unchanged.ensures (regular-showable _ _ _ _ c.before.before.answer.given.1 st.requires.0
+      rw c.unchanged.ensures (regular_showable _ _ _ _ c.before.before.answer.given.1 st.requires.0
           c.before.before.before.before.reach-regular.ensures),
     )
 

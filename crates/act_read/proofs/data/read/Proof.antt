@@ -1,6 +1,6 @@
 use borrow.Author.Rules.{rules}
 use Rattle.spec.specs.Procedures.Data.{read}
-use Rattle.check_handles.proofs.Reach.{regular-reached}
+use Rattle.check_handles.proofs.Reach.{regular_reached}
 use Rattle.act_read.proofs.data.read.Statement.{statement}
 use Rattle.act_read.proofs.data.read.Tie as tie
 
@@ -13,7 +13,7 @@ enum-known-answer c = search rules
 read-result-requires : tie.Need-read-result-requires
 read-result-requires c κs =
     let st = c.before.before.before.before.before.before in
-    (st.requires.0, (regular-reached _ _ _ _ c.before.answer.given.1 c.before.before.before.reach-regular.ensures).0.below)
+    (st.requires.0, (regular_reached _ _ _ _ c.before.answer.given.1 c.before.before.before.reach-regular.ensures).0.below)
 
 enum-known-answer-2 : tie.Need-enum-known-answer-2
 enum-known-answer-2 c = search rules

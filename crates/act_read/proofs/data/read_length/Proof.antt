@@ -1,6 +1,6 @@
 use native.Mathlib.Omega.{arith}
 use borrow.Author.Rules.{rules}
-use Rattle.spec.specs.Procedures.Data.{readLength}
+use Rattle.spec.specs.Procedures.Data.{read_length}
 use Rattle.act_read.proofs.data.read_length.Statement.{statement}
 use Rattle.act_read.proofs.data.read_length.Tie as tie
 
@@ -11,7 +11,7 @@ cast-size : tie.Need-cast-size
 cast-size c = search rules
 
 returns : tie.Need-returns
-unfolding readLength
+unfolding read_length
 returns c = omega arith
 
 smaller-requires : tie.Need-smaller-requires
@@ -24,7 +24,7 @@ smaller-requires-2 : tie.Need-smaller-requires-2
 smaller-requires-2 c κs = search rules
 
 returns-2 : tie.Need-returns-2
-unfolding readLength
+unfolding read_length
 returns-2 c = omega arith
 
 pub read-length-spec : {M : Type 1} → statement M

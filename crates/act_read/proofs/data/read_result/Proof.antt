@@ -1,6 +1,6 @@
 use native.Mathlib.Omega.{arith}
 use borrow.Author.Rules.{rules}
-use Rattle.spec.specs.Procedures.Data.{readLength, readResult}
+use Rattle.spec.specs.Procedures.Data.{read_length, read_result}
 use Rattle.store_records.proofs.Good.{size_few}
 use Rattle.act_read.proofs.Writable.{readable}
 use Rattle.act_read.proofs.data.read_result.Statement.{statement}
@@ -16,11 +16,11 @@ cast-size : tie.Need-overflow-cast-size
 cast-size c = search rules
 
 add-eof : tie.Need-overflow-add-eof
-unfolding readLength
+unfolding read_length
 add-eof c = let st = c.before.before.before in omega (arith, size_few st.args.store.now st.requires.0 st.args.o.0 st.requires.1)
 
 returns : tie.Need-returns
-unfolding readResult
+unfolding read_result
 returns c =
     let st = c.before.before.before in (
       rw (← c.type_size.ensures, ← c.before.read_length.ensures),

@@ -1,0 +1,17 @@
+use Prim.Native.Nat.{◌≤◌, ◌-◌, zero-le}
+use mathlib.Core.Bool.{false}
+use mathlib.Core.Path.{◌≡◌, refl, sym, ◌∙◌}
+use native.Mathlib.Omega.{arith}
+use borrow.Author.Rules.{rules}
+use Rattle.laws.proofs.Count.{some_more, some_hit}
+use Rattle.spec.specs.Room.{is_in}
+use Rattle.spec.specs.Procedures.Removal.{has_entries}
+use Rattle.spec.specs.Image.{names}
+use Rattle.spec.specs.Count.{some_below}
+use Rattle.check_tree.proofs.has_entries.Given as goal
+
+abbrev pub invariant-loop-i : goal.invariant-loop-i
+invariant-loop-i l = (l.i ≤ l.total) × (some_below l.i (is_in l.store l.directory.0) ≡ false)
+
+abbrev pub decreases-loop-i : goal.decreases-loop-i
+decreases-loop-i l = l.total - l.i

@@ -1,0 +1,38 @@
+use borrow.Author.Rules.{rules}
+use native.Mathlib.Omega.{arith}
+use Prim.Native.Nat.{◌-◌, ◌≤◌, zero-le}
+use mathlib.Core.Logic.{⊎_elim}
+use mathlib.Core.Path.{◌≡◌, refl, ap, ◌∙◌}
+use lib.ListN.{length, length-set}
+use Rattle.kinds.specs.BlockNumbers.{numbers_of}
+use Rattle.kinds.specs.Numbers.{file_blocks}
+use Rattle.store_records.proofs.Numbered.{numbers_length}
+use Rattle.edit_size.proofs.ResizedNumbers.{block_put, numbers_to, own_next, added_next, numbers_all}
+use Rattle.edit_size.proofs.size.resized_blocks.Goals as goal
+
+pub loop-k-init : goal.loop-k-init
+loop-k-init c = (zero-le, search rules, search rules, refl, refl)
+
+pub loop-k-preserved : goal.loop-k-preserved
+loop-k-preserved c = let a = c.args in
+    let own = numbers_of a.own in
+    let added = numbers_of a.added in
+    let p = numbers_length a.own ∙ c.loop-k.invariant.1 in
+    let q = numbers_length a.added ∙ c.loop-k.invariant.2 in (
+      omega arith,
+      c.loop-k.invariant.1,
+      c.loop-k.invariant.2,
+      ⊎_elim (λ w. rw w.2 (simp length-set c.loop-k.invariant.3)) (λ w. rw w.2 (simp length-set c.loop-k.invariant.3)) c.if-k-before.branch,
+      ⊎_elim
+          (λ w. ap numbers_of w.2 ∙ block_put c.loop-k.list a.own c.loop-k.k c.loop-k.k
+          ∙ own_next own added a.before a.after c.requires.before_le_file_blocks c.requires.after_le_file_blocks p q c.loop-k.k (numbers_of c.loop-k.list) (omega arith) w.0.taken c.loop-k.invariant.4)
+          (λ w. ap numbers_of w.2 ∙ block_put c.loop-k.list a.added c.loop-k.k (c.loop-k.k - a.before)
+          ∙ added_next own added a.before a.after c.requires.before_le_file_blocks c.requires.after_le_file_blocks p q c.loop-k.k (numbers_of c.loop-k.list) (omega arith) w.0.left c.loop-k.invariant.4)
+          c.if-k-before.branch,
+    )
+
+pub returns : goal.returns
+returns c = let a = c.args in
+    let e : c.loop-k.k ≡ a.after = omega arith in
+    (rw e at c.loop-k.invariant.4) ∙ numbers_all (numbers_of a.own) (numbers_of a.added) a.before a.after c.requires.before_le_file_blocks c.requires.after_le_file_blocks
+    (numbers_length a.own ∙ c.loop-k.invariant.1) (numbers_length a.added ∙ c.loop-k.invariant.2)

@@ -1,0 +1,18 @@
+use borrow.Author.Rules.{rules}
+use native.Mathlib.Omega.{arith}
+use Prim.Native.Nat.{◌-◌, ◌≤◌, zero-le}
+use mathlib.Core.Logic.{⊎_elim}
+use mathlib.Core.Path.{◌≡◌, refl, ap, ◌∙◌}
+use lib.ListN.{length, length-set}
+use Rattle.kinds.specs.BlockNumbers.{numbers_of}
+use Rattle.kinds.specs.Numbers.{file_blocks}
+use Rattle.store_records.proofs.Numbered.{numbers_length}
+use Rattle.edit_size.proofs.ResizedNumbers.{block_put, numbers_to, own_next, added_next, numbers_all}
+use Rattle.edit_size.proofs.size.resized_blocks.Given as goal
+
+abbrev pub invariant-loop-k : goal.invariant-loop-k
+invariant-loop-k l = (l.k ≤ l.after) × (length l.own ≡ file_blocks) × (length l.added ≡ file_blocks) × (length l.list ≡ file_blocks)
+    × (numbers_of l.list ≡ numbers_to (numbers_of l.own) (numbers_of l.added) l.before l.after l.k)
+
+abbrev pub decreases-loop-k : goal.decreases-loop-k
+decreases-loop-k l = l.after - l.k

@@ -1,0 +1,52 @@
+use native.Mathlib.Omega.{arith}
+use mathlib.Core.Path.{◌≡◌, refl}
+use Prim.Native.Nat.{◌+◌, ◌-◌, ◌*◌, ◌≤◌, zero-le}
+use lib.ListN.{get_or}
+use Rattle.spec.specs.Count.{sum}
+use Rattle.fsck_blocks.proofs.Places.{sum_split, marks_from}
+use borrow.Author.Rules.{rules}
+use Rattle.fsck_blocks.proofs.objects.marked.Goals as goal
+
+pub loop-at-init : goal.loop-at-init
+unfolding sum
+loop-at-init c = (zero-le, zero-le, refl)
+
+pub sum_part-requires-clause-n_bound : goal.sum_part-requires-clause-n_bound
+sum_part-requires-clause-n_bound c = omega arith
+
+pub sum_part-requires-clause-n_bound_2 : goal.sum_part-requires-clause-n_bound_2
+sum_part-requires-clause-n_bound_2 c = omega arith
+
+pub sum_part-requires-clause-are_marks : goal.sum_part-requires-clause-are_marks
+sum_part-requires-clause-are_marks c = marks_from c.requires.are_marks c.loop-at.at _ (omega arith)
+
+pub overflow_cast-total : goal.overflow_cast-total
+overflow_cast-total c = omega (arith, c.sum_part.type-inv)
+
+pub overflow_add-total : goal.overflow_add-total
+overflow_add-total c = omega (arith, c.sum_part.type-inv)
+
+pub loop-at-preserved : goal.loop-at-preserved
+loop-at-preserved c = let f = sum_split c.loop-at.at 128 (λ i. get_or c.args.used.now i 0) in
+    (omega arith, omega (arith, c.sum_part.type-inv), omega (arith, c.loop-at.invariant.2, c.sum_part.ensures))
+
+pub sum_part-requires-2-clause-n_bound : goal.sum_part-requires-2-clause-n_bound
+sum_part-requires-2-clause-n_bound c = omega arith
+
+pub sum_part-requires-2-clause-n_bound_2 : goal.sum_part-requires-2-clause-n_bound_2
+sum_part-requires-2-clause-n_bound_2 c = omega arith
+
+pub sum_part-requires-2-clause-are_marks : goal.sum_part-requires-2-clause-are_marks
+sum_part-requires-2-clause-are_marks c = marks_from c.requires.are_marks c.loop-at.at _ (omega arith)
+
+pub overflow_cast-result : goal.overflow_cast-result
+overflow_cast-result c = omega (arith, c.sum_part-2.type-inv)
+
+pub overflow_add-result : goal.overflow_add-result
+overflow_add-result c = omega (arith, c.sum_part-2.type-inv)
+
+pub returns : goal.returns
+returns c = let a = c.args in
+    let f = sum_split c.loop-at.at (a.limit - c.loop-at.at) (λ i. get_or a.used.now i 0) in
+    let e : c.loop-at.at + (a.limit - c.loop-at.at) ≡ a.limit = omega arith in
+    omega (arith, c.loop-at.invariant.2, c.sum_part-2.ensures, rw e at f)

@@ -1,0 +1,21 @@
+use native.Mathlib.Omega.{arith}
+use mathlib.Core.Path.{◌≡◌, refl}
+use Prim.Native.Nat.{◌-◌, ◌*◌, ◌≤◌, zero-le}
+use mathlib.Core.Bool.{true}
+use lib.ListN.{length}
+use Rattle.kinds.specs.Numbers.{file_blocks}
+use Rattle.spec.specs.Count.{sum, every}
+use Rattle.spec.specs.Room.{held}
+use Rattle.laws.proofs.Count.{sum_more, every_more}
+use Rattle.spec.specs.Check.{good_object}
+use Rattle.fsck_objects.specs.Objects.{MarkedBy}
+use Rattle.fsck_objects.proofs.Passes.{told_false}
+use Rattle.fsck_blocks.proofs.Places.{mark_none, marks_are, told_all}
+use borrow.Author.Rules.{rules}
+use Rattle.fsck_blocks.proofs.objects.objects_pass.Given as goal
+
+abbrev pub invariant-loop-o : goal.invariant-loop-o
+invariant-loop-o l = (l.o ≤ l.count) × (l.total ≡ sum l.o (λ i. length (held l.store i))) × (l.total ≤ file_blocks * l.o) × MarkedBy l.store l.o l.used × (every l.o (good_object l.store) ≡ true)
+
+abbrev pub decreases-loop-o : goal.decreases-loop-o
+decreases-loop-o l = l.count - l.o

@@ -1,0 +1,12 @@
+use Rattle.fsck_names.proofs.Chained.{Walked, walk_start, walk_step, walk_less, used_before}
+use borrow.Author.Rules.{rules}
+use native.Mathlib.Omega.{arith}
+use mathlib.Core.Path.{◌∙◌}
+use Prim.Native.Nat.{◌-◌}
+use Rattle.fsck_names.proofs.distinct.is_new.Given as goal
+
+abbrev pub invariant-loop-k : goal.invariant-loop-k
+invariant-loop-k l = Walked l.store l.n.0 l.h l.found l.k
+
+abbrev pub decreases-loop-k : goal.decreases-loop-k
+decreases-loop-k l = l.k

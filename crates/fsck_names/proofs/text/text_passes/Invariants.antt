@@ -1,0 +1,18 @@
+use native.Mathlib.Omega.{arith}
+use mathlib.Core.Bool.{Bool, ◌&&◌, not}
+use mathlib.Core.Path.{◌≡◌, refl, sym, ap, ◌∙◌}
+use lib.ListN.{get_or}
+use Prim.Native.Nat.{◌+◌, ◌-◌, ◌≤◌, zero-le}
+use Rattle.kinds.specs.Numbers.{most_name_bytes}
+use Rattle.spec.specs.Count.{every}
+use Rattle.fsck_names.specs.Record.{is_text}
+use Rattle.laws.proofs.Count.{every_next}
+use Rattle.fsck_names.proofs.Padded.{text_step, text_is}
+use borrow.Author.Rules.{rules}
+use Rattle.fsck_names.proofs.text.text_passes.Given as goal
+
+abbrev pub invariant-loop-i : goal.invariant-loop-i
+invariant-loop-i l = (l.i ≤ most_name_bytes) × (l.from ≡ most_name_bytes - l.n) × (not l.other ≡ every l.i (is_text l.s l.at l.n))
+
+abbrev pub decreases-loop-i : goal.decreases-loop-i
+decreases-loop-i l = most_name_bytes - l.i

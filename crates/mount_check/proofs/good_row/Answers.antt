@@ -1,0 +1,23 @@
+use Rattle.std.proofs.Common.{sym, ◌∙◌, rules}
+use borrow.Author.Tests.{not-true, not-false}
+use Rattle.mount_spec.specs.Table.{good_row}
+use Rattle.mount_check.proofs.RowTests.{free_by, used_by, free_zero}
+use Rattle.mount_check.proofs.good_row.Goals as goal
+
+pub returns-then-not-is_zero : goal.returns-then-not-is_zero
+returns-then-not-is_zero c = let m = c.requires.n_value in
+    rw (
+      free_zero _ _ _ m _ c.row_place-at.ensures.0 (free_by _ _ _ m c.if-n-eq0.true),
+      sym c.is_zero.ensures ∙ c.if-not-is_zero.true,
+    )
+
+pub returns-then-n-eq0 : goal.returns-then-n-eq0
+returns-then-n-eq0 c = let m = c.requires.n_value in
+    rw (
+      free_zero _ _ _ m _ c.row_place-at.ensures.0 (free_by _ _ _ m c.if-n-eq0.true),
+      sym c.is_zero.ensures ∙ c.if-not-is_zero.false,
+    ) c.is_zero-then-n-eq0.ensures
+
+pub returns : goal.returns
+unfolding good_row
+returns c = rw (used_by _ _ _ c.requires.n_value c.if-n-eq0.false) c.good_used_row.ensures

@@ -1,0 +1,11 @@
+use Rattle.std.proofs.Common.{◌≡◌, ℕ, ◌-◌, ◌<◌, ◌≤◌, false, sym, ◌∙◌, ⊎_elim, arith, rules}
+use Rattle.mount_check.specs.Rows.{is_same_pair}
+use Rattle.mount_check.proofs.Same.{used_row}
+use Rattle.mount_check.proofs.Whole.{tells_true, tells_false, fails_twice, one_more, other_digest}
+use Rattle.mount_check.proofs.is_new_pair.Given as goal
+
+abbrev pub invariant-loop-i : goal.invariant-loop-i
+invariant-loop-i l = (l.i ≤ l.r.0) × ((q : ℕ) → q < l.i → is_same_pair l.table l.r.0 q ≡ false)
+
+abbrev pub decreases-loop-i : goal.decreases-loop-i
+decreases-loop-i l = l.r.0 - l.i

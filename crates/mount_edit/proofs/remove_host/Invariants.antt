@@ -1,0 +1,15 @@
+use mathlib.Core.Path.{◌≡◌, refl, ap, ◌∙◌}
+use Prim.Native.Nat.{◌-◌, ◌≤◌, zero-le}
+use native.Mathlib.Omega.{arith}
+use native.Mathlib.Numerals.{add-one}
+use lib.ListN.{length}
+use Rattle.kinds.specs.Mount.{rows, table_length}
+use Rattle.mount_spec.specs.Table.{Table, strike_row, strike_rows, remove_host}
+use borrow.Author.Rules.{rules}
+use Rattle.mount_edit.proofs.remove_host.Given as goal
+
+abbrev pub invariant-loop-i : goal.invariant-loop-i
+invariant-loop-i l = (l.i ≤ rows) × (l.table ≡ strike_rows l.initial.table l.host l.i) × (length l.table ≡ table_length)
+
+abbrev pub decreases-loop-i : goal.decreases-loop-i
+decreases-loop-i l = rows - l.i

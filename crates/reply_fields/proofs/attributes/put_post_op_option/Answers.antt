@@ -1,0 +1,16 @@
+use native.Mathlib.Omega.{arith}
+use Rattle.xdr.proofs.Wrote.{in_words}
+use borrow.Author.Rules.{rules}
+use Rattle.reply_fields.proofs.attributes.put_post_op_option.Goals as goal
+
+pub put_post_op_attr-requires-clause-at_in_bounds : goal.put_post_op_attr-requires-clause-at_in_bounds
+put_post_op_attr-requires-clause-at_in_bounds c = omega arith
+
+pub put_post_op_attr-requires-clause-showable : goal.put_post_op_attr-requires-clause-showable
+put_post_op_attr-requires-clause-showable c = rw c.in-Present.is at c.requires.showable_object
+
+pub returns-in-Absent : goal.returns-in-Absent
+returns-in-Absent c = rw c.in-Absent.is (in_words _ c.put_word.ensures)
+
+pub returns-in-Present : goal.returns-in-Present
+returns-in-Present c = rw c.in-Present.is (in_words _ c.put_post_op_attr.ensures)

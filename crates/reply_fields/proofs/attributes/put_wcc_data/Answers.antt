@@ -1,0 +1,8 @@
+use Rattle.spec.specs.Replies.{wcc_data}
+use Rattle.xdr.proofs.Wrote.{and_words}
+use borrow.Author.Rules.{rules}
+use Rattle.reply_fields.proofs.attributes.put_wcc_data.Goals as goal
+
+pub returns : goal.returns
+unfolding wcc_data
+returns c = and_words _ _ c.put_pre_op_attr-next.ensures c.put_post_op_attr.ensures
