@@ -83,7 +83,7 @@ fn run<R: Read>(rt: &impl Print, reader: &mut R) -> io::Result<()> {
     let mut old = [0u8; OLD_ROOM];
     let mut table = [0u8; TABLE_ROOM];
     for _ in 0..MOST_ROWS {
-        let goes_on = turn(
+        let has_more = turn(
             rt,
             reader,
             &mut numbers,
@@ -94,7 +94,7 @@ fn run<R: Read>(rt: &impl Print, reader: &mut R) -> io::Result<()> {
             &mut old,
             &mut table,
         )?;
-        if !goes_on {
+        if !has_more {
             break;
         }
     }
