@@ -27,10 +27,8 @@ pub const LAST_PLACE: usize = REPLY_ROOM - 1;
 
 // Gives every byte of buf this value.
 pub fn fill(buf: &mut [u8], value: u8) {
-    let mut i = 0;
-    while i < buf.len() {
-        buf[i] = value;
-        i += 1;
+    for byte in buf.iter_mut() {
+        *byte = value;
     }
 }
 
@@ -38,14 +36,12 @@ pub fn fill(buf: &mut [u8], value: u8) {
 pub fn first_difference(a: &Reply, b: &Reply) -> usize
     ensures { result < 33800 }
 {
-    let mut i = 0;
-    while i < LAST_PLACE {
+    for i in 0..LAST_PLACE {
         if a[i] != b[i] {
             return i;
         }
-        i += 1;
     }
-    i
+    LAST_PLACE
 }
 
 // A byte as a number of 32 bits.
@@ -66,12 +62,10 @@ pub struct Lanes {
 pub fn digest(bytes: &[u8]) -> Lanes {
     let mut a: u64 = 2166136261;
     let mut b: u64 = 1;
-    let mut i = 0;
-    while i < bytes.len() {
-        let byte = wide(bytes[i]) as u64;
+    for byte in bytes {
+        let byte = wide(*byte) as u64;
         a = (a * 16777619 + byte) % 4294967296;
         b = (b * 2246822519 + byte + 1) % 4294967296;
-        i += 1;
     }
     Lanes {
         first: a as u32,

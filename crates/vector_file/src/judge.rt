@@ -6,6 +6,7 @@ use crate::numbers::{Numbers, count};
 use crate::report::{print_difference, print_fault, print_total};
 use crate::rows::Row;
 use crate::tags::Tag;
+use std::io;
 
 // The byte of a reply space before a call.
 pub const SPACE_BYTE: u8 = 0x5A;
@@ -22,50 +23,56 @@ fn compare_reply(numbers: &mut Numbers, reply: &mut Reply, want: &mut Reply) {
 }
 
 // Compares every number that must come back with the one that did.
-fn compare_numbers(numbers: &mut Numbers) {
-    let mut tag = Tag::FIRST_WANTED;
-    while tag <= Tag::REPLY_BYTE {
+fn compare_numbers(rt: &impl Print, numbers: &mut Numbers) -> io::Result<()> {
+    for tag in Tag::FIRST_WANTED..=Tag::REPLY_BYTE {
         let wanted = numbers[tag];
         let found = numbers[tag + Tag::FOUND];
         if found != wanted {
-            print_difference(numbers, tag as u32, found, wanted);
+            print_difference(rt, numbers, tag as u32, found, wanted)?;
         }
-        tag += 1;
     }
+    Ok(())
 }
 
 // Compares all that came back from the entry of a row.
-fn judge(row: Row, numbers: &mut Numbers, reply: &mut Reply, want: &mut Reply)
+fn judge(
+    rt: &impl Print,
+    row: Row,
+    numbers: &mut Numbers,
+    reply: &mut Reply,
+    want: &mut Reply,
+) -> io::Result<()>
     requires { row.tag < 256 }
 {
     count(numbers, row.tag);
     count(numbers, Tag::STEP);
     numbers[Tag::NUMBER] = row.word;
     compare_reply(numbers, reply, want);
-    compare_numbers(numbers);
+    compare_numbers(rt, numbers)
 }
 
 // After a row that was taken, or was at fault: compares what came back, if it called an entry, and says whether there is more to read. If not,
 // prints the last line.
 pub fn goes_on(
+    rt: &impl Print,
     row: Row,
     good: bool,
     numbers: &mut Numbers,
     reply: &mut Reply,
     want: &mut Reply,
-) -> bool
+) -> io::Result<bool>
     requires { row.tag < 256 }
 {
     if !good {
-        print_fault(numbers, row.tag as u32);
-        return false;
+        print_fault(rt, numbers, row.tag as u32)?;
+        return Ok(false);
     }
     if row.tag == Tag::END {
-        print_total(numbers);
-        return false;
+        print_total(rt, numbers)?;
+        return Ok(false);
     }
     if row.tag >= Tag::FIRST_ENTRY {
-        judge(row, numbers, reply, want);
+        judge(rt, row, numbers, reply, want)?;
     }
-    true
+    Ok(true)
 }

@@ -8,7 +8,7 @@ pub type Numbers = [u32; 256];
 pub fn count(numbers: &mut Numbers, tag: usize)
     requires { tag < 256 }
 {
-    numbers[tag] = std::num::wrapping_add_u32(numbers[tag], 1);
+    numbers[tag] = numbers[tag].wrapping_add(1);
 }
 
 // The number of 64 bits that has these halves.

@@ -1,64 +1,70 @@
 // What is printed: a line for each thing that differs, and the last line.
 use crate::numbers::{Numbers, count};
 use crate::tags::Tag;
-use libc::STDOUT_FILENO;
+use std::io;
 
 // Prints a text and a number after it.
-fn print(text: &[u8], n: u32) {
-    io::write_all(STDOUT_FILENO, text);
-    io::print_decimal(STDOUT_FILENO, n as u64);
+fn print(rt: &impl Print, text: &str, n: u32) -> io::Result<()> {
+    print!(rt; "{text}{n}")
 }
 
 // Prints the first n bytes of a text, if it has as many.
-pub fn print_front(text: &[u8], n: usize) {
+pub fn print_front(rt: &impl Print, text: &[u8], n: usize) -> io::Result<()> {
     if n <= text.len() {
-        io::write_all(STDOUT_FILENO, &text[0..n]);
+        rt.write_all(&text[0..n])?;
     }
+    Ok(())
 }
 
 // Starts a line on the step that is under way.
-fn print_step(numbers: &Numbers, text: &[u8], n: u32) {
-    print(b"run ", numbers[Tag::RUN]);
-    print(b", step ", numbers[Tag::STEP]);
-    print(text, n);
+fn print_step(rt: &impl Print, numbers: &Numbers, text: &str, n: u32) -> io::Result<()> {
+    print(rt, "run ", numbers[Tag::RUN])?;
+    print(rt, ", step ", numbers[Tag::STEP])?;
+    print(rt, text, n)
 }
 
 // Counts and prints a number that did not come back as wanted.
-pub fn print_difference(numbers: &mut Numbers, tag: u32, found: u32, wanted: u32) {
+pub fn print_difference(
+    rt: &impl Print,
+    numbers: &mut Numbers,
+    tag: u32,
+    found: u32,
+    wanted: u32,
+) -> io::Result<()> {
     count(numbers, Tag::DIFFERENCES);
-    print_step(numbers, b": number ", tag);
-    print(b" is ", found);
-    print(b", not ", wanted);
-    io::write_all(STDOUT_FILENO, b"\n");
+    print_step(rt, numbers, ": number ", tag)?;
+    print(rt, " is ", found)?;
+    print(rt, ", not ", wanted)?;
+    println!(rt)
 }
 
 // Ends a line by what the last search found and how many byte pairs it compared.
-pub fn print_search(numbers: &Numbers) {
+pub fn print_search(rt: &impl Print, numbers: &Numbers) -> io::Result<()> {
     let answer = numbers[Tag::SEARCHED];
     if answer == 0 {
-        io::write_all(STDOUT_FILENO, b" no record");
+        print!(rt; " no record")?;
     } else {
-        print(b" record ", answer - 1);
+        print(rt, " record ", answer - 1)?;
     }
-    print(b", ", numbers[Tag::PAIRS + Tag::FOUND]);
-    io::write_all(STDOUT_FILENO, b" pairs\n");
+    print(rt, ", ", numbers[Tag::PAIRS + Tag::FOUND])?;
+    println!(rt; " pairs")
 }
 
 // The last line where a row is at fault: the file is cut, the tag is unknown, or the word does not fit the buffers or the runs so far.
-pub fn print_fault(numbers: &Numbers, tag: u32) {
-    print_step(numbers, b": the file is at fault in a row of tag ", tag);
-    io::write_all(STDOUT_FILENO, b"\n");
+pub fn print_fault(rt: &impl Print, numbers: &Numbers, tag: u32) -> io::Result<()> {
+    print_step(rt, numbers, ": the file is at fault in a row of tag ", tag)?;
+    println!(rt)
 }
 
 // The last line: how many steps of each kind there were.
-pub fn print_total(numbers: &Numbers) {
-    print(b"total: ", numbers[Tag::RUN]);
-    print(b" runs, ", numbers[Tag::CALL_ENTRY]);
-    print(b" calls, ", numbers[Tag::FORMAT_ENTRY]);
-    print(b" formats, ", numbers[Tag::CHECK_ENTRY]);
-    print(b" checks, ", numbers[Tag::CONVERT_ENTRY]);
-    print(b" conversions, ", numbers[Tag::SEARCH_ENTRY]);
-    print(b" searches, ", numbers[Tag::MOUNT_ENTRY]);
-    print(b" mounts, ", numbers[Tag::DIFFERENCES]);
-    io::write_all(STDOUT_FILENO, b" differences\n");
+pub fn print_total(rt: &impl Print, numbers: &Numbers) -> io::Result<()> {
+    print(rt, "total: ", numbers[Tag::RUN])?;
+    print(rt, " runs, ", numbers[Tag::CALL_ENTRY])?;
+    print(rt, " calls, ", numbers[Tag::FORMAT_ENTRY])?;
+    print(rt, " formats, ", numbers[Tag::CHECK_ENTRY])?;
+    print(rt, " checks, ", numbers[Tag::CONVERT_ENTRY])?;
+    print(rt, " conversions, ", numbers[Tag::SEARCH_ENTRY])?;
+    print(rt, " searches, ", numbers[Tag::MOUNT_ENTRY])?;
+    print(rt, " mounts, ", numbers[Tag::DIFFERENCES])?;
+    println!(rt; " differences")
 }
