@@ -1,11 +1,10 @@
 use Prim.Native.Nat.{ℕ, ◌-◌, ◌≤◌}
-use mathlib.Core.List.{[], ◌∷◌}
+use mathlib.Core.List.{◌∷◌}
 use mathlib.Core.Path.{◌≡◌}
 use native.Mathlib.Omega.{arith}
 use lib.ListN.{length-take, length-replicate}
 use Rattle.xdr.proofs.Wrote.{and_words}
 use Rattle.reply_fields.proofs.ZeroWords.{zero_words_small, take_zeros}
-use borrow.Author.Rules.{rules}
 use Rattle.reply_fields.proofs.failure.put_dead.Goals as goal
 
 pub put_words-requires : goal.put_words-requires
