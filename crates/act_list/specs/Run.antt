@@ -1,5 +1,5 @@
 -- The run of a listing that fits, entry by entry.
-use Rattle.std.specs.Prelude.{ℕ, ◌+◌, ◌-◌, eqb, leb, ltb, length, take, Bool, true, false, cond, List, ◌∷◌}
+use Rattle.std.specs.Prelude.{ℕ, ◌+◌, ◌-◌, eqb, leb, ltb, length, take, Bool, true, false, cond, List, [], ◌∷◌}
 use Rattle.kinds.specs.Layout.{length_offset}
 use Rattle.kinds.specs.Numbers.{entry_fixed_cost}
 use Rattle.spec.specs.Bytes.{be_at, padding}

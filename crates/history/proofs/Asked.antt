@@ -3,7 +3,7 @@ use mathlib.Core.Path.{◌≡◌, refl, sym, ap, ◌∙◌}
 use mathlib.Core.Logic.{◌⊎◌, inl, inr}
 use mathlib.Core.Bool.{true, false, ◌||◌}
 use mathlib.Core.Option.{Option, some, none}
-use mathlib.Core.List.{List, ◌∷◌}
+use mathlib.Core.List.{List, [], ◌∷◌}
 use Prim.Native.Nat.{ℕ, ◌≤◌, ◌<◌}
 use native.Mathlib.Omega.{arith}
 use lib.Dec.{eqb, ltb, lit<}
@@ -16,6 +16,7 @@ use Rattle.kinds.specs.declared.numbers.Fault.{Fault}
 use Rattle.kinds.specs.declared.object.Context.{Context}
 use Rattle.kinds.specs.declared.call.CallHeader.{CallHeader}
 use Rattle.kinds.specs.declared.call.Header.{Header}
+use Rattle.kinds.specs.declared.call.Header.TheVariants as Header
 use Rattle.kinds.specs.declared.call.Arguments.{Arguments}
 use Rattle.spec.specs.Arguments.{arguments}
 use Rattle.spec.specs.Bytes.{overlay}

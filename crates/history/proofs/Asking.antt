@@ -10,6 +10,7 @@ use Rattle.kinds.specs.declared.call.NameIn.{NameIn}
 use Rattle.kinds.specs.declared.call.Settable.{Settable}
 use Rattle.kinds.specs.declared.call.Guard.{Guard}
 use Rattle.kinds.specs.declared.call.How.{How}
+use Rattle.kinds.specs.declared.call.How.TheVariants as How
 use Rattle.kinds.specs.declared.call.Arguments.TheVariants as Call
 use Rattle.spec.specs.Checked.{passed}
 use Rattle.spec.specs.Handles.{reach, reach_directory}

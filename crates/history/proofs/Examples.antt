@@ -5,7 +5,7 @@
 use Prim.Native.Nat.{ℕ}
 use mathlib.Core.Path.{◌≡◌, refl}
 use mathlib.Core.Bool.{true}
-use mathlib.Core.List.{List, ◌∷◌}
+use mathlib.Core.List.{List, [], ◌∷◌}
 use Rattle.spec.proofs.Setting.{context, space, fresh, getattr_call, create_call, remove_call, link_call, rename_call, exclusive_call, name_a, name_b}
 use Rattle.spec.proofs.Setting.{name_c, computing}
 use Rattle.history.specs.Book.{Line, as_root, under, handle_bytes, first_ledger, some_at, add, add_link, strike_lines, strike, move_line, move_lines, move}

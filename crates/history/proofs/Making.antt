@@ -8,6 +8,8 @@ use Rattle.kinds.specs.Numbers.{most_file_bytes}
 use Rattle.kinds.specs.declared.object.Context.{Context}
 use Rattle.kinds.specs.declared.object.Object.{Object}
 use Rattle.kinds.specs.declared.call.SetSize.{SetSize}
+use Rattle.kinds.specs.declared.call.SetSize.TheVariants as SetSize
+use Rattle.spec.specs.Checked.{absent}
 use Rattle.spec.specs.Edits.{with_generation, resize, create_object, mtime_and_ctime}
 use Rattle.spec.specs.Handles.{handle_of}
 use Rattle.spec.specs.Image.{Store, stamp, objects, names, blocks, object_at}

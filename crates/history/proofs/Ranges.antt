@@ -7,6 +7,7 @@ use native.Mathlib.Omega.{arith}
 use Rattle.kinds.specs.Reading.{Read, got, bad}
 use Rattle.kinds.specs.declared.call.CallHeader.{CallHeader}
 use Rattle.kinds.specs.declared.call.Header.{Header}
+use Rattle.kinds.specs.declared.call.Header.TheVariants as Header
 use Rattle.kinds.specs.declared.call.Arguments.{Arguments}
 use Rattle.spec.specs.Arguments.{arguments}
 use Rattle.spec.specs.Checked.{Checked, refused, passed}

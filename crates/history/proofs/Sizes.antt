@@ -10,6 +10,7 @@ use borrow.Author.Tests.{eqb-false}
 use Rattle.kinds.specs.Numbers.{most_file_bytes, most_transfer_bytes}
 use Rattle.kinds.specs.declared.object.Context.{Context}
 use Rattle.kinds.specs.declared.call.SetSize.{SetSize}
+use Rattle.kinds.specs.declared.call.SetSize.TheVariants as SetSize
 use Rattle.kinds.specs.declared.call.Settable.{Settable}
 use Rattle.kinds.specs.declared.call.Guard.{Guard}
 use Rattle.spec.specs.Checked.{Checked, refused, passed}

@@ -16,6 +16,7 @@ use Rattle.kinds.specs.Numbers.{most_transfer_bytes, listing_cost, entry_fixed_c
 use Rattle.kinds.specs.declared.call.Settable.{Settable}
 use Rattle.kinds.specs.declared.call.Guard.{Guard}
 use Rattle.kinds.specs.declared.call.How.{How}
+use Rattle.kinds.specs.declared.call.How.TheVariants as How
 use Rattle.spec.specs.Bytes.{be_at}
 use Rattle.spec.specs.Checked.{Checked, refused, passed, bind, refuse_if, present, absent}
 use Rattle.spec.specs.Handles.{reach, reach_directory, check_name}

@@ -1,10 +1,11 @@
 -- The book: what the calls and their replies alone say is in the store.
-use Rattle.std.specs.Prelude.{ℕ, ◌+◌, List, ◌∷◌, Bool, false, ◌&&◌, ◌||◌, cond, eqb, leb, length}
+use Rattle.std.specs.Prelude.{ℕ, ◌+◌, List, [], ◌∷◌, Bool, false, ◌&&◌, ◌||◌, cond, eqb, leb, length}
 use Rattle.std.proofs.Math.Option.{Option, some, none}
 use Rattle.kinds.specs.Numbers.{OK, REGULAR, DIRECTORY}
 use Rattle.kinds.specs.Reading.{Read, got, bad}
 use Rattle.kinds.specs.declared.call.CallHeader.{CallHeader}
 use Rattle.kinds.specs.declared.call.Header.{Header}
+use Rattle.kinds.specs.declared.call.Header.TheVariants as Header
 use Rattle.kinds.specs.declared.call.Arguments.{Arguments}
 use Rattle.kinds.specs.declared.call.Arguments.TheVariants as Call
 use Rattle.spec.specs.Bytes.{part, words, be_at, same_bytes}

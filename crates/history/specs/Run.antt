@@ -1,5 +1,5 @@
 -- Any list of requests: the store goes through `serve`, and the book is fed the calls and their replies.
-use Rattle.std.specs.Prelude.{ℕ, ◌<◌, List, ◌∷◌, take, get_or}
+use Rattle.std.specs.Prelude.{ℕ, ◌<◌, List, [], ◌∷◌, take, get_or}
 use Rattle.kinds.specs.declared.object.Context.{Context}
 use Rattle.spec.specs.Image.{Store}
 use Rattle.spec.specs.Serve.{Outcome, serve}

@@ -1,7 +1,7 @@
 -- DEMAND 3: what holds of the store and of the book after any list of requests from any successful format. `Kept` is the statement; the
 -- definitions above it are its words. Each field quotes the sentence of document 01 or 02, or of demand 3 as it was asked, that it says.
 use Rattle.std.specs.Prelude.{ℕ, suc, ◌+◌, ◌*◌, ◌-◌, ◌≤◌, ◌<◌, min, max, ◌≡◌, ◌⊎◌, ◌↔◌, Bool, true, false, ◌&&◌, ◌||◌, not, eqb, length, get_or}
-use mathlib.Core.List.{List, ◌∷◌, Memᴰ}
+use mathlib.Core.List.{List, [], ◌∷◌, Memᴰ}
 use Rattle.std.proofs.Math.Option.{some}
 use Rattle.kinds.specs.Layout.{block_length}
 use Rattle.kinds.specs.Numbers.{NOSPC, MLINK, STALE, REGULAR, DIRECTORY, least_reply_bytes, most_call_bytes, nanoseconds_end, most_file_bytes}
@@ -12,6 +12,7 @@ use Rattle.kinds.specs.declared.call.NameIn.{NameIn}
 use Rattle.kinds.specs.declared.call.Settable.{Settable}
 use Rattle.kinds.specs.declared.call.Guard.{Guard}
 use Rattle.kinds.specs.declared.call.How.{How}
+use Rattle.kinds.specs.declared.call.How.TheVariants as How
 use Rattle.kinds.specs.declared.call.Arguments.{Arguments}
 use Rattle.kinds.specs.declared.call.Arguments.TheVariants as Call
 use Rattle.spec.specs.Bytes.{be_at, same_bytes}

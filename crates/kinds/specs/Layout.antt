@@ -1,5 +1,5 @@
 -- Where things stand in a store image, and how long they are. "Big-endian; sections in a fixed order, each after its 4-byte count".
-use Rattle.std.specs.Prelude.{ℕ, List, ◌∷◌}
+use Rattle.std.specs.Prelude.{ℕ, List, [], ◌∷◌}
 
 -- "volume: count 1; a 4-byte stamp", then P: where the stamp and the count of objects stand
 abbrev pub stamp_offset : ℕ

@@ -1,5 +1,5 @@
 -- The numbers of MOUNT version 3 (RFC 1813 appendix I) and of the mount table.
-use Rattle.std.specs.Prelude.{ℕ, List, ◌∷◌}
+use Rattle.std.specs.Prelude.{ℕ, List, [], ◌∷◌}
 
 -- NULL, MNT, DUMP, UMNT, UMNTALL, EXPORT (RFC 1813 section 5.2)
 abbrev pub mount_procedures : List ℕ

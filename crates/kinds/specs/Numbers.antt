@@ -1,5 +1,5 @@
 -- The numbers of document 01 and of the RFCs, by their names.
-use Rattle.std.specs.Prelude.{ℕ, List, ◌∷◌}
+use Rattle.std.specs.Prelude.{ℕ, List, [], ◌∷◌}
 
 -- "Status numbers: RFC 1813 section 2.6."
 abbrev pub OK : ℕ

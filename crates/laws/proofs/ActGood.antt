@@ -12,10 +12,12 @@ use Rattle.kinds.specs.Numbers.{REGULAR, DIRECTORY, most_transfer_bytes, most_fi
 use Rattle.kinds.specs.declared.object.Object.{Object}
 use Rattle.kinds.specs.declared.object.Context.{Context}
 use Rattle.kinds.specs.declared.call.SetSize.{SetSize}
+use Rattle.kinds.specs.declared.call.SetSize.TheVariants as SetSize
 use Rattle.kinds.specs.declared.call.Settable.{Settable}
 use Rattle.kinds.specs.declared.call.Guard.{Guard}
 use Rattle.kinds.specs.declared.call.How.{How}
 use Rattle.kinds.specs.declared.call.Arguments.{Arguments}
+use Rattle.kinds.specs.declared.call.Arguments.TheVariants as Arguments
 use Rattle.spec.specs.Checked.{Checked, refused, passed}
 use Rattle.spec.specs.Edits.{set_attributes, only_ctime, mtime_and_ctime, resize, with_generation, add_name, create_object, remove_name, move_name, write_file}
 use Rattle.spec.specs.Image.{Store, objects, names, blocks, object_at, name_at}

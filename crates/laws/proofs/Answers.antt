@@ -1,15 +1,16 @@
 -- Further answers: each status at its test, and what replies hold, by computation.
 use Prim.Native.Nat.{ℕ, ◌+◌, ◌-◌, ◌*◌}
 use lib.Dec.{eqb}
-use lib.ListN.{take, drop, replicate}
+use lib.ListN.{length, take, drop, replicate}
 use mathlib.Core.Bool.{Bool, true}
-use mathlib.Core.List.{List, ◌∷◌, ◌++◌}
+use mathlib.Core.List.{List, [], ◌∷◌, ◌++◌}
 use mathlib.Core.Path.{◌≡◌, refl}
 use Rattle.spec.specs.Bytes.{part, zeros, be_at, words, opaque_bytes}
 use Rattle.spec.specs.Checked.{passed}
 use Rattle.spec.specs.Image.{Store}
 use Rattle.spec.specs.Procedures.Data.{read_length, check_write}
 use Rattle.spec.specs.Serve.{serve}
+use Rattle.spec.specs.Xdr.{number}
 use Rattle.spec.proofs.Setting.{context, space, fresh, call_to, served, after, status_sent, handle_to, getattr_call, lookup_call, create_call, mkdir_call}
 use Rattle.spec.proofs.Setting.{remove_call, write_call, read_call, readdir_call, root_words, name_a, root_alone, with_a, setattr_call, create_by, rmdir_call}
 use Rattle.spec.proofs.Setting.{rename_call, name_b, answer_to, name_c, three_directories, later, computing}

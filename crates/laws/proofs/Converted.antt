@@ -2,7 +2,7 @@
 use mathlib.Core.Path.{◌≡◌, refl, sym, ap, ◌∙◌}
 use mathlib.Core.Logic.{◌≢◌, ⊎_elim, by_cases}
 use mathlib.Core.Bool.{Bool, true, false, ◌&&◌, not, cond}
-use mathlib.Core.List.{List, ◌∷◌, ◌++◌, append_assoc}
+use mathlib.Core.List.{List, [], ◌∷◌, ◌++◌, append_assoc}
 use Prim.Native.Nat.{ℕ, zero, suc, ◌+◌, ◌*◌, ◌-◌, ◌/◌, ◌%◌, ◌≤◌, ◌<◌}
 use native.Mathlib.Decide.{ℕ_discrete}
 use native.Mathlib.Omega.{arith}
@@ -22,7 +22,7 @@ use Rattle.spec.specs.Image.{Store, volumes, stamp, objects, names, blocks, obje
 use Rattle.spec.specs.Image.{name_at, name_length}
 use Rattle.spec.specs.Count.{count, every}
 use Rattle.spec.specs.Room.{is_live, is_directory, size_of, need, is_used_name, namings, is_in, subdirectories, byte_at}
-use Rattle.spec.specs.Checked.{Checked, passed, refuse_if}
+use Rattle.spec.specs.Checked.{Checked, passed, ◌>>◌, refuse_if}
 use Rattle.spec.specs.Handles.{handle_of, reach, size_attribute, used_bytes, link_count, attributes}
 use Rattle.spec.specs.Check.{good_counts, image_length, passes}
 use Rattle.spec.specs.Convert.{old_start, old_names, old_blocks, old_length, old_shape, old_object_at, lengthened, converted, is_named_once, good_old}

@@ -3,7 +3,7 @@ use mathlib.Core.Path.{◌≡◌, refl, sym, ap, ap₂, ◌∙◌}
 use mathlib.Core.Logic.{◌≢◌, by_cases, ⊎_elim}
 use mathlib.Core.Bool.{Bool, true, false, ◌&&◌, cond, or-true, and-false}
 use mathlib.Core.Option.{some, none}
-use mathlib.Core.List.{List, ◌∷◌, ◌++◌, append-nil}
+use mathlib.Core.List.{List, [], ◌∷◌, ◌++◌, append-nil}
 use Prim.Native.Nat.{ℕ, zero, suc, ◌+◌, ◌*◌, ◌≤◌, ◌<◌}
 use native.Mathlib.Nat.{add-mul, not-suc-le-zero}
 use native.Mathlib.Decide.{ℕ_discrete, dec_lt, le_ind}

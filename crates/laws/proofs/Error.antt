@@ -14,6 +14,7 @@ use Rattle.kinds.specs.declared.call.Settable.{Settable}
 use Rattle.kinds.specs.declared.call.Guard.{Guard}
 use Rattle.kinds.specs.declared.call.How.{How}
 use Rattle.kinds.specs.declared.call.Arguments.{Arguments}
+use Rattle.kinds.specs.declared.call.Arguments.TheVariants as Arguments
 use Rattle.spec.specs.Bytes.{part, overlay, digits, be_of, be_at, bytes_of, words}
 use Rattle.spec.specs.Checked.{Checked, refused, passed}
 use Rattle.spec.specs.Edits.{remove_name}

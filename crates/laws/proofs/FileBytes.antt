@@ -1,5 +1,6 @@
 -- The bytes of a file that are read: how many there are, and none. Assumes nothing.
 use mathlib.Core.Path.{◌≡◌, refl, ap}
+use mathlib.Core.List.{[]}
 use Prim.Native.Nat.{ℕ, zero, suc, ◌+◌}
 use lib.ListN.{length}
 use Rattle.spec.specs.Image.{Store}

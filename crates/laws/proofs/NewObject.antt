@@ -10,6 +10,7 @@ use Rattle.kinds.specs.declared.object.Time.{Time}
 use Rattle.kinds.specs.declared.object.Object.{Object}
 use Rattle.kinds.specs.declared.call.Settable.{Settable}
 use Rattle.kinds.specs.declared.call.How.{How}
+use Rattle.kinds.specs.declared.call.How.TheVariants as How
 use Rattle.spec.specs.Edits.{with_attributes, only_ctime, with_verifier}
 use Rattle.spec.specs.Procedures.Names.{new_object, settable_in, new_file}
 use Rattle.laws.proofs.ArgumentRange.{FitsHow}

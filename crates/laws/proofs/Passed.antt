@@ -14,6 +14,7 @@ use Rattle.kinds.specs.Numbers.{NOT_SYNC, kept_flag, most_transfer_bytes, most_f
 use Rattle.kinds.specs.declared.call.Settable.{Settable}
 use Rattle.kinds.specs.declared.call.Guard.{Guard}
 use Rattle.kinds.specs.declared.call.How.{How}
+use Rattle.kinds.specs.declared.call.How.TheVariants as How
 use Rattle.spec.specs.Bytes.{be_at, same_bytes}
 use Rattle.spec.specs.Checked.{Checked, refused, passed, bind, refuse_if, present, absent}
 use Rattle.spec.specs.Handles.{reach, reach_directory, check_name}

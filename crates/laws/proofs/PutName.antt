@@ -11,7 +11,7 @@ use Rattle.kinds.specs.Numbers.{DIRECTORY, most_name_bytes}
 use Rattle.kinds.specs.declared.object.Object.{Object}
 use Rattle.spec.specs.Bytes.{part}
 use Rattle.spec.specs.Edits.{add_name, drop_name, move_name}
-use Rattle.spec.specs.Image.{Store, objects, names, block_start, object_at, Name, name_at, free_name}
+use Rattle.spec.specs.Image.{Store, objects, names, blocks, block_start, object_at, Name, name_at, free_name}
 use Rattle.laws.proofs.GoodKept.{good_objects_kept, record_kept, used_set}
 use Rattle.laws.proofs.Kept.{Sound, NameIs, NameSet, put_name_lem}
 use Rattle.laws.proofs.Range.{Below}

@@ -1,6 +1,6 @@
 -- That numbers read from bytes fit, and that writes keep bytes bytes. Assumes nothing.
 use mathlib.Core.Path.{◌≡◌, refl, sym, ap, ap₂, ◌∙◌}
-use mathlib.Core.List.{List, ◌∷◌, ◌++◌}
+use mathlib.Core.List.{List, [], ◌∷◌, ◌++◌}
 use Prim.Native.Nat.{ℕ, zero, suc, ◌+◌, ◌*◌, ◌/◌, ◌%◌, ◌^◌, ◌≤◌, ◌<◌}
 use native.Mathlib.Omega.{arith}
 use native.Mathlib.Nat.{mod-lt, add-zero, add-suc, suc-add, zero-add, pow-suc, pow-le-pow_right, lt_of_lt_of_le, mul-add-div_right, div-eq_of_lt, one-le-pow}

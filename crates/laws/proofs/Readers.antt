@@ -4,11 +4,16 @@ use mathlib.Core.Bool.{Bool, true, false, cond}
 use lib.Dec.{leb, eqb}
 use Rattle.kinds.specs.declared.object.Time.{Time}
 use Rattle.kinds.specs.declared.call.SetNumber.{SetNumber}
+use Rattle.kinds.specs.declared.call.SetNumber.TheVariants as SetNumber
 use Rattle.kinds.specs.declared.call.SetSize.{SetSize}
+use Rattle.kinds.specs.declared.call.SetSize.TheVariants as SetSize
 use Rattle.kinds.specs.declared.call.SetTime.{SetTime}
+use Rattle.kinds.specs.declared.call.SetTime.TheVariants as SetTime
 use Rattle.kinds.specs.declared.call.Settable.{Settable}
 use Rattle.kinds.specs.declared.call.Guard.{Guard}
+use Rattle.kinds.specs.declared.call.Guard.TheVariants as Guard
 use Rattle.kinds.specs.declared.call.How.{How}
+use Rattle.kinds.specs.declared.call.How.TheVariants as How
 use Rattle.spec.specs.Arguments.{time, set_number, set_size, set_time, settable, guard, how}
 use Rattle.spec.specs.Xdr.{Reader, ◌>>=◌, done, check, item, number, word, long, choice, flag, optional}
 

@@ -1,6 +1,6 @@
 -- What RENAME leaves where it replaces an object, by computation.
 use Prim.Native.Nat.{◌+◌, ◌*◌}
-use mathlib.Core.List.{◌∷◌}
+use mathlib.Core.List.{[], ◌∷◌}
 use mathlib.Core.Path.{◌≡◌, refl}
 use Rattle.spec.specs.Bytes.{part, overlay, zeros, words}
 use Rattle.spec.specs.Image.{Store}

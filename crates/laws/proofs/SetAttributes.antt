@@ -10,7 +10,9 @@ use Rattle.kinds.specs.Numbers.{nanoseconds_end, most_file_bytes, most_mode}
 use Rattle.kinds.specs.declared.object.Time.{Time}
 use Rattle.kinds.specs.declared.object.Object.{Object}
 use Rattle.kinds.specs.declared.call.SetNumber.{SetNumber}
+use Rattle.kinds.specs.declared.call.SetNumber.TheVariants as SetNumber
 use Rattle.kinds.specs.declared.call.SetTime.{SetTime}
+use Rattle.kinds.specs.declared.call.SetTime.TheVariants as SetTime
 use Rattle.kinds.specs.declared.call.Settable.{Settable}
 use Rattle.spec.specs.Bytes.{part}
 use Rattle.spec.specs.Edits.{number_set, time_set, with_attributes, set_attributes, only_ctime, mtime_and_ctime, with_verifier, forget_verifier}

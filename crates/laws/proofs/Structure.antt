@@ -4,7 +4,7 @@ use mathlib.Core.Logic.{by_cases}
 use Prim.Native.Nat.{ℕ, ◌<◌}
 use native.Mathlib.Decide.{ℕ_discrete}
 use Rattle.kinds.specs.declared.object.Object.{Object}
-use Rattle.spec.specs.Image.{Store, objects, names, object_at, name_at}
+use Rattle.spec.specs.Image.{Store, objects, names, blocks, object_at, name_at}
 use Rattle.spec.specs.Room.{size_of, held, uses, free_block_count}
 use Rattle.spec.specs.Room.{namings, parent, above, byte_at}
 use Rattle.laws.proofs.GoodKept.{good_names_kept}

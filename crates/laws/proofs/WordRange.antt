@@ -1,5 +1,5 @@
 -- That words are bytes, and that one number repeated is as small as it is. Assumes nothing.
-use mathlib.Core.List.{List, ◌∷◌}
+use mathlib.Core.List.{List, [], ◌∷◌}
 use Prim.Native.Nat.{ℕ, zero, suc, ◌<◌}
 use lib.Dec.{lit<}
 use lib.ListN.{replicate}

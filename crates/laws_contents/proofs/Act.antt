@@ -13,6 +13,7 @@ use Rattle.kinds.specs.declared.call.Settable.{Settable}
 use Rattle.kinds.specs.declared.call.Guard.{Guard}
 use Rattle.kinds.specs.declared.call.How.{How}
 use Rattle.kinds.specs.declared.call.Arguments.{Arguments}
+use Rattle.kinds.specs.declared.call.Arguments.TheVariants as Arguments
 use Rattle.spec.specs.Checked.{Checked, refused, passed}
 use Rattle.spec.specs.Edits.{remove_name}
 use Rattle.spec.specs.Handles.{reach}
@@ -46,6 +47,7 @@ use Rattle.laws_contents.specs.Written.{written, sized_to}
 use Rattle.laws_contents.proofs.SizeSet.{MaySize}
 use Rattle.laws_contents.proofs.Procedures.{setattr_contents, setattr_others, write_passed_written, write_passed_others}
 use Rattle.laws_contents.proofs.Procedures.{existing_others, new_others, removed_others, removed_one, renamed_contents, linked_contents}
+use Rattle.kinds.specs.declared.call.How.TheVariants as How
 
 -- ---- the file that a call addresses
 module _ (s : Store) (g : GoodRecords s) (c : Context) (k : GoodClock c.clock) where

@@ -1,6 +1,6 @@
 -- Small lists that are resized and written, by computation. Assumes nothing.
 use mathlib.Core.Path.{◌≡◌, refl}
-use mathlib.Core.List.{List, ◌∷◌}
+use mathlib.Core.List.{List, [], ◌∷◌}
 use Prim.Native.Nat.{ℕ}
 use Rattle.laws_contents.specs.Written.{at_size, laid, written, made}
 

@@ -5,6 +5,7 @@ use mathlib.Core.Bool.{true}
 use Prim.Native.Nat.{ℕ, ◌-◌, ◌≤◌, ◌<◌}
 use Rattle.kinds.specs.Numbers.{REGULAR, most_file_bytes}
 use Rattle.kinds.specs.declared.call.SetSize.{SetSize}
+use Rattle.kinds.specs.declared.call.SetSize.TheVariants as SetSize
 use Rattle.spec.specs.Image.{Store, objects, object_at}
 use Rattle.spec.specs.Procedures.Attributes.{is_given, size_set, resize_to}
 use Rattle.spec.specs.Room.{size_of, need, free_block_count}

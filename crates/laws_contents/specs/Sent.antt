@@ -1,5 +1,5 @@
 -- WRITEs of one file, one after the other.
-use Rattle.std.specs.Prelude.{ℕ, List, ◌∷◌}
+use Rattle.std.specs.Prelude.{ℕ, List, [], ◌∷◌}
 use Rattle.kinds.specs.declared.object.Context.{Context}
 use Rattle.spec.specs.Image.{Store}
 use Rattle.spec.specs.Procedures.Data.{write_store}

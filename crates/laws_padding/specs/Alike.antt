@@ -1,5 +1,5 @@
 -- Calls, and lists of requests, that differ at most in padding: "its meaning doesn't depend on them".
-use Rattle.std.specs.Prelude.{ℕ, ◌+◌, Bool, false, ◌&&◌, ◌||◌, List, ◌∷◌, ◌≡◌, leb, ltb, length, get_or}
+use Rattle.std.specs.Prelude.{ℕ, ◌+◌, Bool, false, ◌&&◌, ◌||◌, List, [], ◌∷◌, ◌≡◌, leb, ltb, length, get_or}
 use Rattle.kinds.specs.declared.call.Part.{Part}
 use Rattle.spec.specs.Bytes.{padding}
 use Rattle.history.specs.Run.{Request}

@@ -1,10 +1,11 @@
 -- The fields of opaque data that are read of a call: handles, names, data, and the bodies of credential and verifier. Of a call that is
 -- refused, those that are read up to the refusal.
-use Rattle.std.specs.Prelude.{ℕ, cond, List, ◌∷◌, ◌++◌, leb, eqb}
+use Rattle.std.specs.Prelude.{ℕ, cond, List, [], ◌∷◌, ◌++◌, leb, eqb}
 use Rattle.kinds.specs.Numbers.{most_credential_bytes, most_handle_bytes}
 use Rattle.kinds.specs.Reading.{Read, got, bad}
 use Rattle.kinds.specs.declared.call.Part.{Part}
 use Rattle.kinds.specs.declared.call.Header.{Header}
+use Rattle.kinds.specs.declared.call.Header.TheVariants as Header
 use Rattle.kinds.specs.declared.call.NameIn.{NameIn}
 use Rattle.kinds.specs.declared.call.Arguments.{Arguments}
 use Rattle.kinds.specs.declared.call.Arguments.TheVariants as Call

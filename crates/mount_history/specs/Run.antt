@@ -1,5 +1,5 @@
 -- Any list of calls of MOUNT: the table goes through `serve_mount`, and what is told through `tell`. The store may be another in each call.
-use Rattle.std.specs.Prelude.{ℕ, ◌<◌, List, ◌∷◌, take}
+use Rattle.std.specs.Prelude.{ℕ, ◌<◌, List, [], ◌∷◌, take}
 use Rattle.kinds.specs.Mount.{table_length}
 use Rattle.spec.specs.Bytes.{zeros}
 use Rattle.spec.specs.Image.{Store}

@@ -1,7 +1,7 @@
 -- Examples of the entry of MOUNT: its answers in order, the outcomes of RPC and each procedure's whole outcome, by computation.
 use Prim.Native.Nat.{ℕ}
 use lib.ListN.{replicate}
-use mathlib.Core.List.{List, ◌∷◌}
+use mathlib.Core.List.{List, [], ◌∷◌}
 use mathlib.Core.Path.{◌≡◌, refl}
 use Rattle.spec.specs.Bytes.{zeros, words}
 use Rattle.spec.specs.Image.{Store}

@@ -1,6 +1,7 @@
 -- Examples of the mount table: its check and its edits, by computation.
+use Prim.Native.Nat.{◌+◌}
 use lib.ListN.{replicate, set}
-use mathlib.Core.List.{◌∷◌, ◌++◌}
+use mathlib.Core.List.{[], ◌∷◌, ◌++◌}
 use mathlib.Core.Bool.{true, false}
 use mathlib.Core.Path.{◌≡◌, refl}
 use Rattle.spec.specs.Bytes.{zeros, words}

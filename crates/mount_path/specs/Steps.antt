@@ -1,5 +1,5 @@
 -- The steps of a walk, as the code takes them.
-use Rattle.std.specs.Prelude.{ℕ, ◌+◌, ◌-◌, ◌≤◌, ◌<◌, ◌≡◌, List, ◌∷◌}
+use Rattle.std.specs.Prelude.{ℕ, ◌+◌, ◌-◌, ◌≤◌, ◌<◌, ◌≡◌, List, [], ◌∷◌}
 use Rattle.spec.specs.Bytes.{part}
 use Rattle.spec.specs.Checked.{Checked, passed}
 use Rattle.spec.specs.Image.{Store, objects}

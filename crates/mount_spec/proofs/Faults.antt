@@ -1,7 +1,7 @@
 -- Examples of calls of MOUNT that cannot be read: the number of the answer, and the offset at which the call broke, by computation.
 use Prim.Native.Nat.{ℕ}
 use lib.ListN.{replicate}
-use mathlib.Core.List.{List, ◌∷◌, ◌++◌}
+use mathlib.Core.List.{List, [], ◌∷◌, ◌++◌}
 use mathlib.Core.Path.{◌≡◌, refl}
 use Rattle.spec.specs.Bytes.{zeros, words}
 use Rattle.spec.specs.Header.{fault}

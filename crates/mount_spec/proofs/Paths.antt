@@ -1,6 +1,6 @@
 -- Examples of paths and what they lead to, by computation.
 use lib.ListN.{replicate}
-use mathlib.Core.List.{◌∷◌, ◌++◌}
+use mathlib.Core.List.{[], ◌∷◌, ◌++◌}
 use mathlib.Core.Path.{◌≡◌, refl}
 use Rattle.spec.specs.Checked.{refused, passed}
 use Rattle.mount_spec.specs.Path.{components, mount_point}

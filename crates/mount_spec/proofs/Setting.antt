@@ -1,7 +1,7 @@
 -- A store, tables, calls and replies for worked examples, written from document 01, document 02 and RFC 1813.
-use Prim.Native.Nat.{ℕ, zero, suc, ◌-◌}
+use Prim.Native.Nat.{ℕ, zero, suc, ◌+◌, ◌-◌}
 use lib.ListN.{length, replicate}
-use mathlib.Core.List.{List, ◌∷◌, ◌++◌}
+use mathlib.Core.List.{List, [], ◌∷◌, ◌++◌}
 use Rattle.spec.specs.Bytes.{zeros, words, opaque_bytes}
 use Rattle.spec.specs.Header.{header}
 use Rattle.spec.specs.Image.{Store}

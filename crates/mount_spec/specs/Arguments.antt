@@ -4,7 +4,7 @@ use Rattle.kinds.specs.Mount.{most_path_bytes}
 use Rattle.kinds.specs.declared.call.Part.{Part}
 use Rattle.kinds.specs.declared.mount.MountArguments.{MountArguments}
 use Rattle.kinds.specs.declared.mount.MountArguments.TheVariants as Mount
-use Rattle.spec.specs.Xdr.{Reader, done, opaque, end}
+use Rattle.spec.specs.Xdr.{Reader, ◌>>=◌, ◌>>◌, done, opaque, end}
 
 -- "Paths are `dirpath<1024>`: more is GARBAGE_ARGS"
 unfoldable pub dirpath : Reader Part

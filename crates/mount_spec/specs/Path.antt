@@ -1,7 +1,7 @@
 -- The path of MNT: its components, and the directory that it leads to.
-use Rattle.std.specs.Prelude.{ℕ, List, ◌∷◌, ◌++◌, Bool, false, not, cond, eqb}
+use Rattle.std.specs.Prelude.{ℕ, List, [], ◌∷◌, ◌++◌, Bool, false, not, cond, eqb}
 use Rattle.kinds.specs.Numbers.{NOTDIR, INVAL}
-use Rattle.spec.specs.Checked.{Checked, refuse_if, passed}
+use Rattle.spec.specs.Checked.{Checked, ◌>>=◌, ◌>>◌, refuse_if, passed}
 use Rattle.spec.specs.Image.{Store}
 use Rattle.spec.specs.Room.{is_directory}
 use Rattle.spec.specs.Procedures.Names.{check_in}

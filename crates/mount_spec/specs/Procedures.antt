@@ -2,7 +2,7 @@
 use Rattle.std.specs.Prelude.{ℕ, List}
 use Rattle.kinds.specs.declared.mount.MountArguments.{MountArguments}
 use Rattle.kinds.specs.declared.mount.MountArguments.TheVariants as Mount
-use Rattle.spec.specs.Checked.{Checked, refused, passed}
+use Rattle.spec.specs.Checked.{Checked, refused, passed, ◌>>=◌}
 use Rattle.spec.specs.Image.{Store}
 use Rattle.spec.specs.Procedures.{cut}
 use Rattle.mount_spec.specs.Path.{mount_point}

@@ -1,5 +1,5 @@
 -- The bytes of each result of MOUNT version 3, as RFC 1813 section 5.2 writes their structures.
-use Rattle.std.specs.Prelude.{ℕ, zero, suc, ◌+◌, ◌/◌, ◌%◌, List, ◌∷◌, ◌++◌, cond, ltb}
+use Rattle.std.specs.Prelude.{ℕ, zero, suc, ◌+◌, ◌/◌, ◌%◌, List, [], ◌∷◌, ◌++◌, cond, ltb}
 use Rattle.kinds.specs.Mount.{rows, none_flavor, unix_flavor}
 use Rattle.kinds.specs.Numbers.{OK}
 use Rattle.spec.specs.Bytes.{words, opaque_bytes}

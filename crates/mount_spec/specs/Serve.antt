@@ -1,15 +1,16 @@
 -- The entry of MOUNT version 3: for any bytes, what it answers and what it leaves in the lent buffers.
-use Rattle.std.specs.Prelude.{ℕ, List, not, ltb, length}
+use Rattle.std.specs.Prelude.{ℕ, List, [], not, ltb, length}
 use Rattle.kinds.specs.Mount.{mount_program, mount_version, least_mount_reply_bytes}
 use Rattle.kinds.specs.Numbers.{most_call_bytes}
 use Rattle.kinds.specs.Reading.{Read, got, bad}
 use Rattle.kinds.specs.declared.numbers.Fault.{Fault}
 use Rattle.kinds.specs.declared.call.CallHeader.{CallHeader}
 use Rattle.kinds.specs.declared.call.Header.{Header}
+use Rattle.kinds.specs.declared.call.Header.TheVariants as Header
 use Rattle.kinds.specs.declared.mount.MountArguments.{MountArguments}
 use Rattle.spec.specs.Bytes.{overlay}
 use Rattle.spec.specs.Check.{passes}
-use Rattle.spec.specs.Checked.{Checked, refused, passed, refuse_if}
+use Rattle.spec.specs.Checked.{Checked, refused, passed, ◌>>◌, refuse_if}
 use Rattle.spec.specs.Header.{header, fault, header_fault}
 use Rattle.spec.specs.Image.{Store}
 use Rattle.spec.specs.Rpc.{Program, denied, accepted, SUCCESS, GARBAGE_ARGS, judge, mismatch}

@@ -1,5 +1,5 @@
 -- The mount table: its layout, its check, and what MNT, UMNT and UMNTALL make of it.
-use Rattle.std.specs.Prelude.{ℕ, zero, suc, ◌+◌, ◌*◌, ◌-◌, List, ◌++◌, Bool, ◌&&◌, ◌||◌, not, cond, eqb, leb, length}
+use Rattle.std.specs.Prelude.{ℕ, zero, suc, ◌+◌, ◌*◌, ◌-◌, List, [], ◌++◌, Bool, ◌&&◌, ◌||◌, not, cond, eqb, leb, length}
 use Rattle.std.proofs.Math.Option.{Option, some, none}
 use Rattle.kinds.specs.Mount.{rows, most_path_bytes, path_length_offset, path_offset, row_length, table_length}
 use Rattle.kinds.specs.Numbers.{SERVERFAULT}

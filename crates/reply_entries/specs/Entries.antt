@@ -1,5 +1,5 @@
 -- Entries of a listing as they are written: one at a time, and no more than are sent.
-use Rattle.std.specs.Prelude.{ℕ, ◌+◌, ◌-◌, ◌≤◌, cond, List, ◌∷◌, ◌++◌, map, ◌≡◌, length, take}
+use Rattle.std.specs.Prelude.{ℕ, ◌+◌, ◌-◌, ◌≤◌, cond, List, [], ◌∷◌, ◌++◌, map, ◌≡◌, length, take}
 use Rattle.kinds.specs.Numbers.{most_name_bytes}
 use Rattle.spec.specs.Bytes.{part, padding, zeros}
 use Rattle.spec.specs.Image.{Store}

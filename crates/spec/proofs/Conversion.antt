@@ -1,7 +1,7 @@
 -- Examples of the converter, by computation.
 use Prim.Native.Nat.{ℕ}
 use lib.ListN.{replicate, drop}
-use mathlib.Core.List.{List, ◌∷◌, ◌++◌}
+use mathlib.Core.List.{List, [], ◌∷◌, ◌++◌}
 use mathlib.Core.Path.{◌≡◌, refl}
 use Rattle.spec.specs.Bytes.{zeros, words}
 use Rattle.spec.specs.Image.{Store}

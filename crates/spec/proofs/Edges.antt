@@ -1,7 +1,7 @@
 -- Examples at the edges: numbers, the order of checks and the readings of open points, by computation.
 use Prim.Native.Nat.{◌+◌}
 use lib.ListN.{replicate}
-use mathlib.Core.List.{◌∷◌, ◌++◌}
+use mathlib.Core.List.{[], ◌∷◌, ◌++◌}
 use mathlib.Core.Path.{◌≡◌, refl}
 use Rattle.spec.specs.Bytes.{zeros, words, opaque_bytes}
 use Rattle.spec.specs.Serve.{check, format}

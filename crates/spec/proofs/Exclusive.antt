@@ -1,12 +1,12 @@
 -- Examples of EXCLUSIVE CREATE, and of the verifier in the check, by computation.
 use Prim.Native.Nat.{ℕ, ◌+◌}
-use lib.ListN.{replicate}
-use mathlib.Core.List.{List, ◌∷◌, ◌++◌}
+use lib.ListN.{length, replicate}
+use mathlib.Core.List.{List, [], ◌∷◌, ◌++◌}
 use mathlib.Core.Path.{◌≡◌, refl}
 use Rattle.spec.specs.Bytes.{part, overlay, zeros, words}
 use Rattle.spec.specs.Image.{Store}
 use Rattle.spec.specs.Serve.{check}
-use Rattle.spec.proofs.Setting.{fresh, served, after, status_sent, handle_to, mkdir_call, write_call, setattr_call, create_by, rename_call}
+use Rattle.spec.proofs.Setting.{fresh, served, after, status_sent, handle_to, create_call, mkdir_call, write_call, setattr_call, create_by, rename_call}
 use Rattle.spec.proofs.Setting.{remove_call, name_a, name_b, root_alone, with_a, exclusive_call, word_after, computing}
 
 -- the file "a" made EXCLUSIVE with verifier 1 2, with room for blocks, and in a store that is full then

@@ -1,6 +1,6 @@
 -- Examples of calls that cannot be read: the number of the answer, and the offset at which the call broke, by computation.
 use Prim.Native.Nat.{ℕ}
-use mathlib.Core.List.{List, ◌∷◌, ◌++◌}
+use mathlib.Core.List.{List, [], ◌∷◌, ◌++◌}
 use mathlib.Core.Path.{◌≡◌, refl}
 use Rattle.kinds.specs.declared.numbers.Fault.{Fault}
 use Rattle.spec.specs.Bytes.{zeros, words, opaque_bytes}

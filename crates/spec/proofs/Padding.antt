@@ -1,7 +1,7 @@
 -- Examples of padding that is not zero, and of padding that is missing, by computation.
 use Prim.Native.Nat.{ℕ}
 use lib.ListN.{length, replicate}
-use mathlib.Core.List.{List, ◌∷◌, ◌++◌}
+use mathlib.Core.List.{List, [], ◌∷◌, ◌++◌}
 use mathlib.Core.Path.{◌≡◌, refl}
 use Rattle.spec.specs.Bytes.{words}
 use Rattle.spec.specs.Header.{fault}

@@ -1,7 +1,7 @@
 -- Examples of RENAME onto a name that exists, by computation.
 use Prim.Native.Nat.{ℕ, ◌+◌}
 use lib.ListN.{replicate}
-use mathlib.Core.List.{List, ◌∷◌, ◌++◌}
+use mathlib.Core.List.{List, [], ◌∷◌, ◌++◌}
 use mathlib.Core.Path.{◌≡◌, refl}
 use Rattle.spec.specs.Bytes.{zeros, be_at, words}
 use Rattle.spec.specs.Image.{Store}

@@ -1,7 +1,7 @@
 -- Examples of the search for a name and of the byte pairs that it compares, by computation.
 use Prim.Native.Nat.{ℕ, ◌+◌}
 use lib.ListN.{replicate}
-use mathlib.Core.List.{List, ◌∷◌, ◌++◌}
+use mathlib.Core.List.{List, [], ◌∷◌, ◌++◌}
 use mathlib.Core.Option.{Option, some, none}
 use mathlib.Core.Bool.{true}
 use mathlib.Core.Path.{◌≡◌, refl}

@@ -1,7 +1,7 @@
 -- Stores, calls and replies for worked examples, written in words from document 01 and RFC 1813.
 use Prim.Native.Nat.{ℕ, ◌+◌, ◌-◌, ◌*◌}
 use lib.ListN.{length, replicate}
-use mathlib.Core.List.{List, ◌∷◌, ◌++◌}
+use mathlib.Core.List.{List, [], ◌∷◌, ◌++◌}
 use Rattle.kinds.specs.declared.object.Context.{Context}
 use Rattle.spec.specs.Arguments.{handle, unbounded, name_in, time, set_number, set_size, set_time, settable, guard, how, form, arguments}
 use Rattle.spec.specs.Bytes.{part, overlay, zeros, digits, be_of, bytes_of, be_at, words, opaque_bytes, same_bytes, pairs, all_bytes}

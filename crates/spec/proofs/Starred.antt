@@ -2,12 +2,12 @@
 use Prim.Native.Nat.{◌+◌}
 use lib.ListN.{length, get_or, replicate}
 use mathlib.Core.Bool.{true}
-use mathlib.Core.List.{◌∷◌, ◌++◌, map}
+use mathlib.Core.List.{[], ◌∷◌, ◌++◌, map}
 use mathlib.Core.Path.{◌≡◌, refl}
 use Rattle.spec.specs.Bytes.{part, words}
 use Rattle.spec.specs.Count.{passing}
 use Rattle.spec.specs.Serve.{check}
-use Rattle.spec.proofs.Setting.{fresh, call_to, served, replied, answered, status_sent, handle_to, getattr_call, lookup_call, create_call}
+use Rattle.spec.proofs.Setting.{space, fresh, call_to, served, replied, answered, status_sent, handle_to, getattr_call, lookup_call, create_call}
 use Rattle.spec.proofs.Setting.{mkdir_call, write_call, read_call, readdir_call, root_words, tag0123456789, tag123456789, name_a, root_alone, with_a}
 use Rattle.spec.proofs.Setting.{without_blocks, with_tags, file_read, computing}
 

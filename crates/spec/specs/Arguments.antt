@@ -1,18 +1,24 @@
 -- The argument types of RFC 1813, as readers in the order of their XDR.
 use Rattle.std.specs.Prelude.{ℕ, cond, eqb}
 use Rattle.kinds.specs.Numbers.{most_handle_bytes}
+use Rattle.kinds.specs.Reading.{Read}
 use Rattle.kinds.specs.declared.object.Time.{Time}
 use Rattle.kinds.specs.declared.call.Part.{Part}
 use Rattle.kinds.specs.declared.call.SetNumber.{SetNumber}
+use Rattle.kinds.specs.declared.call.SetNumber.TheVariants as SetNumber
 use Rattle.kinds.specs.declared.call.SetSize.{SetSize}
+use Rattle.kinds.specs.declared.call.SetSize.TheVariants as SetSize
 use Rattle.kinds.specs.declared.call.SetTime.{SetTime}
+use Rattle.kinds.specs.declared.call.SetTime.TheVariants as SetTime
 use Rattle.kinds.specs.declared.call.Settable.{Settable}
 use Rattle.kinds.specs.declared.call.Guard.{Guard}
+use Rattle.kinds.specs.declared.call.Guard.TheVariants as Guard
 use Rattle.kinds.specs.declared.call.NameIn.{NameIn}
 use Rattle.kinds.specs.declared.call.How.{How}
+use Rattle.kinds.specs.declared.call.How.TheVariants as How
 use Rattle.kinds.specs.declared.call.Arguments.{Arguments}
 use Rattle.kinds.specs.declared.call.Arguments.TheVariants as Call
-use Rattle.spec.specs.Xdr.{Reader, done, word, long, choice, optional, opaque, no_maximum, end}
+use Rattle.spec.specs.Xdr.{Reader, ◌>>=◌, ◌>>◌, done, word, long, choice, optional, opaque, no_maximum, end}
 
 -- nfs_fh3: "a handle over 64 bytes" is refused
 unfoldable pub handle : Reader Part

@@ -1,5 +1,5 @@
 -- Byte lists: a part of one, a part replaced, and big-endian numbers, stated once over their width.
-use Rattle.std.specs.Prelude.{ℕ, zero, suc, ◌+◌, ◌*◌, ◌-◌, ◌/◌, ◌%◌, ◌^◌, List, ◌∷◌, ◌++◌, Bool, true, false, ◌&&◌, cond, eqb, length, take, drop, replicate}
+use Rattle.std.specs.Prelude.{ℕ, zero, suc, ◌+◌, ◌*◌, ◌-◌, ◌/◌, ◌%◌, ◌^◌, List, [], ◌∷◌, ◌++◌, Bool, true, false, ◌&&◌, cond, eqb, length, take, drop, replicate}
 
 -- the n bytes of b from index at
 unfoldable pub part : List ℕ → ℕ → ℕ → List ℕ

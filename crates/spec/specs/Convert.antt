@@ -1,5 +1,5 @@
 -- The converter from document 01's layout, in which an object record has 80 bytes: which old images are good, and what each becomes.
-use Rattle.std.specs.Prelude.{ℕ, zero, suc, ◌+◌, ◌*◌, ◌-◌, List, ◌++◌, Bool, ◌&&◌, eqb, leb, length, drop}
+use Rattle.std.specs.Prelude.{ℕ, zero, suc, ◌+◌, ◌*◌, ◌-◌, List, [], ◌∷◌, ◌++◌, Bool, ◌&&◌, eqb, leb, length, drop}
 use Rattle.kinds.specs.Numbers.{file_blocks}
 use Rattle.kinds.specs.Layout.{objects_head, names_head, blocks_head, generation_offset, mode_offset, uid_offset, gid_offset, size_offset, atime_offset}
 use Rattle.kinds.specs.Layout.{mtime_offset, ctime_offset, blocks_offset, object_length, old_object_length, name_record_length, block_length}

@@ -1,5 +1,5 @@
 -- Sums, counts and searches over the numbers below a bound. Every count of the store is one of these.
-use Rattle.std.specs.Prelude.{ℕ, zero, suc, ◌+◌, List, ◌∷◌, ◌++◌, Bool, true, false, ◌&&◌, ◌||◌, cond, eqb}
+use Rattle.std.specs.Prelude.{ℕ, zero, suc, ◌+◌, List, [], ◌∷◌, ◌++◌, Bool, true, false, ◌&&◌, ◌||◌, cond, eqb}
 use Rattle.std.proofs.Math.Option.{Option, some, none}
 
 -- 1 where a test holds, else 0

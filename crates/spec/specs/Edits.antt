@@ -1,13 +1,16 @@
 -- The edits of the store. Nothing else writes it.
-use Rattle.std.specs.Prelude.{ℕ, zero, suc, ◌+◌, ◌-◌, ◌%◌, min, max, List, ◌∷◌, ◌++◌, cond, eqb, ltb, get_or, take, drop, replicate}
+use Rattle.std.specs.Prelude.{ℕ, zero, suc, ◌+◌, ◌-◌, ◌%◌, min, max, List, [], ◌∷◌, ◌++◌, cond, eqb, ltb, get_or, take, drop, replicate}
 use Rattle.kinds.specs.Numbers.{file_blocks, unused_block}
 use Rattle.kinds.specs.Layout.{block_length}
 use Rattle.kinds.specs.Objects.{free_object}
 use Rattle.kinds.specs.declared.object.Time.{Time}
 use Rattle.kinds.specs.declared.object.Object.{Object}
 use Rattle.kinds.specs.declared.call.SetNumber.{SetNumber}
+use Rattle.kinds.specs.declared.call.SetNumber.TheVariants as SetNumber
 use Rattle.kinds.specs.declared.call.SetSize.{SetSize}
+use Rattle.kinds.specs.declared.call.SetSize.TheVariants as SetSize
 use Rattle.kinds.specs.declared.call.SetTime.{SetTime}
+use Rattle.kinds.specs.declared.call.SetTime.TheVariants as SetTime
 use Rattle.kinds.specs.declared.call.Settable.{Settable}
 use Rattle.spec.specs.Bytes.{overlay, zeros}
 use Rattle.spec.specs.Image.{Store, block_start, object_at, put_object, name_at, put_name, free_name}

@@ -1,5 +1,5 @@
 -- Handles, and the attributes that replies show.
-use Rattle.std.specs.Prelude.{ℕ, ◌+◌, ◌*◌, List, ◌∷◌, not, cond, eqb, leb, length}
+use Rattle.std.specs.Prelude.{ℕ, ◌+◌, ◌*◌, List, [], ◌∷◌, not, cond, eqb, leb, length}
 use Rattle.std.proofs.Math.Option.{Option, some, none}
 use Rattle.kinds.specs.Layout.{block_length}
 use Rattle.kinds.specs.Numbers.{NOTDIR, ACCES, NAMETOOLONG, STALE, BADHANDLE, most_name_bytes, handle_length}
@@ -10,7 +10,7 @@ use Rattle.spec.specs.Bytes.{words, be_at}
 use Rattle.spec.specs.Image.{Store, stamp, objects, object_at}
 use Rattle.spec.specs.Room.{is_live, is_directory, size_of, need, namings, subdirectories}
 use Rattle.spec.specs.Names.{good_bytes}
-use Rattle.spec.specs.Checked.{Checked, refused, passed, refuse_if}
+use Rattle.spec.specs.Checked.{Checked, refused, passed, ◌>>=◌, ◌>>◌, refuse_if}
 
 -- "A handle is 12 bytes: stamp, object, generation."
 unfoldable pub handle_of : Store → ℕ → List ℕ

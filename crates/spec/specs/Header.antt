@@ -4,8 +4,9 @@ use Rattle.kinds.specs.Numbers.{most_credential_bytes}
 use Rattle.kinds.specs.declared.numbers.Fault.{Fault}
 use Rattle.kinds.specs.declared.call.Credential.{Credential}
 use Rattle.kinds.specs.declared.call.Header.{Header}
+use Rattle.kinds.specs.declared.call.Header.TheVariants as Header
 use Rattle.spec.specs.Bytes.{be_at}
-use Rattle.spec.specs.Xdr.{Reader, done, word, choice, opaque}
+use Rattle.spec.specs.Xdr.{Reader, ◌>>=◌, ◌>>◌, done, word, choice, opaque}
 
 -- opaque_auth: "a credential or verifier over 400 bytes" is refused; any flavor is accepted, and any padding
 unfoldable pub credential : Reader Credential

@@ -1,5 +1,5 @@
 -- The store image: where its sections lie, what the bytes of each record mean, and the bytes of each record.
-use Rattle.std.specs.Prelude.{ℕ, zero, suc, ◌+◌, ◌*◌, ◌-◌, List, ◌∷◌, ◌++◌, length, get_or}
+use Rattle.std.specs.Prelude.{ℕ, zero, suc, ◌+◌, ◌*◌, ◌-◌, List, [], ◌∷◌, ◌++◌, length, get_or}
 use Rattle.kinds.specs.Numbers.{file_blocks, most_name_bytes}
 use Rattle.kinds.specs.Layout.{stamp_offset, object_count_offset, objects_head, names_head, blocks_head, generation_offset, mode_offset, uid_offset, gid_offset}
 use Rattle.kinds.specs.Layout.{size_offset, atime_offset, mtime_offset, ctime_offset, blocks_offset, verifier_offset, exclusive_offset, object_length}

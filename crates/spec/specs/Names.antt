@@ -1,5 +1,5 @@
 -- What a name may be, in a store and in a call.
-use Rattle.std.specs.Prelude.{ℕ, List, ◌∷◌, Bool, ◌&&◌, ◌||◌, not, eqb, leb, length}
+use Rattle.std.specs.Prelude.{ℕ, List, [], ◌∷◌, Bool, ◌&&◌, ◌||◌, not, eqb, leb, length}
 use Rattle.kinds.specs.Numbers.{most_name_bytes}
 use Rattle.spec.specs.Bytes.{same_bytes, all_bytes}
 

@@ -1,5 +1,5 @@
 -- The bytes of each reply, as RFC 5531 and RFC 1813 write their structures.
-use Rattle.std.specs.Prelude.{ℕ, ◌/◌, ◌%◌, List, ◌∷◌, ◌++◌, length, get_or, replicate}
+use Rattle.std.specs.Prelude.{ℕ, ◌/◌, ◌%◌, List, [], ◌∷◌, ◌++◌, length, get_or, replicate}
 use Rattle.std.proofs.Math.Option.{Option, some, none}
 use Rattle.kinds.specs.Numbers.{OK, zero_words, most_file_bytes, most_name_bytes, most_transfer_bytes, most_links, file_sync, file_system_properties}
 use Rattle.kinds.specs.declared.object.Time.{Time}

@@ -1,8 +1,8 @@
 -- The outcomes of a call before its procedure runs, and the heads of replies (RFC 5531 section 9).
-use Rattle.std.specs.Prelude.{ℕ, List, ◌∷◌, ◌++◌, ◌||◌, not, cond, eqb, ltb}
+use Rattle.std.specs.Prelude.{ℕ, List, [], ◌∷◌, ◌++◌, ◌||◌, not, cond, eqb, ltb}
 use Rattle.kinds.specs.declared.call.CallHeader.{CallHeader}
 use Rattle.spec.specs.Bytes.{words}
-use Rattle.spec.specs.Checked.{Checked, refuse_if}
+use Rattle.spec.specs.Checked.{Checked, ◌>>◌, refuse_if}
 
 -- rejected_reply: xid, REPLY, MSG_DENIED, "RPC_MISMATCH 2 2"
 unfoldable pub denied : ℕ → List ℕ

@@ -1,5 +1,5 @@
 -- The four entries: for any bytes, what each answers and what it leaves in the lent buffers.
-use Rattle.std.specs.Prelude.{ℕ, ◌*◌, ◌-◌, List, ◌∷◌, ◌++◌, not, cond, eqb, ltb, length}
+use Rattle.std.specs.Prelude.{ℕ, ◌*◌, ◌-◌, List, [], ◌∷◌, ◌++◌, not, cond, eqb, ltb, length}
 use Rattle.kinds.specs.Numbers.{least_reply_bytes, most_call_bytes}
 use Rattle.kinds.specs.Layout.{object_length, name_record_length, block_length}
 use Rattle.kinds.specs.Reading.{Read, got, bad}
@@ -9,6 +9,7 @@ use Rattle.kinds.specs.declared.object.Context.{Context}
 use Rattle.kinds.specs.declared.numbers.Fault.{Fault}
 use Rattle.kinds.specs.declared.call.CallHeader.{CallHeader}
 use Rattle.kinds.specs.declared.call.Header.{Header}
+use Rattle.kinds.specs.declared.call.Header.TheVariants as Header
 use Rattle.kinds.specs.declared.call.Arguments.{Arguments}
 use Rattle.spec.specs.Bytes.{overlay, zeros, words}
 use Rattle.spec.specs.Image.{Store, objects, object_bytes}
@@ -20,7 +21,7 @@ use Rattle.spec.specs.Results.{Done}
 use Rattle.spec.specs.Replies.{result_bytes}
 use Rattle.spec.specs.Header.{header, fault, header_fault}
 use Rattle.spec.specs.Rpc.{denied, accepted, nfs, SUCCESS, GARBAGE_ARGS, judge, mismatch}
-use Rattle.spec.specs.Checked.{Checked, refused, passed, refuse_if}
+use Rattle.spec.specs.Checked.{Checked, refused, passed, ◌>>◌, refuse_if}
 
 -- an entry's outcome: the answer's number, the reply's length, the offset at which the call broke, the reply space and the store
 pub record Outcome : Type 0 where

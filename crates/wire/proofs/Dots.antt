@@ -1,5 +1,5 @@
 -- A part of some bytes is "." or "..": by its length and its bytes. Assumes nothing.
-use Rattle.std.proofs.Common.{◌≡◌, ℕ, suc, ◌+◌, ◌≤◌, false, ◌&&◌, eqb, ◌≢◌, List, ◌∷◌, length, get_or, sym, ap, ◌∙◌, add-one, arith}
+use Rattle.std.proofs.Common.{◌≡◌, ℕ, suc, ◌+◌, ◌≤◌, false, ◌&&◌, eqb, ◌≢◌, List, [], ◌∷◌, length, get_or, sym, ap, ◌∙◌, add-one, arith}
 use mathlib.Core.Bool.{and-true}
 use Rattle.spec.specs.Bytes.{part, same_bytes}
 use Rattle.spec.specs.Names.{is_dot, is_dot_dot}

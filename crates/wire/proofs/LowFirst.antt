@@ -1,5 +1,5 @@
 -- The laws of numbers with their least significant byte first. Assumes nothing.
-use Rattle.std.proofs.Common.{◌≡◌, ℕ, zero, suc, ◌+◌, ◌*◌, ◌/◌, ◌%◌, ◌<◌, ◌≤◌, List, ◌∷◌, reverse, length, get_or, set, sym, ap, ◌∙◌, div-one, arith, lit<}
+use Rattle.std.proofs.Common.{◌≡◌, ℕ, zero, suc, ◌+◌, ◌*◌, ◌/◌, ◌%◌, ◌<◌, ◌≤◌, List, [], ◌∷◌, reverse, length, get_or, set, sym, ap, ◌∙◌, div-one, arith, lit<}
 use mathlib.Core.List.{reverse-cons, reverse-reverse}
 use native.Mathlib.Numerals.{towards_suc}
 use lib.ListN.{length-reverse}

@@ -1,5 +1,5 @@
 use Prim.Native.Nat.{◌+◌}
-use mathlib.Core.List.{◌∷◌}
+use mathlib.Core.List.{[], ◌∷◌}
 use Rattle.spec.specs.Bytes.{part}
 use Rattle.spec.specs.Procedures.Listing.{entries_above}
 use Rattle.reply_entries.specs.Entries.{entry}

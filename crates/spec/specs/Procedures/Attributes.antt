@@ -5,11 +5,15 @@ use Rattle.kinds.specs.Numbers.{OK, INVAL, NOSPC, NOT_SYNC, nanoseconds_end, mos
 use Rattle.kinds.specs.declared.object.Time.{Time}
 use Rattle.kinds.specs.declared.object.Context.{Context}
 use Rattle.kinds.specs.declared.call.SetNumber.{SetNumber}
+use Rattle.kinds.specs.declared.call.SetNumber.TheVariants as SetNumber
 use Rattle.kinds.specs.declared.call.SetSize.{SetSize}
+use Rattle.kinds.specs.declared.call.SetSize.TheVariants as SetSize
 use Rattle.kinds.specs.declared.call.SetTime.{SetTime}
+use Rattle.kinds.specs.declared.call.SetTime.TheVariants as SetTime
 use Rattle.kinds.specs.declared.call.Settable.{Settable}
 use Rattle.kinds.specs.declared.call.Guard.{Guard}
-use Rattle.spec.specs.Checked.{Checked, refuse_if, passed}
+use Rattle.kinds.specs.declared.call.Guard.TheVariants as Guard
+use Rattle.spec.specs.Checked.{Checked, ◌>>=◌, ◌>>◌, refuse_if, passed}
 use Rattle.spec.specs.Edits.{set_attributes, forget_verifier, resize}
 use Rattle.spec.specs.Handles.{reach, attributes, change}
 use Rattle.spec.specs.Image.{Store, object_at}

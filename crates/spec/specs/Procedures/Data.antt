@@ -2,7 +2,7 @@
 use Rattle.std.specs.Prelude.{ℕ, ◌+◌, ◌-◌, min, max, eqb, leb, ltb, length, take, ◌&&◌, not, cond, List}
 use Rattle.kinds.specs.Numbers.{INVAL, FBIG, NOSPC, most_file_bytes, most_transfer_bytes}
 use Rattle.kinds.specs.declared.object.Context.{Context}
-use Rattle.spec.specs.Checked.{Checked, refuse_if, passed}
+use Rattle.spec.specs.Checked.{Checked, ◌>>=◌, ◌>>◌, refuse_if, passed}
 use Rattle.spec.specs.Edits.{set_attributes, mtime_and_ctime, resize, write_file, read_file}
 use Rattle.spec.specs.Handles.{reach, attributes, change}
 use Rattle.spec.specs.Image.{Store}

@@ -5,7 +5,7 @@ use Rattle.kinds.specs.Numbers.{OK, EXIST, INVAL, NOSPC, MLINK, most_links}
 use Rattle.kinds.specs.declared.object.Attributes.{Attributes}
 use Rattle.kinds.specs.declared.object.Change.{Change}
 use Rattle.kinds.specs.declared.object.Context.{Context}
-use Rattle.spec.specs.Checked.{Checked, refuse_if, present, absent, passed}
+use Rattle.spec.specs.Checked.{Checked, ◌>>=◌, ◌>>◌, refuse_if, present, absent, passed}
 use Rattle.spec.specs.Edits.{set_attributes, only_ctime, add_name}
 use Rattle.spec.specs.Handles.{reach, reach_directory, check_name, attributes, change, handle_attributes, handle_change}
 use Rattle.spec.specs.Image.{Store}

@@ -1,8 +1,8 @@
 -- READDIR.
-use Rattle.std.specs.Prelude.{ℕ, ◌+◌, ◌-◌, min, eqb, leb, ltb, length, Bool, true, false, ◌&&◌, not, cond, List, ◌∷◌, ◌++◌, map}
+use Rattle.std.specs.Prelude.{ℕ, ◌+◌, ◌-◌, min, eqb, leb, ltb, length, Bool, true, false, ◌&&◌, not, cond, List, [], ◌∷◌, ◌++◌, map}
 use Rattle.kinds.specs.Numbers.{BAD_COOKIE, TOOSMALL, most_transfer_bytes, listing_cost, entry_fixed_cost}
 use Rattle.spec.specs.Bytes.{padding}
-use Rattle.spec.specs.Checked.{Checked, refuse_if, passed}
+use Rattle.spec.specs.Checked.{Checked, ◌>>=◌, ◌>>◌, refuse_if, passed}
 use Rattle.spec.specs.Count.{passing}
 use Rattle.spec.specs.Handles.{reach_directory, attributes}
 use Rattle.spec.specs.Image.{Store, names, name_at}

@@ -1,5 +1,5 @@
 -- LOOKUP, CREATE and MKDIR.
-use Rattle.std.specs.Prelude.{ℕ, eqb, Bool, false, ◌&&◌, ◌||◌, not, cond, List}
+use Rattle.std.specs.Prelude.{ℕ, eqb, Bool, true, false, ◌&&◌, ◌||◌, not, cond, List}
 use Rattle.std.proofs.Math.Option.{Option, some, none}
 use Rattle.kinds.specs.Numbers.{NOENT, EXIST, INVAL, NOSPC, REGULAR, DIRECTORY, kept_flag}
 use Rattle.kinds.specs.Objects.{plain_object}
@@ -7,9 +7,11 @@ use Rattle.kinds.specs.declared.object.Time.{Time}
 use Rattle.kinds.specs.declared.object.Object.{Object}
 use Rattle.kinds.specs.declared.object.Context.{Context}
 use Rattle.kinds.specs.declared.call.SetSize.{SetSize}
+use Rattle.kinds.specs.declared.call.SetSize.TheVariants as SetSize
 use Rattle.kinds.specs.declared.call.Settable.{Settable}
 use Rattle.kinds.specs.declared.call.How.{How}
-use Rattle.spec.specs.Checked.{Checked, refuse_if, present, absent, refused, passed}
+use Rattle.kinds.specs.declared.call.How.TheVariants as How
+use Rattle.spec.specs.Checked.{Checked, ◌>>=◌, ◌>>◌, refuse_if, present, absent, refused, passed}
 use Rattle.spec.specs.Edits.{with_attributes, set_attributes, only_ctime, mtime_and_ctime, with_verifier, resize, create_object}
 use Rattle.spec.specs.Handles.{handle_of, reach_directory, check_name, attributes, change}
 use Rattle.spec.specs.Image.{Store, object_at, name_at}

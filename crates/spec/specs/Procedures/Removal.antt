@@ -4,7 +4,7 @@ use Rattle.std.proofs.Math.Option.{Option, some, none}
 use Rattle.kinds.specs.Numbers.{OK, NOENT, ACCES, EXIST, NOTDIR, INVAL, NOTEMPTY}
 use Rattle.kinds.specs.declared.object.Change.{Change}
 use Rattle.kinds.specs.declared.object.Context.{Context}
-use Rattle.spec.specs.Checked.{Checked, refuse_if, present, passed}
+use Rattle.spec.specs.Checked.{Checked, ◌>>=◌, ◌>>◌, refuse_if, present, passed}
 use Rattle.spec.specs.Count.{some_below}
 use Rattle.spec.specs.Edits.{set_attributes, only_ctime, remove_name, move_name}
 use Rattle.spec.specs.Handles.{reach_directory, check_name, change, handle_change}

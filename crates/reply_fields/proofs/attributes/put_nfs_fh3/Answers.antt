@@ -1,5 +1,5 @@
 use Prim.Native.Nat.{ℕ}
-use mathlib.Core.List.{◌∷◌}
+use mathlib.Core.List.{[], ◌∷◌}
 use mathlib.Core.Path.{◌≡◌, refl}
 use Rattle.kinds.specs.Numbers.{handle_length}
 use Rattle.spec.specs.Bytes.{words, opaque_bytes, bytes_of}
