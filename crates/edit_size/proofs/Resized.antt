@@ -44,6 +44,11 @@ pub record Resizing (s : Store) (o size old : ℕ) (own : List ℕ) (before afte
   pub had : before ≡ need old
   pub gets : after ≡ need size
 
+pub resizing : (s : Store) (o size old : ℕ) (own : List ℕ) (before after : ℕ) → GoodRecords s → o < objects s → (object_at s o).kind ≡ REGULAR
+    → old ≡ size_of s o → own ≡ (object_at s o).blocks → before ≡ need old → after ≡ need size → Resizing s o size old own before after
+resizing s o size old own before after good below regular was listed had gets =
+    record { good = good; below = below; regular = regular; was = was; listed = listed; had = had; gets = gets }
+
 module _ {s : Store} {o size old : ℕ} {own : List ℕ} {before after : ℕ} (r : Resizing s o size old own before after) where
   live_record : LiveObject (blocks s) (object_at s o)
   live_record = live_at s r.good o r.below (omega (arith, r.regular))

@@ -21,7 +21,7 @@ returns-then-lacks_room c = rw (
   ← c.find_available-object.ensures,
   c.in-At.is,
   ← c.find_free_name-record.ensures,
-  c.before.before.before.«record».given.1,
+  c.in-At-record.is,
   ← c.lacks_room.ensures,
   c.if-lacks_room.true,
 )
@@ -32,7 +32,7 @@ returns c = rw (
   ← c.find_available-object.ensures,
   c.in-At.is,
   ← c.find_free_name-record.ensures,
-  c.before.before.before.«record».given.1,
+  c.in-At-record.is,
   ← c.lacks_room.ensures,
   c.if-lacks_room.false,
 )

@@ -31,8 +31,7 @@ unfolding is_within
 returns-then-at-o c = let a = c.args in
     rw (
       ← c.is_directory.ensures,
-      not-false c.is_directory.result
-          c.if-not-is_directory.false,
+      c.if-not-is_directory.false,
     )
     (sym (some_hit (λ k. eqb (above a.store.now k a.directory.0) a.o.0) c.loop-steps.steps (objects a.store.now)
     (eq-eqb _ _ (sym c.loop-steps.invariant.2 ∙ c.if-at-o.true)) (omega arith)))
@@ -49,8 +48,7 @@ returns-then-parent-at c = let a = c.args in
     let up = c.parent_table-parents.ensures.entries c.loop-steps.at (omega (arith, (good_shaped s g).few_objects)) in
     rw (
       ← c.is_directory.ensures,
-      not-false c.is_directory.result
-          c.if-not-is_directory.false,
+      c.if-not-is_directory.false,
     )
     (sym (way_ended s a.o.0 a.directory.0 c.loop-steps.steps (objects s)
     (ap (parent s) (sym c.loop-steps.invariant.2) ∙ sym up ∙ c.if-parent-at.true ∙ c.loop-steps.invariant.2) c.loop-steps.invariant.3
@@ -73,6 +71,5 @@ unfolding is_within
 returns c = let e : c.loop-steps.steps ≡ objects c.args.store.now = omega arith in
     rw (
       ← c.is_directory.ensures,
-      not-false c.is_directory.result
-          c.if-not-is_directory.false,
+      c.if-not-is_directory.false,
     ) (sym (rw e at c.loop-steps.invariant.3))

@@ -21,13 +21,10 @@ returns-in_default-free c = rw (
 )
     (record { answers = refl; leaves = refl })
 
---FAIL clauses as one
-pub put_row-requires : goal.put_row-requires
+pub put_row-requires-clause-r_lt_rows : goal.put_row-requires-clause-r_lt_rows
 unfolding available_row
-put_row-requires c = let st = c.before.before.before.before.before.before.before.before.before.before.before.before in
-    let p = lowest_passes (λ r. not (is_used_row st.args.table.now r)) rows _
-    (sym c.before.before.before.before.available-row.ensures ∙ ap found_row c.before.before.free.given.1) in
-    (st.requires.0, (p.below, st.requires.1))
+put_row-requires-clause-r_lt_rows c =
+    (lowest_passes (λ r. not (is_used_row c.args.table.now r)) rows _ (sym c.available_row-free.ensures ∙ ap found_row c.in-At-free.is)).below
 
 pub returns : goal.returns
 unfolding add_pair

@@ -1,5 +1,5 @@
 use mathlib.Core.Option.{none}
-use mathlib.Core.Path.{◌≡◌, refl, sym}
+use mathlib.Core.Path.{◌≡◌, refl, sym, ap, ◌∙◌}
 use Prim.Native.Nat.{◌-◌, ◌≤◌, zero-le}
 use native.Mathlib.Omega.{arith}
 use mathlib.Core.Bool.{not}
@@ -17,10 +17,10 @@ loop-i-init c = (zero-le, refl)
 pub returns-then-not-is_used : goal.returns-then-not-is_used
 unfolding available_row
 returns-then-not-is_used c = let a = c.args in
-    sym (lowest_hit (λ r. not (is_used_row a.table.now r)) c.loop-i.i rows c.loop-i.invariant.1 (rw (← c.is_used.ensures) c.if-not-is_used.true) (omega arith))
+    sym (lowest_hit (λ r. not (is_used_row a.table.now r)) c.loop-i.i rows c.loop-i.invariant.1 (ap not (sym c.is_used.ensures ∙ c.if-not-is_used.true)) (omega arith))
 
 pub loop-i-preserved : goal.loop-i-preserved
-loop-i-preserved c = (omega arith, lowest_more _ c.loop-i.i c.loop-i.invariant.1 (rw (← c.is_used.ensures) c.if-not-is_used.false))
+loop-i-preserved c = (omega arith, lowest_more _ c.loop-i.i c.loop-i.invariant.1 (ap not (sym c.is_used.ensures ∙ c.if-not-is_used.false)))
 
 pub returns : goal.returns
 unfolding available_row

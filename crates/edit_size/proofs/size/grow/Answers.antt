@@ -1,107 +1,109 @@
-use Prim.Native.Nat.{ℕ, ◌≤◌, zero-le}
-use mathlib.Core.Path.{◌≡◌, refl}
+use Prim.Native.Nat.{◌≤◌, zero-le}
+use mathlib.Core.Path.{refl}
 use native.Mathlib.Omega.{arith}
-use borrow.Author.Rules.{rules}
 use Rattle.kinds.specs.BlockNumbers.{numbers_of}
 use Rattle.spec.specs.Room.{need}
-use Rattle.edit_size.proofs.Resized.{Resizing, old_small, tail_kept, grown_range, grown}
+use Rattle.edit_size.proofs.Resized.{resizing, old_small, tail_kept, grown_range, grown}
 use Rattle.edit_size.proofs.size.grow.Goals as goal
 
--- what is known once size and blocks are read, and once its blocks before and after are counted
-loaded : (c : tie.After-blocks-of) (before after : ℕ) → before ≡ need c.before.before.type_size.result
-    → after ≡ need c.before.before.before.before.before.args.size
-    → let a = c.before.before.before.before.before.args in
-    Resizing a.store.now a.o.0 a.size c.before.before.type_size.result (numbers_of c.blocks-of.result) before after
-loaded c before after h k =
-    let p = c.before.before.before.before.before.requires in
+pub need-before-requires : goal.need-before-requires
+need-before-requires c =
+    let a = c.args in
+    let r = resizing a.store.now a.o.0 a.size c.size_of-old.result (numbers_of c.blocks_of-own.result) (need c.size_of-old.result) (need a.size)
+    c.requires.good_records c.requires.o_bound c.requires.o_value c.size_of-old.ensures c.blocks_of-own.ensures refl refl in
+    old_small r
+
+pub overflow_sub-after : goal.overflow_sub-after
+overflow_sub-after c =
+    let a = c.args in
+    let r = resizing a.store.now a.o.0 a.size c.size_of-old.result (numbers_of c.blocks_of-own.result) c.need-before.result c.need-after.result
+    c.requires.good_records c.requires.o_bound c.requires.o_value c.size_of-old.ensures c.blocks_of-own.ensures c.need-before.ensures
+    c.need-after.ensures in
+    let larger : c.size_of-old.result ≤ a.size = omega (arith, c.requires.o_bound_2, r.was) in
+    omega (arith, r.had, r.gets)
+
+pub free_blocks-added-requires-clause-shaped : goal.free_blocks-added-requires-clause-shaped
+free_blocks-added-requires-clause-shaped c =
+    c.requires.good_records.sound.shaped
+
+pub free_blocks-added-requires-clause-wanted_le_file_blocks : goal.free_blocks-added-requires-clause-wanted_le_file_blocks
+free_blocks-added-requires-clause-wanted_le_file_blocks c =
+    let a = c.args in
+    let r = resizing a.store.now a.o.0 a.size c.size_of-old.result (numbers_of c.blocks_of-own.result) c.need-before.result c.need-after.result
+    c.requires.good_records c.requires.o_bound c.requires.o_value c.size_of-old.ensures c.blocks_of-own.ensures c.need-before.ensures
+    c.need-after.ensures in
+    omega (arith, r.had, r.gets, c.requires.size_le_most_file_bytes)
+
+pub clear_tail-requires-clause-start_bound : goal.clear_tail-requires-clause-start_bound
+clear_tail-requires-clause-start_bound c =
+    let a = c.args in
+    let r = resizing a.store.now a.o.0 a.size c.size_of-old.result (numbers_of c.blocks_of-own.result) c.need-before.result c.need-after.result
+    c.requires.good_records c.requires.o_bound c.requires.o_value c.size_of-old.ensures c.blocks_of-own.ensures c.need-before.ensures
+    c.need-after.ensures in
+    omega (arith, r.was)
+
+pub clear_tail-requires-clause-start_le_end : goal.clear_tail-requires-clause-start_le_end
+clear_tail-requires-clause-start_le_end c =
+    let a = c.args in
+    let r = resizing a.store.now a.o.0 a.size c.size_of-old.result (numbers_of c.blocks_of-own.result) c.need-before.result c.need-after.result
+    c.requires.good_records c.requires.o_bound c.requires.o_value c.size_of-old.ensures c.blocks_of-own.ensures c.need-before.ensures
+    c.need-after.ensures in
+    let larger : c.size_of-old.result ≤ a.size = omega (arith, c.requires.o_bound_2, r.was) in
+    larger
+
+pub overflow_sub-after-2 : goal.overflow_sub-after-2
+overflow_sub-after-2 c =
+    let a = c.args in
+    let r = resizing a.store.now a.o.0 a.size c.size_of-old.result (numbers_of c.blocks_of-own.result) c.need-before.result c.need-after.result
+    c.requires.good_records c.requires.o_bound c.requires.o_value c.size_of-old.ensures c.blocks_of-own.ensures c.need-before.ensures
+    c.need-after.ensures in
+    let larger : c.size_of-old.result ≤ a.size = omega (arith, c.requires.o_bound_2, r.was) in
+    omega (arith, r.had, r.gets)
+
+pub clear_blocks-requires : goal.clear_blocks-requires
+clear_blocks-requires c =
+    let a = c.args in
+    let r = resizing a.store.now a.o.0 a.size c.size_of-old.result (numbers_of c.blocks_of-own.result) c.need-before.result c.need-after.result
+    c.requires.good_records c.requires.o_bound c.requires.o_value c.size_of-old.ensures c.blocks_of-own.ensures c.need-before.ensures
+    c.need-after.ensures in
+    let larger : c.size_of-old.result ≤ a.size = omega (arith, c.requires.o_bound_2, r.was) in
+    let k = tail_kept r _ _ c.clear_tail.new.store (omega arith) c.clear_tail.ensures in
     record {
-      good = p.0;
-      below = p.1.1.0;
-      regular = p.1.1.1.0;
-      was = c.before.before.type_size.ensures;
-      listed = c.blocks-of.ensures;
-      had = h;
-      gets = k;
+      sound = k.sound;
+      start_le_end = zero-le;
+      end_le_file_blocks = omega (arith, r.gets, c.requires.size_le_most_file_bytes);
+      in_range = grown_range r larger c.requires.o_bound_3 (numbers_of c.free_blocks-added.result) c.free_blocks-added.ensures
+          c.clear_tail.new.store c.clear_tail.ensures;
     }
 
-resizing : (c : tie.After-need2) → let b = c.before.before in let a = b.before.before.before.before.before.args in
-    Resizing a.store.now a.o.0 a.size b.before.before.type_size.result (numbers_of b.blocks-of.result)
-    c.before.need.result c.need2.result
-resizing c = loaded c.before.before c.before.need.result c.need2.result c.before.need.ensures c.need2.ensures
+pub resized_blocks-requires-clause-before_le_file_blocks : goal.resized_blocks-requires-clause-before_le_file_blocks
+resized_blocks-requires-clause-before_le_file_blocks c =
+    let a = c.args in
+    let r = resizing a.store.now a.o.0 a.size c.size_of-old.result (numbers_of c.blocks_of-own.result) c.need-before.result c.need-after.result
+    c.requires.good_records c.requires.o_bound c.requires.o_value c.size_of-old.ensures c.blocks_of-own.ensures c.need-before.ensures
+    c.need-after.ensures in
+    omega (arith, r.had, old_small r)
 
-larger : (c : tie.After-need2) → c.before.before.before.before.type_size.result ≤ c.before.before.before.before.before.before.before.args.size
-larger c = omega (arith, c.before.before.before.before.before.before.before.requires.1.1.1.1.0, (resizing c).was)
+pub resized_blocks-requires-clause-after_le_file_blocks : goal.resized_blocks-requires-clause-after_le_file_blocks
+resized_blocks-requires-clause-after_le_file_blocks c =
+    let a = c.args in
+    let r = resizing a.store.now a.o.0 a.size c.size_of-old.result (numbers_of c.blocks_of-own.result) c.need-before.result c.need-after.result
+    c.requires.good_records c.requires.o_bound c.requires.o_value c.size_of-old.ensures c.blocks_of-own.ensures c.need-before.ensures
+    c.need-after.ensures in
+    omega (arith, r.gets, c.requires.size_le_most_file_bytes)
 
---FAIL a bare place c
-pub need-before-requires : goal.need-before-requires
-need-before-requires c = old_small (loaded c _ _ refl refl)
-
---FAIL a bare place c.before
-pub overflow_sub-after : goal.overflow_sub-after
-overflow_sub-after c = let r = resizing c.before in
-    omega (arith, r.had, r.gets, larger c.before)
-
---FAIL a bare place c.before
-pub free_blocks-added-requires : goal.free_blocks-added-requires
-free_blocks-added-requires c = let r = resizing c.before in
-    let p = c.before.before.before.before.before.before.before.before.requires in
-    (r.good.sound.shaped, (p.1.0, omega (arith, r.had, r.gets, p.1.1.1.1.1.0)))
-
---FAIL a bare place n
-pub clear_tail-requires : goal.clear_tail-requires
-clear_tail-requires c = let n = c.before.before.before in
-    let r = resizing n in
-    (r.good, (r.below, (r.regular, (omega (arith, r.was), omega (arith, larger n)))))
-
---FAIL a bare place n
-pub overflow_sub-after-2 : goal.overflow_sub-after-2
-overflow_sub-after-2 c = let n = c.before.before.before.before.before.before.before in
-    let r = resizing n in
-    omega (arith, r.had, r.gets, larger n)
-
---FAIL a bare place n
-pub clear_blocks-requires : goal.clear_blocks-requires
-clear_blocks-requires c = let t = c.before.before.before in
-    let added = t.before.before in
-    let n = added.before.before in
-    let r = resizing n in
-    let p = n.before.before.before.before.before.before.before.requires.1.1.1.1.1 in
-    let k = tail_kept r _ _ t.clear-tail.new.0 (omega arith) t.clear-tail.ensures in (
-      k.sound,
-      (
-        zero-le,
-        (
-          omega (arith, r.gets, p.0),
-          grown_range r (larger n) p.1 (numbers_of added.free-blocks.result) added.free-blocks.ensures
-              t.clear-tail.new.0 t.clear-tail.ensures,
-        ),
-      ),
-    )
-
-pub overflow_cast-size : goal.overflow_cast-size
-overflow_cast-size c = omega (arith, c.requires.size_le_most_file_bytes)
-
---FAIL a bare place n
-pub resized_blocks-requires : goal.resized_blocks-requires
-resized_blocks-requires c = let n = c.before.before.before.before.before.before.before.before.before.before.before in
-    let r = resizing n in
-    (omega (arith, r.had, old_small r), omega (arith, r.gets, n.before.before.before.before.before.before.before.requires.1.1.1.1.1.0))
-
---FAIL a bare place c.before.before.before.before.before.before.before.before.before.before.before.before
 pub save_size-requires : goal.save_size-requires
-save_size-requires c = let r = resizing c.before.before.before.before.before.before.before.before.before.before.before.before in
-    let w = r.good.sound.shaped in
-    omega (arith, r.below)
+save_size-requires c =
+    let w = c.requires.good_records.sound.shaped in
+    omega (arith, c.requires.o_bound)
 
---FAIL a bare place n
 pub returns : goal.returns
-returns c = let z = c.before.before in
-    let numbers = z.before in
-    let u = numbers.before.before.before.before in
-    let t = u.before.before.before.before in
-    let added = t.before.before in
-    let n = added.before.before in
-    grown (resizing n) (larger n) n.before.before.before.before.before.before.before.requires.1.1.1.1.1.1
-    (numbers_of added.free-blocks.result) added.free-blocks.ensures
-    t.clear-tail.new.0 u.clear-blocks.new.0 z.save-size.new.0 (numbers_of numbers.resized-blocks.result)
-    t.clear-tail.ensures u.clear-blocks.ensures numbers.resized-blocks.ensures z.save-size.ensures
+returns c =
+    let a = c.args in
+    let r = resizing a.store.now a.o.0 a.size c.size_of-old.result (numbers_of c.blocks_of-own.result) c.need-before.result c.need-after.result
+    c.requires.good_records c.requires.o_bound c.requires.o_value c.size_of-old.ensures c.blocks_of-own.ensures c.need-before.ensures
+    c.need-after.ensures in
+    let larger : c.size_of-old.result ≤ a.size = omega (arith, c.requires.o_bound_2, r.was) in
+    grown r larger c.requires.o_bound_3 (numbers_of c.free_blocks-added.result) c.free_blocks-added.ensures
+    c.clear_tail.new.store c.clear_blocks.new.store c.save_size.new.store (numbers_of c.resized_blocks.result)
+    c.clear_tail.ensures c.clear_blocks.ensures c.resized_blocks.ensures c.save_size.ensures

@@ -1,7 +1,6 @@
 use borrow.Author.Rules.{rules}
 use native.Mathlib.Omega.{arith}
 use Prim.Native.Nat.{◌-◌, ◌≤◌, zero-le}
-use mathlib.Core.Logic.{⊎_elim}
 use mathlib.Core.Path.{◌≡◌, refl, ap, ◌∙◌}
 use lib.ListN.{length, length-set}
 use Rattle.kinds.specs.BlockNumbers.{numbers_of}
@@ -9,6 +8,7 @@ use Rattle.kinds.specs.Numbers.{file_blocks}
 use Rattle.store_records.proofs.Numbered.{numbers_length}
 use Rattle.edit_size.proofs.ResizedNumbers.{block_put, numbers_to, own_next, added_next, numbers_all}
 use Rattle.edit_size.proofs.size.resized_blocks.Goals as goal
+use Rattle.edit_size.proofs.size.resized_blocks.Goals.{then-k-before, else-k-before}
 
 pub loop-k-init : goal.loop-k-init
 loop-k-init c = (zero-le, search rules, search rules, refl, refl)
@@ -22,13 +22,20 @@ loop-k-preserved c = let a = c.args in
       omega arith,
       c.loop-k.invariant.1,
       c.loop-k.invariant.2,
-      ⊎_elim (λ w. rw w.2 (simp length-set c.loop-k.invariant.3)) (λ w. rw w.2 (simp length-set c.loop-k.invariant.3)) c.if-k-before.branch,
-      ⊎_elim
-          (λ w. ap numbers_of w.2 ∙ block_put c.loop-k.list a.own c.loop-k.k c.loop-k.k
-          ∙ own_next own added a.before a.after c.requires.before_le_file_blocks c.requires.after_le_file_blocks p q c.loop-k.k (numbers_of c.loop-k.list) (omega arith) w.0.taken c.loop-k.invariant.4)
-          (λ w. ap numbers_of w.2 ∙ block_put c.loop-k.list a.added c.loop-k.k (c.loop-k.k - a.before)
-          ∙ added_next own added a.before a.after c.requires.before_le_file_blocks c.requires.after_le_file_blocks p q c.loop-k.k (numbers_of c.loop-k.list) (omega arith) w.0.left c.loop-k.invariant.4)
-          c.if-k-before.branch,
+      elim c.if-k-before.branch [
+        then-k-before w ↦ rw w.list-is (simp length-set c.loop-k.invariant.3)
+        | else-k-before w ↦ rw w.list-is (simp length-set c.loop-k.invariant.3)
+      ],
+      elim c.if-k-before.branch [
+        then-k-before w ↦
+            ap numbers_of w.list-is ∙ block_put c.loop-k.list a.own c.loop-k.k c.loop-k.k
+            ∙ own_next own added a.before a.after c.requires.before_le_file_blocks c.requires.after_le_file_blocks p q c.loop-k.k
+            (numbers_of c.loop-k.list) (omega arith) w.if-k-before.true c.loop-k.invariant.4
+        | else-k-before w ↦
+            ap numbers_of w.list-is ∙ block_put c.loop-k.list a.added c.loop-k.k (c.loop-k.k - a.before)
+            ∙ added_next own added a.before a.after c.requires.before_le_file_blocks c.requires.after_le_file_blocks p q c.loop-k.k
+            (numbers_of c.loop-k.list) (omega arith) w.if-k-before.false c.loop-k.invariant.4
+      ],
     )
 
 pub returns : goal.returns

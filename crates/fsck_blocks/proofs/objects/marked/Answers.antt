@@ -21,14 +21,14 @@ pub sum_part-requires-clause-are_marks : goal.sum_part-requires-clause-are_marks
 sum_part-requires-clause-are_marks c = marks_from c.requires.are_marks c.loop-at.at _ (omega arith)
 
 pub overflow_cast-total : goal.overflow_cast-total
-overflow_cast-total c = omega (arith, c.sum_part.type-inv)
+overflow_cast-total c = omega (arith, c.sum_part.type_inv)
 
 pub overflow_add-total : goal.overflow_add-total
-overflow_add-total c = omega (arith, c.sum_part.type-inv)
+overflow_add-total c = omega (arith, c.sum_part.type_inv)
 
 pub loop-at-preserved : goal.loop-at-preserved
 loop-at-preserved c = let f = sum_split c.loop-at.at 128 (λ i. get_or c.args.used.now i 0) in
-    (omega arith, omega (arith, c.sum_part.type-inv), omega (arith, c.loop-at.invariant.2, c.sum_part.ensures))
+    (omega arith, omega (arith, c.sum_part.type_inv), omega (arith, c.loop-at.invariant.2, c.sum_part.ensures))
 
 pub sum_part-requires-2-clause-n_bound : goal.sum_part-requires-2-clause-n_bound
 sum_part-requires-2-clause-n_bound c = omega arith
@@ -40,10 +40,10 @@ pub sum_part-requires-2-clause-are_marks : goal.sum_part-requires-2-clause-are_m
 sum_part-requires-2-clause-are_marks c = marks_from c.requires.are_marks c.loop-at.at _ (omega arith)
 
 pub overflow_cast-result : goal.overflow_cast-result
-overflow_cast-result c = omega (arith, c.sum_part-2.type-inv)
+overflow_cast-result c = omega (arith, c.sum_part-2.type_inv)
 
 pub overflow_add-result : goal.overflow_add-result
-overflow_add-result c = omega (arith, c.sum_part-2.type-inv)
+overflow_add-result c = omega (arith, c.sum_part-2.type_inv)
 
 pub returns : goal.returns
 returns c = let a = c.args in
