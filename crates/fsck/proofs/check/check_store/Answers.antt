@@ -1,0 +1,27 @@
+use mathlib.Core.Path.{sym, ap, ◌∙◌}
+use borrow.Author.Tests.{not-true, not-false}
+use Rattle.laws.proofs.Valid.{shaped, shaped_framed}
+use Rattle.fsck.proofs.Verdict.{shape_no, shape_yes, checked_bad, checked_records_bad, checked_good}
+use Rattle.fsck.specs.declared.shape.Counts.{Counts}
+use borrow.Author.Rules.{rules}
+use Rattle.fsck.proofs.check.check_store.Goals as goal
+
+pub returns-in_default : goal.returns-in_default
+returns-in_default c = let a = c.args in
+    checked_bad a.store.now a.used.now (shape_no _ (sym c.shape-found.ensures ∙ c.in_default.is))
+
+pub records_pass-requires : goal.records_pass-requires
+records_pass-requires c = let s = c.args.store.now in
+    let y = shape_yes s c.in-Good.counts (sym c.shape-found.ensures ∙ c.in-Good.is) in record { framed = shaped_framed s (shaped s y.0); p_value = ap (λ (x : Counts). x.objects) y.1; q_value = ap (λ (x : Counts). x.names) y.1; r_value = ap (λ (x : Counts). x.blocks) y.1; blank = c.requires.blank; blank_2 = c.requires.blank_2; blank_3 = c.requires.blank_3 }
+
+pub returns-then-not-records_pass : goal.returns-then-not-records_pass
+returns-then-not-records_pass c = let s = c.args.store.now in
+    let y = shape_yes s c.in-Good.counts (sym c.shape-found.ensures ∙ c.in-Good.is) in
+    checked_records_bad s _ y.0 (sym c.records_pass.ensures.is ∙ c.if-not-records_pass.true)
+
+pub returns : goal.returns
+returns c = let s = c.args.store.now in
+    let k = c.in-Good.counts in
+    let y = shape_yes s k (sym c.shape-found.ensures ∙ c.in-Good.is) in
+    let t = sym c.records_pass.ensures.is ∙ c.if-not-records_pass.false in
+    checked_good s k _ y.0 y.1 t (c.records_pass.ensures.map t)

@@ -1,0 +1,7 @@
+use native.Mathlib.Omega.{arith}
+use borrow.Author.Rules.{rules}
+use Rattle.mount_reply.proofs.Decimals.{dotted_length}
+use Rattle.mount_reply.proofs.text.dotted_length.Goals as goal
+
+pub returns : goal.returns
+returns c = (omega (arith, dotted_length c.args.host), omega arith)

@@ -1,0 +1,7 @@
+use Rattle.xdr.proofs.Wrote.{and_then, and_words}
+use borrow.Author.Rules.{rules}
+use Rattle.reply_bodies.proofs.put_created.Goals as goal
+
+pub returns : goal.returns
+returns c = and_then (and_then c.put_words-handle.ensures c.put_nfs_fh3-object.ensures)
+    (and_words _ _ c.put_post_op_attr-directory.ensures c.put_wcc_data.ensures)

@@ -1,0 +1,6 @@
+use Rattle.xdr.proofs.Wrote.{and_words}
+use borrow.Author.Rules.{rules}
+use Rattle.reply_bodies.proofs.put_got_attributes.Goals as goal
+
+pub returns : goal.returns
+returns c = and_words _ _ c.put_word-next.ensures c.put_fattr3_of.ensures

@@ -1,0 +1,6 @@
+use Rattle.xdr.proofs.Wrote.{and_words}
+use borrow.Author.Rules.{rules}
+use Rattle.reply_bodies.proofs.put_status_wcc_data.Goals as goal
+
+pub returns : goal.returns
+returns c = and_words _ _ c.put_word-next.ensures c.put_wcc_data.ensures

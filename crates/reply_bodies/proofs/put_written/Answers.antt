@@ -1,0 +1,6 @@
+use Rattle.xdr.proofs.Wrote.{and_words}
+use borrow.Author.Rules.{rules}
+use Rattle.reply_bodies.proofs.put_written.Goals as goal
+
+pub returns : goal.returns
+returns c = and_words _ _ c.put_words-next.ensures c.put_verifier.ensures
