@@ -1,5 +1,4 @@
 use mathlib.Core.Path.{sym, ◌∙◌}
-use borrow.Author.Rules.{rules}
 use borrow.Author.Tests.{lt-ltb}
 use Rattle.spec.specs.Procedures.Listing.{entries, check_listing}
 use Rattle.act_list.proofs.Sent.{listing_small, listing_sent}

@@ -1,4 +1,3 @@
-use borrow.Author.Rules.{rules}
 use borrow.Author.Tests.{eq-eqb, ne_eqb}
 use Rattle.spec.specs.Procedures.Listing.{check_readdir_in}
 use Rattle.act_list.proofs.check_readdir_in.Goals as goal

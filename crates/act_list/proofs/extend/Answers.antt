@@ -1,4 +1,3 @@
-use borrow.Author.Rules.{rules}
 use borrow.Author.Tests.{lt-ltb, le-ltb, le-leb, lt-leb}
 use Rattle.act_list.specs.Run.{extended, fitted}
 use Rattle.act_list.proofs.extend.Goals as goal

@@ -1,6 +1,5 @@
 use mathlib.Core.Path.{sym, ◌∙◌}
 use borrow.Author.Tests.{eq-eqb, ne_eqb}
-use borrow.Author.Rules.{rules}
 use Rattle.act_list.proofs.length_in.Goals as goal
 
 pub returns-then-get_u32-d : goal.returns-then-get_u32-d

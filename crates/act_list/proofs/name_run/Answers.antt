@@ -1,10 +1,8 @@
-use Prim.Native.Nat.{◌+◌, ◌-◌, ◌≤◌, zero-le}
+use Prim.Native.Nat.{◌-◌, zero-le}
 use mathlib.Core.Path.{◌≡◌, refl, sym, ◌∙◌}
 use native.Mathlib.Omega.{arith}
-use borrow.Author.Rules.{rules}
 use Rattle.spec.specs.Count.{passing}
-use Rattle.spec.specs.Image.{names, name_start}
-use Rattle.spec.specs.Procedures.Listing.{named_entries}
+use Rattle.spec.specs.Image.{names}
 use Rattle.act_list.specs.Run.{open_run, run_of}
 use Rattle.act_list.proofs.Runs.{is_absent, named_here, over_absent, over_low, over_fitting, over_large}
 use Rattle.act_list.proofs.name_run.Goals as goal

@@ -1,4 +1,3 @@
-use borrow.Author.Rules.{rules}
 use Rattle.spec.specs.Procedures.Listing.{check_readdir, readdir}
 use Rattle.check_handles.proofs.Reach.{directory_reached}
 use Rattle.act_list.proofs.Writable.{listable}

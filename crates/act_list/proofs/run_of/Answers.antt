@@ -6,7 +6,6 @@ use Rattle.spec.specs.Procedures.Listing.{named_entries}
 use Rattle.act_list.specs.Run.{open_run, extended, run_of}
 use Rattle.act_list.specs.declared.Run.{Run}
 use Rattle.act_list.proofs.Runs.{extended_few, run_ended, run_open, behind_dots}
-use borrow.Author.Rules.{rules}
 use Rattle.act_list.proofs.run_of.Goals as goal
 
 pub extend-dots-requires : goal.extend-dots-requires

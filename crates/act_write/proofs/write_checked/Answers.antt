@@ -1,7 +1,6 @@
 use Prim.Native.Nat.{◌≤◌}
 use mathlib.Core.Path.{refl}
 use native.Mathlib.Omega.{arith}
-use borrow.Author.Rules.{rules}
 use Rattle.spec.specs.Handles.{change}
 use Rattle.act_write.proofs.Written.{moved_bytes, no_bytes, some_bytes, none_moved, moved_length, written_left, left_showable}
 use Rattle.act_write.proofs.write_checked.Goals as goal

@@ -1,5 +1,4 @@
 use mathlib.Core.Path.{subst}
-use borrow.Author.Rules.{rules}
 use Rattle.spec.specs.Arguments.{arguments}
 use Rattle.call_arguments.specs.First.{Begins}
 use Rattle.call_arguments.proofs.arguments_at.Goals as goal

@@ -1,5 +1,4 @@
 use mathlib.Core.Path.{sym, ap, ◌∙◌}
-use borrow.Author.Rules.{rules}
 use Rattle.kinds.specs.Reading.{part_of}
 use Rattle.spec.specs.Arguments.{form, arguments}
 use Rattle.call_by_handle.proofs.First.{refused, last}

@@ -1,5 +1,4 @@
 use mathlib.Core.Path.{sym, ap, ◌∙◌}
-use borrow.Author.Rules.{rules}
 use Rattle.call_types.specs.Reading.{name_in_of}
 use Rattle.spec.specs.Arguments.{form, arguments}
 use Rattle.call_by_name.proofs.First.{refused, last}

@@ -1,4 +1,3 @@
-use borrow.Author.Rules.{rules}
 use Rattle.spec.specs.Procedures.Names.{check_create}
 use Rattle.check_create.proofs.check_create.Goals as goal
 

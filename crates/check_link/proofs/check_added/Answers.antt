@@ -1,6 +1,5 @@
 use borrow.Author.Tests.{le-leb, lt-leb}
 use Rattle.spec.specs.Procedures.Link.{check_added}
-use borrow.Author.Rules.{rules}
 use Rattle.store_records.proofs.Good.{good_shaped, good_names_sound}
 use Rattle.check_link.proofs.check_added.Goals as goal
 

@@ -1,6 +1,5 @@
 use Rattle.spec.specs.Procedures.Link.{check_link}
 use native.Mathlib.Omega.{arith}
-use borrow.Author.Rules.{rules}
 use Rattle.check_handles.proofs.Reach.{object_reached}
 use Rattle.check_link.proofs.check_link.Goals as goal
 

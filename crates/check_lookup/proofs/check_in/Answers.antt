@@ -1,4 +1,3 @@
-use borrow.Author.Rules.{rules}
 use Rattle.spec.specs.Procedures.Names.{check_in}
 use Rattle.check_lookup.proofs.check_in.Goals as goal
 

@@ -1,4 +1,3 @@
-use borrow.Author.Rules.{rules}
 use Rattle.spec.specs.Procedures.Removal.{check_entry}
 use Rattle.store_records.proofs.Good.{good_shaped, good_names_sound}
 use Rattle.check_remove.proofs.check_entry.Goals as goal

@@ -1,5 +1,4 @@
 use native.Mathlib.Omega.{arith}
-use borrow.Author.Rules.{rules}
 use Rattle.kinds.specs.Numbers.{INVAL}
 use Rattle.spec.specs.Procedures.{cut}
 use Rattle.spec.specs.Procedures.Removal.{check_rmdir}

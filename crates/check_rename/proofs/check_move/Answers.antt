@@ -1,5 +1,4 @@
 use native.Mathlib.Omega.{arith}
-use borrow.Author.Rules.{rules}
 use Rattle.store_records.proofs.Good.{good_shaped, good_names_sound}
 use Rattle.spec.specs.Procedures.{cut}
 use Rattle.spec.specs.Procedures.Removal.{check_move}

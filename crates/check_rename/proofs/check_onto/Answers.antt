@@ -1,5 +1,4 @@
 use native.Mathlib.Omega.{arith}
-use borrow.Author.Rules.{rules}
 use borrow.Author.Tests.{eq-eqb, ne_eqb}
 use Rattle.store_records.proofs.Good.{good_shaped, good_names_sound}
 use Rattle.spec.specs.Procedures.{cut}

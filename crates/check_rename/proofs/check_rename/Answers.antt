@@ -1,4 +1,3 @@
-use borrow.Author.Rules.{rules}
 use Rattle.check_handles.proofs.Reach.{directory_reached}
 use Rattle.spec.specs.Procedures.Removal.{check_rename}
 use Rattle.check_rename.proofs.check_rename.Goals as goal

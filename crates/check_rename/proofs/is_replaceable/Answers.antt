@@ -1,4 +1,3 @@
-use borrow.Author.Rules.{rules}
 use Rattle.spec.specs.Procedures.Removal.{is_replaceable}
 use Rattle.check_rename.proofs.is_replaceable.Goals as goal
 

@@ -1,6 +1,5 @@
 use Prim.Native.Nat.{◌≤◌}
 use native.Mathlib.Omega.{arith}
-use borrow.Author.Rules.{rules}
 use Rattle.kinds.specs.Numbers.{most_file_bytes}
 use Rattle.store_records.proofs.Good.{size_few}
 use Rattle.check_room.proofs.lacks_room_for_bytes.Goals as goal

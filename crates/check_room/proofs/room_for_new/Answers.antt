@@ -1,4 +1,3 @@
-use borrow.Author.Rules.{rules}
 use Rattle.spec.specs.Procedures.Names.{room_for_new}
 use Rattle.check_room.proofs.room_for_new.Goals as goal
 

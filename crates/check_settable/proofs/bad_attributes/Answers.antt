@@ -1,4 +1,3 @@
-use borrow.Author.Rules.{rules}
 use Rattle.spec.specs.Procedures.Attributes.{bad_attributes}
 use Rattle.check_settable.proofs.bad_attributes.Goals as goal
 

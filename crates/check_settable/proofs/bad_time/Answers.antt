@@ -1,4 +1,3 @@
-use borrow.Author.Rules.{rules}
 use Rattle.check_settable.proofs.bad_time.Goals as goal
 
 pub returns-in-ToClient : goal.returns-in-ToClient

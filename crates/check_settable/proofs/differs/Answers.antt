@@ -1,4 +1,3 @@
-use borrow.Author.Rules.{rules}
 use Rattle.check_settable.proofs.differs.Goals as goal
 
 pub returns-in-Ctime : goal.returns-in-Ctime

@@ -1,4 +1,3 @@
-use borrow.Author.Rules.{rules}
 use Rattle.check_settable.proofs.number_over.Goals as goal
 
 pub returns-in-To : goal.returns-in-To

@@ -1,12 +1,7 @@
-use Prim.Native.Nat.{◌≤◌, ◌-◌, zero-le}
+use Prim.Native.Nat.{◌≤◌, ◌-◌}
 use mathlib.Core.Bool.{false}
-use mathlib.Core.Path.{◌≡◌, refl, sym, ◌∙◌}
-use native.Mathlib.Omega.{arith}
-use borrow.Author.Rules.{rules}
-use Rattle.laws.proofs.Count.{some_more, some_hit}
+use mathlib.Core.Path.{◌≡◌}
 use Rattle.spec.specs.Room.{is_in}
-use Rattle.spec.specs.Procedures.Removal.{has_entries}
-use Rattle.spec.specs.Image.{names}
 use Rattle.spec.specs.Count.{some_below}
 use Rattle.check_tree.proofs.has_entries.Given as goal
 

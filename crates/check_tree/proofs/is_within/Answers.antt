@@ -1,9 +1,8 @@
-use Prim.Native.Nat.{◌≤◌, ◌<◌, ◌-◌, zero-le}
+use Prim.Native.Nat.{◌-◌, zero-le}
 use mathlib.Core.Bool.{false}
 use mathlib.Core.Path.{◌≡◌, refl, sym, ap, ◌∙◌}
 use native.Mathlib.Omega.{arith}
-use borrow.Author.Tests.{eq-eqb, ne_eqb, not-true, not-false}
-use borrow.Author.Rules.{rules}
+use borrow.Author.Tests.{eq-eqb, ne_eqb}
 use lib.Dec.{eqb}
 use Rattle.store_records.proofs.Good.{good_shaped, good_names_sound}
 use Rattle.store_search.proofs.Entry.{parent_below}

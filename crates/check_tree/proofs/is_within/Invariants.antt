@@ -1,18 +1,10 @@
-use Prim.Native.Nat.{◌≤◌, ◌<◌, ◌-◌, zero-le}
+use Prim.Native.Nat.{◌≤◌, ◌<◌, ◌-◌}
 use mathlib.Core.Bool.{false}
-use mathlib.Core.Path.{◌≡◌, refl, sym, ap, ◌∙◌}
-use native.Mathlib.Omega.{arith}
-use borrow.Author.Tests.{eq-eqb, ne_eqb, not-true, not-false}
-use borrow.Author.Rules.{rules}
+use mathlib.Core.Path.{◌≡◌}
 use lib.Dec.{eqb}
-use Rattle.store_records.proofs.Good.{good_shaped, good_names_sound}
-use Rattle.store_search.proofs.Entry.{parent_below}
-use Rattle.laws.proofs.Count.{some_more, some_hit}
-use Rattle.spec.specs.Room.{parent, above}
-use Rattle.spec.specs.Procedures.Removal.{is_within}
+use Rattle.spec.specs.Room.{above}
 use Rattle.spec.specs.Image.{objects}
-use Rattle.spec.specs.Count.{some_below, iterate}
-use Rattle.check_tree.proofs.Within.{above_more, way_ended}
+use Rattle.spec.specs.Count.{some_below}
 use Rattle.check_tree.proofs.is_within.Given as goal
 
 abbrev pub invariant-loop-steps : goal.invariant-loop-steps

@@ -1,6 +1,5 @@
 use Rattle.spec.specs.Edits.{forget_verifier}
 use Rattle.edit_attributes.proofs.Kept.{verifier_written}
-use borrow.Author.Rules.{rules}
 use Rattle.edit_attributes.proofs.forget_verifier.Goals as goal
 
 pub returns : goal.returns

@@ -5,7 +5,6 @@ use lib.ListN.{length-append}
 use Rattle.kinds.specs.Layout.{mode_offset, uid_offset, gid_offset}
 use Rattle.spec.specs.Bytes.{bytes_of}
 use Rattle.laws.proofs.Bytes.{overlay_more, bytes_length}
-use borrow.Author.Rules.{rules}
 use Rattle.edit_attributes.proofs.save_owner.Goals as goal
 
 pub returns : goal.returns

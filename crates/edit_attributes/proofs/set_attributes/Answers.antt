@@ -7,7 +7,6 @@ use Rattle.spec.specs.Edits.{with_attributes}
 use Rattle.spec.specs.Image.{times_bytes}
 use Rattle.laws.proofs.Bytes.{overlay_length}
 use Rattle.edit_attributes.proofs.Kept.{owner_length, owner_size, attributes_written}
-use borrow.Author.Rules.{rules}
 use Rattle.edit_attributes.proofs.set_attributes.Goals as goal
 
 pub overflow_add-at : goal.overflow_add-at

@@ -7,7 +7,6 @@ use Rattle.spec.specs.Bytes.{overlay}
 use Rattle.spec.specs.Image.{time_bytes}
 use Rattle.laws.proofs.Bytes.{overlay_more}
 use Rattle.edit_attributes.proofs.Kept.{time_length_lem, touched}
-use borrow.Author.Rules.{rules}
 use Rattle.edit_attributes.proofs.touch.Goals as goal
 
 pub returns : goal.returns

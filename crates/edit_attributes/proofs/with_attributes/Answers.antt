@@ -1,4 +1,3 @@
-use borrow.Author.Rules.{rules}
 use Rattle.spec.specs.Edits.{with_attributes}
 use Rattle.edit_attributes.proofs.with_attributes.Goals as goal
 

@@ -4,7 +4,6 @@ use native.Mathlib.Omega.{arith}
 use borrow.Author.Rules.{rules}
 use lib.ListN.{length}
 use Rattle.kinds.specs.BlockNumbers.{numbers_of}
-use Rattle.kinds.specs.Numbers.{file_blocks}
 use Rattle.spec.specs.Bytes.{part}
 use Rattle.spec.specs.Edits.{clear_blocks}
 use Rattle.store_records.proofs.Numbered.{numbers_length, numbers_at}

@@ -1,14 +1,10 @@
 use Prim.Native.Nat.{◌-◌, ◌≤◌}
-use mathlib.Core.Path.{◌≡◌, refl}
-use native.Mathlib.Omega.{arith}
-use borrow.Author.Rules.{rules}
+use mathlib.Core.Path.{◌≡◌}
 use lib.ListN.{length}
 use Rattle.kinds.specs.BlockNumbers.{numbers_of}
 use Rattle.kinds.specs.Numbers.{file_blocks}
 use Rattle.spec.specs.Bytes.{part}
 use Rattle.spec.specs.Edits.{clear_blocks}
-use Rattle.store_records.proofs.Numbered.{numbers_length, numbers_at}
-use Rattle.edit_data.proofs.ClearedBlocks.{cleared_shape, next_fits, cleared_next}
 use Rattle.edit_data.proofs.clear_blocks.Given as goal
 
 abbrev pub invariant-loop-k : goal.invariant-loop-k

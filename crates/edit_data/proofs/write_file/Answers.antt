@@ -1,8 +1,6 @@
-use Prim.Native.Nat.{◌+◌, ◌-◌, ◌≤◌, zero-le}
+use Prim.Native.Nat.{◌-◌, zero-le}
 use mathlib.Core.Path.{◌≡◌, refl}
 use native.Mathlib.Omega.{arith}
-use borrow.Author.Rules.{rules}
-use Rattle.kinds.specs.Numbers.{most_file_bytes}
 use Rattle.spec.specs.Bytes.{part}
 use Rattle.spec.specs.Edits.{write_through, write_file}
 use Rattle.edit_data.proofs.WrittenFile.{Writing, offset_low, written_shape, next_place, written_more}

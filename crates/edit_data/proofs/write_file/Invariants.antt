@@ -1,11 +1,9 @@
-use Prim.Native.Nat.{◌+◌, ◌-◌, ◌≤◌, zero-le}
-use mathlib.Core.Path.{◌≡◌, refl}
-use native.Mathlib.Omega.{arith}
-use borrow.Author.Rules.{rules}
+use Prim.Native.Nat.{◌+◌, ◌-◌, ◌≤◌}
+use mathlib.Core.Path.{◌≡◌}
 use Rattle.kinds.specs.Numbers.{most_file_bytes}
 use Rattle.spec.specs.Bytes.{part}
-use Rattle.spec.specs.Edits.{write_through, write_file}
-use Rattle.edit_data.proofs.WrittenFile.{Writing, offset_low, written_shape, next_place, written_more}
+use Rattle.spec.specs.Edits.{write_file}
+use Rattle.edit_data.proofs.WrittenFile.{Writing}
 use Rattle.edit_data.proofs.write_file.Given as goal
 
 abbrev pub invariant-loop-done : goal.invariant-loop-done

@@ -1,5 +1,4 @@
 use native.Mathlib.Omega.{arith}
-use borrow.Author.Rules.{rules}
 use Rattle.spec.specs.Procedures.Link.{link_edit}
 use Rattle.laws.proofs.SetAttributes.{set_attributes_shape}
 use Rattle.laws.proofs.Shape.{SameShape}

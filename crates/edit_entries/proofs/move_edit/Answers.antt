@@ -1,5 +1,4 @@
 use native.Mathlib.Omega.{arith}
-use borrow.Author.Rules.{rules}
 use Rattle.spec.specs.Procedures.Removal.{move_edit}
 use Rattle.laws.proofs.GoodRecords.{used_at}
 use Rattle.edit_entries.proofs.move_edit.Goals as goal

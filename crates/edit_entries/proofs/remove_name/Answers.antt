@@ -1,5 +1,4 @@
 use native.Mathlib.Omega.{arith}
-use borrow.Author.Rules.{rules}
 use borrow.Author.Tests.{lt-ltb, le-ltb}
 use Rattle.spec.specs.Edits.{remove_name}
 use Rattle.laws.proofs.GoodRecords.{used_at}

@@ -1,4 +1,3 @@
-use borrow.Author.Rules.{rules}
 use Rattle.edit_entries.proofs.touch_directory.Goals as goal
 
 pub returns : goal.returns

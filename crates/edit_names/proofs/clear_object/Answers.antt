@@ -3,7 +3,6 @@ use mathlib.Core.List.{◌++◌}
 use mathlib.Core.Path.{ap, ◌∙◌}
 use native.Mathlib.Omega.{arith}
 use lib.ListN.{length-append}
-use borrow.Author.Rules.{rules}
 use Rattle.kinds.specs.Layout.{generation_offset, mode_offset, object_length}
 use Rattle.spec.specs.Bytes.{overlay, bytes_of, zeros}
 use Rattle.kinds.specs.Objects.{free_object}

@@ -1,5 +1,4 @@
 use native.Mathlib.Omega.{arith}
-use borrow.Author.Rules.{rules}
 use Rattle.spec.specs.Edits.{create_object}
 use Rattle.laws.proofs.Shape.{SameShape}
 use Rattle.laws.proofs.Writes.{object_written}

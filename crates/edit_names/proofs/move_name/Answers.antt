@@ -1,5 +1,4 @@
 use native.Mathlib.Omega.{arith}
-use borrow.Author.Rules.{rules}
 use Rattle.spec.specs.Edits.{move_name}
 use Rattle.laws.proofs.RecordRange.{name_at_fits}
 use Rattle.edit_names.proofs.move_name.Goals as goal

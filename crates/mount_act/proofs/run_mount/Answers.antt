@@ -2,7 +2,6 @@ use mathlib.Core.Path.{refl, subst}
 use lib.ListN.{length}
 use Rattle.mount_spec.specs.Procedures.{act_mount}
 use Rattle.mount_laws.proofs.Paths.{PathWithin}
-use borrow.Author.Rules.{rules}
 use Rattle.mount_act.proofs.run_mount.Goals as goal
 
 pub mount-requires : goal.mount-requires
@@ -15,25 +14,24 @@ remove_pair-requires c = let w = subst (PathWithin (length c.args.call.now)) c.i
 
 pub returns-in-Null : goal.returns-in-Null
 unfolding act_mount
-returns-in-Null c = rw c.in-Null.is (record { answers = refl; leaves = refl }, tt)
+returns-in-Null c = rw c.in-Null.is (record { acts = record { answers = refl; leaves = refl }; mountable = tt })
 
---FAIL clauses as one
 pub returns-in-Mnt : goal.returns-in-Mnt
 unfolding act_mount
-returns-in-Mnt c = rw c.before.before.before.before.before.a.given.1 c.before.before.mount.ensures
+returns-in-Mnt c = rw c.in-Mnt.is (record { acts = c.mount.ensures.acts; mountable = c.mount.ensures.mountable })
 
 pub returns-in-Dump : goal.returns-in-Dump
 unfolding act_mount
-returns-in-Dump c = rw c.in-Dump.is (record { answers = refl; leaves = refl }, tt)
+returns-in-Dump c = rw c.in-Dump.is (record { acts = record { answers = refl; leaves = refl }; mountable = tt })
 
 pub returns-in-Umnt : goal.returns-in-Umnt
 unfolding act_mount
-returns-in-Umnt c = rw c.in-Umnt.is (record { answers = refl; leaves = c.remove_pair.ensures }, tt)
+returns-in-Umnt c = rw c.in-Umnt.is (record { acts = record { answers = refl; leaves = c.remove_pair.ensures }; mountable = tt })
 
 pub returns-in-Umntall : goal.returns-in-Umntall
 unfolding act_mount
-returns-in-Umntall c = rw c.in-Umntall.is (record { answers = refl; leaves = c.remove_host.ensures }, tt)
+returns-in-Umntall c = rw c.in-Umntall.is (record { acts = record { answers = refl; leaves = c.remove_host.ensures }; mountable = tt })
 
 pub returns-in-Export : goal.returns-in-Export
 unfolding act_mount
-returns-in-Export c = rw c.in-Export.is (record { answers = refl; leaves = refl }, tt)
+returns-in-Export c = rw c.in-Export.is (record { acts = record { answers = refl; leaves = refl }; mountable = tt })

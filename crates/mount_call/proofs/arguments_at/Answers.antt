@@ -1,6 +1,5 @@
 use borrow.Author.Tests.{ne_eqb}
 use Rattle.mount_spec.specs.Arguments.{mount_arguments}
-use borrow.Author.Rules.{rules}
 use Rattle.mount_call.proofs.arguments_at.Goals as goal
 
 pub returns-in-1 : goal.returns-in-1

@@ -1,4 +1,3 @@
-use borrow.Author.Rules.{rules}
 use Rattle.mount_call.proofs.of_mnt.Goals as goal
 
 pub returns-in_default : goal.returns-in_default

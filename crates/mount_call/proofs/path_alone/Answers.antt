@@ -1,5 +1,4 @@
 use Rattle.mount_spec.specs.Arguments.{dirpath}
-use borrow.Author.Rules.{rules}
 use Rattle.mount_call.proofs.path_alone.Goals as goal
 
 pub returns-in_default : goal.returns-in_default

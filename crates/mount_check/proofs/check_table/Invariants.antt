@@ -1,8 +1,6 @@
-use Rattle.std.proofs.Common.{◌≡◌, ◌-◌, ◌≤◌, sym, refl, arith, rules}
-use borrow.Author.Tests.{not-true, not-false}
+use Rattle.std.proofs.Common.{◌-◌, ◌≤◌}
 use Rattle.kinds.specs.Mount.{rows}
 use Rattle.mount_check.specs.Rows.{RowsPass}
-use Rattle.mount_check.proofs.Whole.{fails_length, rows_none, rows_pass}
 use Rattle.mount_check.proofs.check_table.Given as goal
 
 abbrev pub invariant-loop-i : goal.invariant-loop-i

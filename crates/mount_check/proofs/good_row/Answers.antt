@@ -1,5 +1,4 @@
-use Rattle.std.proofs.Common.{sym, ◌∙◌, rules}
-use borrow.Author.Tests.{not-true, not-false}
+use Rattle.std.proofs.Common.{sym, ◌∙◌}
 use Rattle.mount_spec.specs.Table.{good_row}
 use Rattle.mount_check.proofs.RowTests.{free_by, used_by, free_zero}
 use Rattle.mount_check.proofs.good_row.Goals as goal

@@ -1,4 +1,4 @@
-use Rattle.std.proofs.Common.{sym, ◌∙◌, arith, rules}
+use Rattle.std.proofs.Common.{sym, ◌∙◌, arith}
 use Rattle.mount_check.proofs.RowTests.{long_path, no_slash, padding_decides}
 use Rattle.mount_check.proofs.good_used_row.Goals as goal
 

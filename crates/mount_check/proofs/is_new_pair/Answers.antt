@@ -1,4 +1,4 @@
-use Rattle.std.proofs.Common.{◌≡◌, ℕ, ◌-◌, ◌<◌, ◌≤◌, false, sym, ◌∙◌, ⊎_elim, arith, rules}
+use Rattle.std.proofs.Common.{◌≡◌, ◌-◌, false, sym, ◌∙◌, arith}
 use Rattle.mount_check.specs.Rows.{is_same_pair}
 use Rattle.mount_check.proofs.Same.{used_row}
 use Rattle.mount_check.proofs.Whole.{tells_true, tells_false, fails_twice, one_more, other_digest}

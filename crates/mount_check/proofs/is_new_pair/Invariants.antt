@@ -1,7 +1,5 @@
-use Rattle.std.proofs.Common.{◌≡◌, ℕ, ◌-◌, ◌<◌, ◌≤◌, false, sym, ◌∙◌, ⊎_elim, arith, rules}
+use Rattle.std.proofs.Common.{◌≡◌, ℕ, ◌-◌, ◌<◌, ◌≤◌, false}
 use Rattle.mount_check.specs.Rows.{is_same_pair}
-use Rattle.mount_check.proofs.Same.{used_row}
-use Rattle.mount_check.proofs.Whole.{tells_true, tells_false, fails_twice, one_more, other_digest}
 use Rattle.mount_check.proofs.is_new_pair.Given as goal
 
 abbrev pub invariant-loop-i : goal.invariant-loop-i

@@ -1,5 +1,4 @@
 use Rattle.std.proofs.Common.{sym, ◌∙◌, arith, rules}
-use borrow.Author.Tests.{not-true, not-false}
 use Rattle.mount_check.proofs.RowTests.{free_by, used_by, digest_by, short_by}
 use Rattle.mount_check.proofs.Whole.{tells_true, tells_false, fails_row, rows_free, rows_used}
 use Rattle.mount_check.proofs.row_passes.Goals as goal

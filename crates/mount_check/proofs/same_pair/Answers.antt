@@ -1,4 +1,4 @@
-use Rattle.std.proofs.Common.{sym, ◌∙◌, arith, rules}
+use Rattle.std.proofs.Common.{sym, ◌∙◌, arith}
 use Rattle.mount_check.proofs.Same.{used_row, hosts_differ, lengths_differ, bytes_decide}
 use Rattle.mount_check.proofs.same_pair.Goals as goal
 

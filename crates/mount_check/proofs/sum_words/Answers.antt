@@ -1,4 +1,4 @@
-use Rattle.std.proofs.Common.{◌≡◌, ℕ, ◌+◌, ◌-◌, ◌*◌, ◌%◌, ◌^◌, ◌≤◌, List, refl, ◌∙◌, ap₂, add-one, arith, rules}
+use Rattle.std.proofs.Common.{◌≡◌, ℕ, ◌+◌, ◌-◌, ◌*◌, ◌%◌, ◌^◌, List, refl, ◌∙◌, ap₂, add-one, arith}
 use Rattle.wire.specs.Hash.{word_at, joined}
 use Rattle.mount_check.specs.Digest.{lane, summed}
 use Rattle.mount_check.proofs.sum_words.Goals as goal

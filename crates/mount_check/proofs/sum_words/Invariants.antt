@@ -1,6 +1,5 @@
-use Rattle.std.proofs.Common.{◌≡◌, ℕ, ◌+◌, ◌-◌, ◌*◌, ◌%◌, ◌^◌, ◌≤◌, List, refl, ◌∙◌, ap₂, add-one, arith, rules}
-use Rattle.wire.specs.Hash.{word_at, joined}
-use Rattle.mount_check.specs.Digest.{lane, summed}
+use Rattle.std.proofs.Common.{◌≡◌, ◌+◌, ◌-◌, ◌≤◌}
+use Rattle.mount_check.specs.Digest.{lane}
 use Rattle.mount_check.proofs.sum_words.Given as goal
 
 abbrev pub invariant-loop-i : goal.invariant-loop-i

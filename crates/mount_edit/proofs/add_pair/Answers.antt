@@ -4,7 +4,6 @@ use Rattle.kinds.specs.Mount.{rows}
 use Rattle.laws.proofs.Count.{lowest_passes}
 use Rattle.mount_spec.specs.Table.{is_used_row, available_row, add_pair}
 use Rattle.mount_edit.specs.Edits.{found_row}
-use borrow.Author.Rules.{rules}
 use Rattle.mount_edit.proofs.add_pair.Goals as goal
 
 pub returns-in-At : goal.returns-in-At

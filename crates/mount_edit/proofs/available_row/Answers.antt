@@ -1,13 +1,11 @@
-use mathlib.Core.Option.{none}
 use mathlib.Core.Path.{◌≡◌, refl, sym, ap, ◌∙◌}
-use Prim.Native.Nat.{◌-◌, ◌≤◌, zero-le}
+use Prim.Native.Nat.{◌-◌, zero-le}
 use native.Mathlib.Omega.{arith}
 use mathlib.Core.Bool.{not}
 use Rattle.kinds.specs.Mount.{rows}
 use Rattle.spec.specs.Count.{lowest, passing}
 use Rattle.laws.proofs.Count.{lowest_more, lowest_hit}
 use Rattle.mount_spec.specs.Table.{is_used_row, available_row}
-use borrow.Author.Rules.{rules}
 use Rattle.mount_edit.proofs.available_row.Goals as goal
 
 pub loop-i-init : goal.loop-i-init

@@ -1,13 +1,10 @@
 use mathlib.Core.Option.{none}
-use mathlib.Core.Path.{◌≡◌, refl, sym}
-use Prim.Native.Nat.{◌-◌, ◌≤◌, zero-le}
-use native.Mathlib.Omega.{arith}
+use mathlib.Core.Path.{◌≡◌}
+use Prim.Native.Nat.{◌-◌, ◌≤◌}
 use mathlib.Core.Bool.{not}
 use Rattle.kinds.specs.Mount.{rows}
-use Rattle.spec.specs.Count.{lowest, passing}
-use Rattle.laws.proofs.Count.{lowest_more, lowest_hit}
-use Rattle.mount_spec.specs.Table.{is_used_row, available_row}
-use borrow.Author.Rules.{rules}
+use Rattle.spec.specs.Count.{lowest}
+use Rattle.mount_spec.specs.Table.{is_used_row}
 use Rattle.mount_edit.proofs.available_row.Given as goal
 
 abbrev pub invariant-loop-i : goal.invariant-loop-i

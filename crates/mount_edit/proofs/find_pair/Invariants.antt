@@ -1,13 +1,10 @@
 use mathlib.Core.Option.{none}
-use mathlib.Core.Path.{◌≡◌, refl, sym, ◌∙◌}
-use Prim.Native.Nat.{◌-◌, ◌≤◌, zero-le}
-use native.Mathlib.Omega.{arith}
+use mathlib.Core.Path.{◌≡◌}
+use Prim.Native.Nat.{◌-◌, ◌≤◌}
 use Rattle.kinds.specs.Mount.{rows}
-use Rattle.spec.specs.Count.{lowest, passing}
+use Rattle.spec.specs.Count.{lowest}
 use Rattle.spec.specs.Procedures.{cut}
-use Rattle.laws.proofs.Count.{lowest_more, lowest_hit}
-use Rattle.mount_spec.specs.Table.{has_pair, find_pair}
-use borrow.Author.Rules.{rules}
+use Rattle.mount_spec.specs.Table.{has_pair}
 use Rattle.mount_edit.proofs.find_pair.Given as goal
 
 abbrev pub invariant-loop-i : goal.invariant-loop-i

@@ -1,11 +1,8 @@
-use mathlib.Core.Path.{◌≡◌, refl, ap, ◌∙◌}
-use Prim.Native.Nat.{◌-◌, ◌≤◌, zero-le}
-use native.Mathlib.Omega.{arith}
-use native.Mathlib.Numerals.{add-one}
+use mathlib.Core.Path.{◌≡◌}
+use Prim.Native.Nat.{◌-◌, ◌≤◌}
 use lib.ListN.{length}
 use Rattle.kinds.specs.Mount.{rows, table_length}
-use Rattle.mount_spec.specs.Table.{Table, strike_row, strike_rows, remove_host}
-use borrow.Author.Rules.{rules}
+use Rattle.mount_spec.specs.Table.{strike_rows}
 use Rattle.mount_edit.proofs.remove_host.Given as goal
 
 abbrev pub invariant-loop-i : goal.invariant-loop-i

@@ -4,7 +4,6 @@ use Rattle.spec.specs.Procedures.{cut}
 use Rattle.laws.proofs.Count.{lowest_passes}
 use Rattle.mount_spec.specs.Table.{has_pair, find_pair, remove_pair}
 use Rattle.mount_edit.specs.Edits.{found_row}
-use borrow.Author.Rules.{rules}
 use Rattle.mount_edit.proofs.remove_pair.Goals as goal
 
 pub returns-in_default : goal.returns-in_default

@@ -1,5 +1,4 @@
 use Rattle.mount_spec.specs.Table.{strike_row}
-use borrow.Author.Rules.{rules}
 use Rattle.mount_edit.proofs.strike_row.Goals as goal
 
 pub returns-then-is_of_host : goal.returns-then-is_of_host

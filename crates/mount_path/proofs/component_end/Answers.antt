@@ -1,6 +1,6 @@
 use Prim.Native.Nat.{◌-◌}
 use native.Mathlib.Omega.{arith}
-use Rattle.mount_path.proofs.Splits.{Seen, seen_first, seen_more, seen_slash, seen_all}
+use Rattle.mount_path.proofs.Splits.{seen_first, seen_more, seen_slash, seen_all}
 use borrow.Author.Rules.{rules}
 use Rattle.mount_path.proofs.component_end.Goals as goal
 

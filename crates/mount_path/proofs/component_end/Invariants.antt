@@ -1,7 +1,5 @@
 use Prim.Native.Nat.{◌-◌}
-use native.Mathlib.Omega.{arith}
-use Rattle.mount_path.proofs.Splits.{Seen, seen_first, seen_more, seen_slash, seen_all}
-use borrow.Author.Rules.{rules}
+use Rattle.mount_path.proofs.Splits.{Seen}
 use Rattle.mount_path.proofs.component_end.Given as goal
 
 abbrev pub invariant-loop-at : goal.invariant-loop-at

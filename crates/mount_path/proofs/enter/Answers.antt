@@ -1,10 +1,8 @@
 use mathlib.Core.Path.{sym, ◌∙◌}
-use borrow.Author.Tests.{not-true, not-false}
 use Rattle.spec.specs.Procedures.{cut}
 use Rattle.laws.proofs.Bytes.{part_length}
 use Rattle.mount_spec.specs.Path.{enter}
 use Rattle.mount_path.proofs.Walks.{entered_none, entered_some, checked_below}
-use borrow.Author.Rules.{rules}
 use Rattle.mount_path.proofs.enter.Goals as goal
 
 pub returns-then-name-eq0 : goal.returns-then-name-eq0

@@ -1,4 +1,3 @@
-use borrow.Author.Tests.{not-true, not-false}
 use Rattle.mount_spec.specs.Path.{mount_point}
 use borrow.Author.Rules.{rules}
 use Rattle.mount_path.proofs.mount_point.Goals as goal

@@ -4,7 +4,6 @@ use native.Mathlib.Omega.{arith}
 use Rattle.spec.specs.Bytes.{part}
 use Rattle.laws.proofs.Bytes.{part_cons}
 use Rattle.mount_spec.specs.Path.{starts_with_slash}
-use borrow.Author.Rules.{rules}
 use Rattle.mount_path.proofs.starts_with_slash.Goals as goal
 
 pub returns-then-path-eq0 : goal.returns-then-path-eq0

@@ -1,10 +1,8 @@
 use mathlib.Core.Path.{◌≡◌, refl, sym, ap, ◌∙◌}
-use Prim.Native.Nat.{ℕ, ◌+◌, ◌-◌, ◌≤◌, ◌<◌}
+use Prim.Native.Nat.{ℕ, ◌+◌, ◌-◌}
 use mathlib.Core.List.{List}
 use native.Mathlib.Omega.{arith}
 use Rattle.spec.specs.Bytes.{part}
-use Rattle.spec.specs.Image.{objects}
-use Rattle.mount_spec.specs.Path.{root, components, walk}
 use Rattle.mount_path.proofs.Walks.{walk_step, walk_ended}
 use borrow.Author.Rules.{rules}
 use Rattle.mount_path.proofs.walk_path.Goals as goal

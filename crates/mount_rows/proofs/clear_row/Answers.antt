@@ -1,7 +1,6 @@
 use mathlib.Core.Path.{◌≡◌, refl}
 use Rattle.spec.specs.Bytes.{bytes_of, zeros}
 use Rattle.mount_spec.specs.Table.{row_bytes, put_row, free_row}
-use borrow.Author.Rules.{rules}
 use Rattle.mount_rows.proofs.clear_row.Goals as goal
 
 -- the bytes of a free row

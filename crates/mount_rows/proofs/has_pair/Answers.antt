@@ -1,12 +1,10 @@
 use mathlib.Core.Path.{sym, ap, ◌∙◌}
 use Prim.Native.Nat.{ℕ, ◌+◌}
-use borrow.Author.Tests.{not-true, not-false}
 use Rattle.kinds.specs.Mount.{path_offset}
 use Rattle.spec.specs.Bytes.{part, same_bytes}
 use Rattle.spec.specs.Procedures.{cut}
 use Rattle.laws.proofs.Bytes.{part_length}
 use Rattle.mount_rows.proofs.Pairs.{other_host, other_length, by_bytes}
-use borrow.Author.Rules.{rules}
 use Rattle.mount_rows.proofs.has_pair.Goals as goal
 
 pub returns-then-not-is_of_host : goal.returns-then-not-is_of_host

@@ -1,5 +1,4 @@
 use Rattle.mount_spec.specs.Table.{row_at}
-use borrow.Author.Rules.{rules}
 use Rattle.mount_rows.proofs.host_of.Goals as goal
 
 pub returns : goal.returns

@@ -1,6 +1,4 @@
-use borrow.Author.Tests.{not-true, not-false}
 use Rattle.mount_spec.specs.Table.{is_of_host}
-use borrow.Author.Rules.{rules}
 use Rattle.mount_rows.proofs.is_of_host.Goals as goal
 
 pub returns-then-not-is_used : goal.returns-then-not-is_used

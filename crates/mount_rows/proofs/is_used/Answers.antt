@@ -1,5 +1,4 @@
 use Rattle.mount_spec.specs.Table.{is_used_row}
-use borrow.Author.Rules.{rules}
 use Rattle.mount_rows.proofs.is_used.Goals as goal
 
 pub returns : goal.returns

@@ -1,5 +1,4 @@
 use Rattle.mount_spec.specs.Table.{path_length}
-use borrow.Author.Rules.{rules}
 use Rattle.mount_rows.proofs.path_length.Goals as goal
 
 pub returns : goal.returns

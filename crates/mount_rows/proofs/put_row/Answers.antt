@@ -1,7 +1,6 @@
 use Rattle.spec.specs.Procedures.{cut}
 use Rattle.laws.proofs.Bytes.{part_length}
 use Rattle.mount_rows.proofs.Written.{row_written}
-use borrow.Author.Rules.{rules}
 use Rattle.mount_rows.proofs.put_row.Goals as goal
 
 pub returns : goal.returns

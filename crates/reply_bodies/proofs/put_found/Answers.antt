@@ -1,5 +1,4 @@
 use Rattle.xdr.proofs.Wrote.{and_then, and_words}
-use borrow.Author.Rules.{rules}
 use Rattle.reply_bodies.proofs.put_found.Goals as goal
 
 pub returns : goal.returns

@@ -1,5 +1,4 @@
 use Rattle.xdr.proofs.Wrote.{and_words}
-use borrow.Author.Rules.{rules}
 use Rattle.reply_bodies.proofs.put_got_attributes.Goals as goal
 
 pub returns : goal.returns

@@ -1,7 +1,6 @@
 use native.Mathlib.Omega.{arith}
 use Rattle.xdr.proofs.Wrote.{and_words}
 use Rattle.reply_bodies.proofs.Sizes.{change_small}
-use borrow.Author.Rules.{rules}
 use Rattle.reply_bodies.proofs.put_renamed.Goals as goal
 
 pub put_wcc_option-requires-clause-at_in_bounds : goal.put_wcc_option-requires-clause-at_in_bounds

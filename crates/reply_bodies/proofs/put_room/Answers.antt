@@ -1,6 +1,5 @@
 use native.Mathlib.Omega.{arith}
 use Rattle.reply_bodies.proofs.Sizes.{room_words_lem}
-use borrow.Author.Rules.{rules}
 use Rattle.reply_bodies.proofs.put_room.Goals as goal
 
 pub returns : goal.returns

@@ -1,4 +1,3 @@
-use borrow.Author.Rules.{rules}
 use Rattle.reply_bodies.proofs.put_verifier.Goals as goal
 
 pub returns : goal.returns

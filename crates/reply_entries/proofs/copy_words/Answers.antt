@@ -1,11 +1,9 @@
 use mathlib.Core.Path.{◌≡◌, refl, sym}
-use Prim.Native.Nat.{◌*◌, ◌-◌, ◌≤◌, zero-le}
+use Prim.Native.Nat.{◌-◌, zero-le}
 use native.Mathlib.Omega.{arith}
-use lib.ListN.{length}
-use Rattle.spec.specs.Bytes.{part, overlay}
+use Rattle.spec.specs.Bytes.{part}
 use Rattle.laws.proofs.Bytes.{overlay_none}
 use Rattle.reply_entries.proofs.Copies.{copy_more}
-use borrow.Author.Rules.{rules}
 use Rattle.reply_entries.proofs.copy_words.Goals as goal
 
 pub loop-i-init : goal.loop-i-init

@@ -1,11 +1,7 @@
-use mathlib.Core.Path.{◌≡◌, refl, sym}
-use Prim.Native.Nat.{◌*◌, ◌-◌, ◌≤◌, zero-le}
-use native.Mathlib.Omega.{arith}
+use mathlib.Core.Path.{◌≡◌}
+use Prim.Native.Nat.{◌*◌, ◌-◌, ◌≤◌}
 use lib.ListN.{length}
 use Rattle.spec.specs.Bytes.{part, overlay}
-use Rattle.laws.proofs.Bytes.{overlay_none}
-use Rattle.reply_entries.proofs.Copies.{copy_more}
-use borrow.Author.Rules.{rules}
 use Rattle.reply_entries.proofs.copy_words.Given as goal
 
 abbrev pub invariant-loop-i : goal.invariant-loop-i

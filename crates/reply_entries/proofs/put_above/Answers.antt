@@ -3,7 +3,6 @@ use Rattle.spec.specs.Bytes.{part}
 use Rattle.reply_entries.specs.Entries.{entry}
 use Rattle.reply_entries.proofs.Runs.{above_low, above_high, one_cost, entries_none, entries_full, entries_one}
 use Rattle.laws.proofs.Bytes.{part_length}
-use borrow.Author.Rules.{rules}
 use Rattle.reply_entries.proofs.put_above.Goals as goal
 
 pub returns-then-cookie-number : goal.returns-then-cookie-number

@@ -5,7 +5,6 @@ use Rattle.spec.specs.Procedures.Listing.{entries_above}
 use Rattle.reply_entries.specs.Entries.{entry}
 use Rattle.reply_entries.proofs.Copies.{padded_dot, padded_dots}
 use Rattle.reply_entries.proofs.Runs.{above_dots, entries_append, front_room, rest_room}
-use borrow.Author.Rules.{rules}
 use Rattle.reply_entries.proofs.put_dots.Goals as goal
 
 pub put_above-q-requires : goal.put_above-q-requires

@@ -4,7 +4,6 @@ use Rattle.spec.specs.Procedures.Listing.{named_entries, entries_above}
 use Rattle.store_search.proofs.Entry.{parent_below}
 use Rattle.reply_entries.specs.Entries.{dots}
 use Rattle.reply_entries.proofs.Runs.{above_entries, entries_append, front_room, rest_room}
-use borrow.Author.Rules.{rules}
 use Rattle.reply_entries.proofs.put_entries.Goals as goal
 
 pub put_dots-behind-requires : goal.put_dots-behind-requires

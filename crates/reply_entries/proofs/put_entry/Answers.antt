@@ -2,7 +2,6 @@ use native.Mathlib.Omega.{arith}
 use Rattle.spec.specs.Bytes.{part}
 use Rattle.laws.proofs.Bytes.{part_length}
 use Rattle.reply_entries.proofs.Copies.{wrote_entry}
-use borrow.Author.Rules.{rules}
 use Rattle.reply_entries.proofs.put_entry.Goals as goal
 
 pub overflow_cast-len : goal.overflow_cast-len

@@ -9,7 +9,6 @@ use Rattle.store_search.proofs.Named.{elsewhere}
 use Rattle.reply_entries.proofs.Copies.{padded_name}
 use Rattle.reply_entries.proofs.Runs.{cost, entries_none, entries_equal, directory_here, child_here, length_here, is_in_used, is_in_free}
 use Rattle.reply_entries.proofs.Runs.{entry_in_absent, entry_in_present, child_below, entry_of_lem}
-use borrow.Author.Rules.{rules}
 use Rattle.reply_entries.proofs.put_name.Goals as goal
 
 pub returns-then-get_u32-directory : goal.returns-then-get_u32-directory

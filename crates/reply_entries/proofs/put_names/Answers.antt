@@ -1,11 +1,7 @@
-use borrow.Author.Rules.{rules}
-use Prim.Native.Nat.{◌-◌, ◌≤◌}
+use Prim.Native.Nat.{◌-◌}
 use mathlib.Core.Path.{◌≡◌, refl}
 use native.Mathlib.Omega.{arith}
-use lib.ListN.{length}
-use Rattle.spec.specs.Image.{names, name_start}
-use Rattle.spec.specs.Procedures.Listing.{named_entries, entries_above}
-use Rattle.reply_entries.specs.Entries.{WroteEntries}
+use Rattle.spec.specs.Image.{names}
 use Rattle.reply_entries.proofs.Runs.{entries_none, entries_append, entries_rest, above_none, above_more, name_room}
 use Rattle.reply_entries.proofs.put_names.Goals as goal
 

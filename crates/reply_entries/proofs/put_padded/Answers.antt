@@ -2,7 +2,6 @@ use native.Mathlib.Omega.{arith}
 use Rattle.laws.proofs.Bytes.{part_length}
 use Rattle.xdr.proofs.Wrote.{wrote_over}
 use Rattle.reply_entries.proofs.Copies.{padded_words}
-use borrow.Author.Rules.{rules}
 use Rattle.reply_entries.proofs.put_padded.Goals as goal
 
 pub overflow_add-count : goal.overflow_add-count

@@ -3,7 +3,6 @@ use lib.ListN.{length-replicate}
 use Rattle.spec.specs.Bytes.{opaque_bytes}
 use Rattle.laws.proofs.FileBytes.{read_file_length}
 use Rattle.xdr.proofs.Wrote.{wrote_over, and_then}
-use borrow.Author.Rules.{rules}
 use Rattle.reply_file.proofs.put_file_bytes.Goals as goal
 
 pub overflow_cast-n : goal.overflow_cast-n

@@ -4,8 +4,7 @@ use lib.ListN.{get_or}
 use Rattle.spec.specs.Image.{object_at}
 use native.Mathlib.Omega.{arith}
 use Rattle.reply_file.proofs.Files.{object_in_lem}
-use Rattle.reply_file.proofs.Together.{RunTo, first_run, run_few, next_run}
-use borrow.Author.Rules.{rules}
+use Rattle.reply_file.proofs.Together.{first_run, run_few, next_run}
 use Rattle.reply_file.proofs.run_length.Goals as goal
 
 pub loop-run-init : goal.loop-run-init

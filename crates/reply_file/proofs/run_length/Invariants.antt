@@ -1,11 +1,5 @@
-use Prim.Native.Nat.{◌+◌, ◌-◌, min}
-use mathlib.Core.Path.{◌≡◌}
-use lib.ListN.{get_or}
-use Rattle.spec.specs.Image.{object_at}
-use native.Mathlib.Omega.{arith}
-use Rattle.reply_file.proofs.Files.{object_in_lem}
-use Rattle.reply_file.proofs.Together.{RunTo, first_run, run_few, next_run}
-use borrow.Author.Rules.{rules}
+use Prim.Native.Nat.{◌-◌}
+use Rattle.reply_file.proofs.Together.{RunTo}
 use Rattle.reply_file.proofs.run_length.Given as goal
 
 abbrev pub invariant-loop-run : goal.invariant-loop-run

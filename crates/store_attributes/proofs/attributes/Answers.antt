@@ -1,4 +1,3 @@
-use borrow.Author.Rules.{rules}
 use Rattle.spec.specs.Handles.{attributes}
 use Rattle.store_attributes.proofs.attributes.Goals as goal
 

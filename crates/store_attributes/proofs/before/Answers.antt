@@ -1,4 +1,3 @@
-use borrow.Author.Rules.{rules}
 use Rattle.spec.specs.Handles.{before}
 use Rattle.store_attributes.proofs.before.Goals as goal
 

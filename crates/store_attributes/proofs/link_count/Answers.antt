@@ -1,5 +1,4 @@
 use native.Mathlib.Omega.{arith}
-use borrow.Author.Rules.{rules}
 use Rattle.spec.specs.Handles.{link_count}
 use Rattle.store_records.proofs.Good.{good_shaped, good_names_sound, namings_few, subdirectories_few}
 use Rattle.store_attributes.proofs.link_count.Goals as goal

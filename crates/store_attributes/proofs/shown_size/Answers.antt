@@ -1,4 +1,3 @@
-use borrow.Author.Rules.{rules}
 use Rattle.spec.specs.Handles.{size_attribute}
 use Rattle.store_attributes.proofs.shown_size.Goals as goal
 

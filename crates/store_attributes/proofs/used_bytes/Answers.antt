@@ -1,5 +1,4 @@
 use native.Mathlib.Omega.{arith}
-use borrow.Author.Rules.{rules}
 use Rattle.spec.specs.Handles.{used_bytes}
 use Rattle.store_records.proofs.Good.{size_few}
 use Rattle.store_attributes.proofs.used_bytes.Goals as goal

@@ -1,12 +1,8 @@
 use mathlib.Core.Path.{◌≡◌}
-use Prim.Native.Nat.{◌+◌, ◌-◌, ◌≤◌, zero-le}
-use native.Mathlib.Nat.{add-zero}
-use native.Mathlib.Omega.{arith}
+use Prim.Native.Nat.{◌+◌, ◌-◌, ◌≤◌}
 use Rattle.spec.specs.Count.{count}
 use Rattle.spec.specs.Room.{is_free_block}
 use Rattle.store_blocks.specs.Blocks.{group}
-use Rattle.store_blocks.proofs.Blocks.{used_more, mark_small, all_used}
-use borrow.Author.Rules.{rules}
 use Rattle.store_blocks.proofs.all_used.Given as goal
 
 abbrev pub invariant-loop-j : goal.invariant-loop-j

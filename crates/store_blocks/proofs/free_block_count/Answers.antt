@@ -1,11 +1,10 @@
 use mathlib.Core.Path.{◌≡◌, refl}
-use Prim.Native.Nat.{◌+◌, ◌-◌, ◌≤◌, zero-le}
+use Prim.Native.Nat.{◌-◌, zero-le}
 use native.Mathlib.Omega.{arith}
-use Rattle.spec.specs.Count.{count, sum}
+use Rattle.spec.specs.Count.{sum}
 use Rattle.spec.specs.Image.{blocks}
 use Rattle.spec.specs.Room.{is_free_block, free_block_count}
 use Rattle.store_blocks.proofs.Blocks.{used_more, mark_small}
-use borrow.Author.Rules.{rules}
 use Rattle.store_blocks.proofs.free_block_count.Goals as goal
 
 pub loop-i-init : goal.loop-i-init

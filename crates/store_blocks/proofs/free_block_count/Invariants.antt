@@ -1,11 +1,7 @@
-use mathlib.Core.Path.{◌≡◌, refl}
-use Prim.Native.Nat.{◌+◌, ◌-◌, ◌≤◌, zero-le}
-use native.Mathlib.Omega.{arith}
-use Rattle.spec.specs.Count.{count, sum}
-use Rattle.spec.specs.Image.{blocks}
-use Rattle.spec.specs.Room.{is_free_block, free_block_count}
-use Rattle.store_blocks.proofs.Blocks.{used_more, mark_small}
-use borrow.Author.Rules.{rules}
+use mathlib.Core.Path.{◌≡◌}
+use Prim.Native.Nat.{◌+◌, ◌-◌, ◌≤◌}
+use Rattle.spec.specs.Count.{count}
+use Rattle.spec.specs.Room.{is_free_block}
 use Rattle.store_blocks.proofs.free_block_count.Given as goal
 
 abbrev pub invariant-loop-i : goal.invariant-loop-i

@@ -1,15 +1,13 @@
-use lib.ListN.{length, length-set}
+use lib.ListN.{length-set}
 use Rattle.kinds.specs.BlockNumbers.{numbers_of}
-use Rattle.kinds.specs.Numbers.{file_blocks}
 use Rattle.spec.specs.Image.{blocks}
 use Rattle.spec.specs.Room.{is_free_block, free_blocks}
 use Rattle.store_records.proofs.Numbered.{block_of, numbers_set}
-use Rattle.store_blocks.proofs.Blocks.{Listed, listed_none, listed_hit, listed_miss, listed_skip, passing_same, listed_wanted, listed_all}
-use borrow.Author.Rules.{rules}
+use Rattle.store_blocks.proofs.Blocks.{listed_none, listed_hit, listed_miss, listed_skip, passing_same, listed_wanted, listed_all}
 use borrow.Author.Tests.{eqb-true}
 use native.Mathlib.Omega.{arith}
-use mathlib.Core.Path.{◌≡◌, refl, sym, ap, ◌∙◌}
-use Prim.Native.Nat.{◌-◌, ◌≤◌, zero-le}
+use mathlib.Core.Path.{refl, sym, ap, ◌∙◌}
+use Prim.Native.Nat.{◌-◌, zero-le}
 use Rattle.store_blocks.proofs.free_blocks.Goals as goal
 use Rattle.store_blocks.proofs.free_blocks.Goals.{then-is_free_block, else-is_free_block}
 

@@ -1,16 +1,10 @@
-use mathlib.Core.Logic.{⊎_elim}
-use lib.ListN.{length, length-set}
+use lib.ListN.{length}
 use Rattle.kinds.specs.BlockNumbers.{numbers_of}
 use Rattle.kinds.specs.Numbers.{file_blocks}
-use Rattle.spec.specs.Image.{blocks}
-use Rattle.spec.specs.Room.{is_free_block, free_blocks}
-use Rattle.store_records.proofs.Numbered.{block_of, numbers_set}
-use Rattle.store_blocks.proofs.Blocks.{Listed, listed_none, listed_hit, listed_miss, listed_skip, passing_same, listed_wanted, listed_all}
-use borrow.Author.Rules.{rules}
-use borrow.Author.Tests.{eqb-true}
-use native.Mathlib.Omega.{arith}
-use mathlib.Core.Path.{◌≡◌, refl, sym, ap, ◌∙◌}
-use Prim.Native.Nat.{◌-◌, ◌≤◌, zero-le}
+use Rattle.spec.specs.Room.{is_free_block}
+use Rattle.store_blocks.proofs.Blocks.{Listed}
+use mathlib.Core.Path.{◌≡◌}
+use Prim.Native.Nat.{◌-◌, ◌≤◌}
 use Rattle.store_blocks.proofs.free_blocks.Given as goal
 
 abbrev pub invariant-loop-i : goal.invariant-loop-i

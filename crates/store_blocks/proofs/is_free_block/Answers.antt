@@ -1,5 +1,4 @@
 use Rattle.store_blocks.proofs.Blocks.{free_byte}
-use borrow.Author.Rules.{rules}
 use Rattle.store_blocks.proofs.is_free_block.Goals as goal
 
 pub returns : goal.returns

@@ -1,6 +1,5 @@
-use Rattle.std.proofs.Common.{◌≡◌, ℕ, ◌+◌, ◌-◌, ◌≤◌, ◌∷◌, length, replicate, sym, refl, ◌∙◌, zero-le, arith, length-set, rules}
+use Rattle.std.proofs.Common.{◌≡◌, ℕ, ◌-◌, sym, refl, zero-le, arith, length-set}
 use lib.ListN.{length-replicate, replicate-append-replicate}
-use Rattle.spec.specs.Bytes.{overlay}
 use Rattle.laws.proofs.Bytes.{overlay_step, overlay_none}
 use Rattle.wire.proofs.clear_bytes.Goals as goal
 

@@ -1,7 +1,5 @@
-use Rattle.std.proofs.Common.{◌≡◌, ℕ, ◌+◌, ◌-◌, ◌≤◌, ◌∷◌, length, replicate, sym, refl, ◌∙◌, zero-le, arith, length-set, rules}
-use lib.ListN.{length-replicate, replicate-append-replicate}
+use Rattle.std.proofs.Common.{◌≡◌, ◌-◌, ◌≤◌, length, replicate}
 use Rattle.spec.specs.Bytes.{overlay}
-use Rattle.laws.proofs.Bytes.{overlay_step, overlay_none}
 use Rattle.wire.proofs.clear_bytes.Given as goal
 
 abbrev pub invariant-loop-i : goal.invariant-loop-i

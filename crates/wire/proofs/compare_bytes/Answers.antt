@@ -1,4 +1,4 @@
-use Rattle.std.proofs.Common.{◌≡◌, ◌+◌, ◌-◌, ◌≤◌, sym, refl, ◌∙◌, zero-le, arith, rules}
+use Rattle.std.proofs.Common.{◌≡◌, ◌+◌, ◌-◌, sym, refl, ◌∙◌, zero-le, arith, rules}
 use borrow.Author.Tests.{not-true, not-false}
 use Rattle.spec.specs.Bytes.{part}
 use Rattle.laws.proofs.Bytes.{part_length, part_snoc, same_yes, pairs_equal, first_difference, equal_further}

@@ -1,8 +1,5 @@
-use Rattle.std.proofs.Common.{◌≡◌, ◌+◌, ◌-◌, ◌≤◌, sym, refl, ◌∙◌, zero-le, arith, rules}
-use borrow.Author.Tests.{not-true, not-false}
+use Rattle.std.proofs.Common.{◌≡◌, ◌-◌, ◌≤◌}
 use Rattle.spec.specs.Bytes.{part}
-use Rattle.laws.proofs.Bytes.{part_length, part_snoc, same_yes, pairs_equal, first_difference, equal_further}
-use Rattle.wire.proofs.Pairs.{one_differs, four_equal, four_bound}
 use Rattle.wire.proofs.compare_bytes.Given as goal
 
 abbrev pub invariant-loop-i : goal.invariant-loop-i

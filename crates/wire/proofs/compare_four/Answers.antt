@@ -1,4 +1,3 @@
-use Rattle.std.proofs.Common.{rules}
 use Rattle.wire.proofs.Pairs.{first_differs, second_differs, third_differs, fourth_decides}
 use Rattle.wire.proofs.compare_four.Goals as goal
 

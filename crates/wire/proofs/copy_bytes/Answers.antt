@@ -1,5 +1,5 @@
-use Rattle.std.proofs.Common.{◌≡◌, ℕ, ◌-◌, ◌≤◌, List, length, sym, refl, ◌∙◌, zero-le, arith, length-set, rules}
-use Rattle.spec.specs.Bytes.{overlay, part}
+use Rattle.std.proofs.Common.{◌≡◌, ◌-◌, sym, refl, ◌∙◌, zero-le, arith, length-set}
+use Rattle.spec.specs.Bytes.{part}
 use Rattle.laws.proofs.Bytes.{overlay_step, overlay_none, part_snoc, part_length}
 use Rattle.wire.proofs.Copies.{copy_more}
 use Rattle.wire.proofs.copy_bytes.Goals as goal

@@ -1,7 +1,5 @@
-use Rattle.std.proofs.Common.{◌≡◌, ℕ, ◌-◌, ◌≤◌, List, length, sym, refl, ◌∙◌, zero-le, arith, length-set, rules}
+use Rattle.std.proofs.Common.{◌≡◌, ℕ, ◌-◌, ◌≤◌, List, length}
 use Rattle.spec.specs.Bytes.{overlay, part}
-use Rattle.laws.proofs.Bytes.{overlay_step, overlay_none, part_snoc, part_length}
-use Rattle.wire.proofs.Copies.{copy_more}
 use Rattle.wire.proofs.copy_bytes.Given as goal
 
 abbrev pub invariant-loop-i : goal.invariant-loop-i

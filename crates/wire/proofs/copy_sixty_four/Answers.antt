@@ -1,4 +1,4 @@
-use Rattle.std.proofs.Common.{arith, rules}
+use Rattle.std.proofs.Common.{arith}
 use Rattle.wire.proofs.Copies.{copy_more}
 use Rattle.wire.proofs.copy_sixty_four.Goals as goal
 

@@ -1,4 +1,4 @@
-use Rattle.std.proofs.Common.{arith, rules}
+use Rattle.std.proofs.Common.{arith}
 use Rattle.laws.proofs.Bytes.{be_2}
 use Rattle.wire.proofs.get_u16.Goals as goal
 

@@ -1,4 +1,4 @@
-use Rattle.std.proofs.Common.{ℕ, ap, ◌∙◌, rules}
+use Rattle.std.proofs.Common.{ℕ, ap, ◌∙◌}
 use Rattle.spec.specs.Bytes.{bytes_of}
 use Rattle.wire.specs.LowFirst.{low_first}
 use Rattle.wire.proofs.LowFirst.{read_turned}

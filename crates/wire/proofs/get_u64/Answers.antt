@@ -1,4 +1,4 @@
-use Rattle.std.proofs.Common.{arith, rules}
+use Rattle.std.proofs.Common.{arith}
 use Rattle.laws.proofs.Bytes.{be_add}
 use Rattle.wire.proofs.get_u64.Goals as goal
 

@@ -1,6 +1,5 @@
-use Rattle.std.proofs.Common.{◌≡◌, ◌+◌, ◌-◌, ◌≤◌, not, eqb, get_or, sym, ◌∙◌, zero-le, arith, rules}
+use Rattle.std.proofs.Common.{◌≡◌, ◌+◌, ◌-◌, not, eqb, get_or, sym, ◌∙◌, zero-le, arith}
 use mathlib.Core.Bool.{not-not}
-use Rattle.spec.specs.Bytes.{part}
 use Rattle.spec.specs.Check.{is_zero}
 use Rattle.laws.proofs.Tests.{remember}
 use Rattle.laws.proofs.Zeros.{all_none, all_next}

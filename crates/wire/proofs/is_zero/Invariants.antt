@@ -1,9 +1,6 @@
-use Rattle.std.proofs.Common.{◌≡◌, ◌+◌, ◌-◌, ◌≤◌, not, eqb, get_or, sym, ◌∙◌, zero-le, arith, rules}
-use mathlib.Core.Bool.{not-not}
+use Rattle.std.proofs.Common.{◌≡◌, ◌-◌, ◌≤◌, not}
 use Rattle.spec.specs.Bytes.{part}
 use Rattle.spec.specs.Check.{is_zero}
-use Rattle.laws.proofs.Tests.{remember}
-use Rattle.laws.proofs.Zeros.{all_none, all_next}
 use Rattle.wire.proofs.is_zero.Given as goal
 
 abbrev pub invariant-loop-i : goal.invariant-loop-i

@@ -1,4 +1,4 @@
-use Rattle.std.proofs.Common.{arith, rules}
+use Rattle.std.proofs.Common.{arith}
 use Rattle.wire.proofs.LowFirst.{low_4}
 use Rattle.wire.proofs.load_word.Goals as goal
 

@@ -1,4 +1,4 @@
-use Rattle.std.proofs.Common.{arith, length-set, rules}
+use Rattle.std.proofs.Common.{arith, length-set}
 use Rattle.laws.proofs.Bytes.{stores_2}
 use Rattle.wire.proofs.put_u16.Goals as goal
 

@@ -1,4 +1,4 @@
-use Rattle.std.proofs.Common.{ℕ, List, reverse, ap, ◌∙◌, rules}
+use Rattle.std.proofs.Common.{ℕ, List, reverse, ap, ◌∙◌}
 use Rattle.spec.specs.Bytes.{overlay, bytes_of}
 use Rattle.wire.proofs.LowFirst.{written_turned}
 use Rattle.wire.proofs.put_u32.Goals as goal

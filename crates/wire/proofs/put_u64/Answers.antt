@@ -1,4 +1,4 @@
-use Rattle.std.proofs.Common.{ap, ◌∙◌, arith, rules}
+use Rattle.std.proofs.Common.{ap, ◌∙◌, arith}
 use Rattle.spec.specs.Bytes.{overlay}
 use Rattle.laws.proofs.Bytes.{overlay_more, bytes_length}
 use Rattle.wire.proofs.TwoWords.{two_words}

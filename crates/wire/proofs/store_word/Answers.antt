@@ -1,4 +1,4 @@
-use Rattle.std.proofs.Common.{arith, length-set, rules}
+use Rattle.std.proofs.Common.{arith, length-set}
 use Rattle.wire.proofs.LowFirst.{low_stores_4}
 use Rattle.wire.proofs.store_word.Goals as goal
 

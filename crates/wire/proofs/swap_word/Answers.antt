@@ -1,4 +1,3 @@
-use Rattle.std.proofs.Common.{rules}
 use Rattle.wire.proofs.LowFirst.{swap_4}
 use Rattle.wire.proofs.swap_word.Goals as goal
 

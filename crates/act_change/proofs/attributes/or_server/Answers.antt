@@ -1,4 +1,3 @@
-use borrow.Author.Rules.{rules}
 use Rattle.act_change.proofs.attributes.or_server.Goals as goal
 
 pub returns-in-Keep : goal.returns-in-Keep

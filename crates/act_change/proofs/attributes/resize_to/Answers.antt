@@ -1,5 +1,4 @@
 use mathlib.Core.Path.{refl}
-use borrow.Author.Rules.{rules}
 use Rattle.act_change.specs.Makable.{Sizable}
 use Rattle.act_change.proofs.attributes.resize_to.Goals as goal
 

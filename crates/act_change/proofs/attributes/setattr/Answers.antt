@@ -1,5 +1,4 @@
 use mathlib.Core.Path.{refl, sym, ap, ◌∙◌}
-use borrow.Author.Rules.{rules}
 use Rattle.spec.specs.Procedures.Attributes.{setattr}
 use Rattle.spec.specs.Procedures.{cut}
 use Rattle.spec.specs.Handles.{change}

@@ -1,5 +1,4 @@
 use native.Mathlib.Omega.{arith}
-use borrow.Author.Rules.{rules}
 use Rattle.spec.specs.Procedures.Attributes.{setattr_edit}
 use Rattle.act_write.proofs.Written.{record_inside}
 use Rattle.act_change.proofs.Edited.{sized_still}

@@ -1,4 +1,3 @@
-use borrow.Author.Rules.{rules}
 use Rattle.spec.specs.Procedures.Attributes.{size_touches}
 use Rattle.act_change.proofs.attributes.size_touches.Goals as goal
 

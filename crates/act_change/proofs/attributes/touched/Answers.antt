@@ -1,4 +1,3 @@
-use borrow.Author.Rules.{rules}
 use Rattle.act_change.proofs.attributes.touched.Goals as goal
 
 pub returns-then-is_given : goal.returns-then-is_given

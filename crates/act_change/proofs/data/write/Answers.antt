@@ -1,5 +1,4 @@
 use mathlib.Core.Path.{refl, sym, ap, ◌∙◌}
-use borrow.Author.Rules.{rules}
 use Rattle.spec.specs.Procedures.Data.{write}
 use Rattle.spec.specs.Procedures.{cut}
 use Rattle.store_blocks.proofs.Ready.{ready_records}

@@ -1,5 +1,4 @@
 use mathlib.Core.Path.{refl}
-use borrow.Author.Rules.{rules}
 use Rattle.act_change.specs.Makable.{Sizable}
 use Rattle.laws.proofs.GoodRecords.{resize_still}
 use Rattle.act_write.proofs.Written.{record_inside}

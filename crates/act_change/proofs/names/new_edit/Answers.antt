@@ -1,5 +1,4 @@
 use native.Mathlib.Omega.{arith}
-use borrow.Author.Rules.{rules}
 use lib.Dec.{lit<}
 use Rattle.spec.specs.Procedures.{cut}
 use Rattle.spec.specs.Procedures.Names.{new_edit}

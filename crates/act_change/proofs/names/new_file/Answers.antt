@@ -1,4 +1,3 @@
-use borrow.Author.Rules.{rules}
 use Rattle.act_change.proofs.names.new_file.Goals as goal
 
 pub returns-in-Unchecked : goal.returns-in-Unchecked

@@ -1,4 +1,3 @@
-use borrow.Author.Rules.{rules}
 use Rattle.spec.specs.Procedures.Names.{new_object}
 use Rattle.act_change.proofs.names.new_object.Goals as goal
 

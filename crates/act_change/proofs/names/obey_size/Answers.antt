@@ -1,4 +1,3 @@
-use borrow.Author.Rules.{rules}
 use Rattle.spec.specs.Handles.{change}
 use Rattle.act_write.proofs.Written.{left_showable}
 use Rattle.act_change.proofs.Made.{existing_still}

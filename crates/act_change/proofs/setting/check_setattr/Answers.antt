@@ -1,6 +1,5 @@
 use mathlib.Core.Path.{sym, ◌∙◌}
 use native.Mathlib.Omega.{arith}
-use borrow.Author.Rules.{rules}
 use Rattle.spec.specs.Procedures.Attributes.{check_setattr}
 use Rattle.spec.specs.Procedures.{cut}
 use Rattle.laws.proofs.SetAttributes.{allowed}

@@ -1,6 +1,5 @@
 use Prim.Native.Nat.{◌+◌}
 use mathlib.Core.Path.{sym, ◌∙◌}
-use borrow.Author.Rules.{rules}
 use borrow.Author.Tests.{eq-eqb, ltb-false, ne_eqb}
 use Rattle.kinds.specs.Numbers.{most_file_bytes}
 use Rattle.spec.specs.Procedures.Data.{check_write}

@@ -1,4 +1,3 @@
-use borrow.Author.Rules.{rules}
 use Rattle.spec.specs.Handles.{change}
 use Rattle.spec.specs.Procedures.Data.{commit}
 use Rattle.check_handles.proofs.Reach.{regular_reached, regular_showable}

@@ -1,4 +1,3 @@
-use borrow.Author.Rules.{rules}
 use Rattle.spec.specs.Procedures.Data.{read}
 use Rattle.check_handles.proofs.Reach.{regular_reached}
 use Rattle.act_read.proofs.data.read.Goals as goal

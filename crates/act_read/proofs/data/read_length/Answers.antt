@@ -1,5 +1,4 @@
 use native.Mathlib.Omega.{arith}
-use borrow.Author.Rules.{rules}
 use Rattle.spec.specs.Procedures.Data.{read_length}
 use Rattle.act_read.proofs.data.read_length.Goals as goal
 

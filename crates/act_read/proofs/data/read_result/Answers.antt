@@ -1,5 +1,4 @@
 use native.Mathlib.Omega.{arith}
-use borrow.Author.Rules.{rules}
 use Rattle.spec.specs.Procedures.Data.{read_length, read_result}
 use Rattle.store_records.proofs.Good.{size_few}
 use Rattle.act_read.proofs.Writable.{readable}

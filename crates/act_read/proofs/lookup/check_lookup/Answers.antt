@@ -1,4 +1,3 @@
-use borrow.Author.Rules.{rules}
 use Rattle.spec.specs.Procedures.Names.{check_lookup}
 use Rattle.act_read.proofs.lookup.check_lookup.Goals as goal
 

@@ -1,4 +1,3 @@
-use borrow.Author.Rules.{rules}
 use Rattle.spec.specs.Procedures.Attributes.{access}
 use Rattle.check_handles.proofs.Reach.{object_reached, object_showable}
 use Rattle.act_read.proofs.object.access.Goals as goal

@@ -1,4 +1,3 @@
-use borrow.Author.Rules.{rules}
 use Rattle.spec.specs.Procedures.Attributes.{getattr}
 use Rattle.check_handles.proofs.Reach.{object_showable}
 use Rattle.act_read.proofs.object.getattr.Goals as goal

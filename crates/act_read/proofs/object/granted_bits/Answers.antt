@@ -1,4 +1,3 @@
-use borrow.Author.Rules.{rules}
 use Rattle.spec.specs.Procedures.Attributes.{granted_bits}
 use Rattle.act_read.proofs.object.granted_bits.Goals as goal
 

@@ -1,4 +1,3 @@
-use borrow.Author.Rules.{rules}
 use Rattle.spec.specs.Procedures.Volume.{fsinfo}
 use Rattle.check_handles.proofs.Reach.{object_showable}
 use Rattle.act_read.proofs.volume.fsinfo.Goals as goal

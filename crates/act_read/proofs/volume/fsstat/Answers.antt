@@ -1,4 +1,3 @@
-use borrow.Author.Rules.{rules}
 use Rattle.spec.specs.Procedures.Volume.{fsstat}
 use Rattle.check_handles.proofs.Reach.{object_reached}
 use Rattle.act_read.proofs.volume.fsstat.Goals as goal

@@ -1,4 +1,3 @@
-use borrow.Author.Rules.{rules}
 use Rattle.spec.specs.Procedures.Volume.{pathconf}
 use Rattle.check_handles.proofs.Reach.{object_showable}
 use Rattle.act_read.proofs.volume.pathconf.Goals as goal

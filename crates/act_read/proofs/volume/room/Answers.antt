@@ -1,5 +1,4 @@
 use native.Mathlib.Omega.{arith}
-use borrow.Author.Rules.{rules}
 use Rattle.act_read.proofs.Few.{free_few, available_few}
 use Rattle.act_read.proofs.volume.room.Goals as goal
 

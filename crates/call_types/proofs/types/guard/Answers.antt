@@ -1,4 +1,3 @@
-use borrow.Author.Rules.{rules}
 use Rattle.spec.specs.Arguments.{guard}
 use Rattle.call_types.proofs.types.guard.Goals as goal
 

@@ -1,4 +1,3 @@
-use borrow.Author.Rules.{rules}
 use Rattle.spec.specs.Arguments.{handle}
 use Rattle.call_types.proofs.types.handle.Goals as goal
 

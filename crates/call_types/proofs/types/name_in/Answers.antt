@@ -1,4 +1,3 @@
-use borrow.Author.Rules.{rules}
 use Rattle.spec.specs.Arguments.{name_in}
 use Rattle.call_types.proofs.types.name_in.Goals as goal
 

@@ -1,4 +1,3 @@
-use borrow.Author.Rules.{rules}
 use Rattle.spec.specs.Arguments.{set_number}
 use Rattle.call_types.proofs.types.set_number.Goals as goal
 

@@ -1,4 +1,3 @@
-use borrow.Author.Rules.{rules}
 use Rattle.spec.specs.Arguments.{set_size}
 use Rattle.call_types.proofs.types.set_size.Goals as goal
 

@@ -1,5 +1,4 @@
 use borrow.Author.Tests.{eq-eqb, ne_eqb}
-use borrow.Author.Rules.{rules}
 use Rattle.spec.specs.Arguments.{set_time}
 use Rattle.call_types.proofs.types.set_time.Goals as goal
 

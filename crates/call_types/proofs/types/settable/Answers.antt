@@ -1,4 +1,3 @@
-use borrow.Author.Rules.{rules}
 use Rattle.spec.specs.Arguments.{settable}
 use Rattle.call_types.proofs.types.settable.Goals as goal
 

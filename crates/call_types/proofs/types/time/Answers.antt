@@ -1,4 +1,3 @@
-use borrow.Author.Rules.{rules}
 use Rattle.spec.specs.Arguments.{time}
 use Rattle.call_types.proofs.types.time.Goals as goal
 

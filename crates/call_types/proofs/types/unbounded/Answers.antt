@@ -1,4 +1,3 @@
-use borrow.Author.Rules.{rules}
 use Rattle.spec.specs.Arguments.{unbounded}
 use Rattle.call_types.proofs.types.unbounded.Goals as goal
 

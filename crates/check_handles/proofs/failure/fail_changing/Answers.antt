@@ -1,4 +1,3 @@
-use borrow.Author.Rules.{rules}
 use Rattle.spec.specs.Handles.{change}
 use Rattle.spec.specs.Results.{fail_changing}
 use Rattle.check_handles.proofs.Reach.{object_reached, object_showable}

@@ -1,4 +1,3 @@
-use borrow.Author.Rules.{rules}
 use Rattle.spec.specs.Results.{fail_showing}
 use Rattle.check_handles.proofs.Reach.{object_showable}
 use Rattle.check_handles.proofs.failure.fail_showing.Goals as goal

@@ -1,4 +1,3 @@
-use borrow.Author.Rules.{rules}
 use Rattle.spec.specs.Handles.{handle_change, change}
 use Rattle.check_handles.proofs.Reach.{object_reached, object_showable}
 use Rattle.check_handles.proofs.failure.handle_change.Goals as goal

@@ -1,4 +1,3 @@
-use borrow.Author.Rules.{rules}
 use Rattle.check_handles.proofs.failure.unchanged.Goals as goal
 
 pub returns : goal.returns

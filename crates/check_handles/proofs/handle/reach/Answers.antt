@@ -1,5 +1,4 @@
 use borrow.Author.Tests.{eq-eqb, ne_eqb, le-leb, lt-leb}
-use borrow.Author.Rules.{rules}
 use Rattle.spec.specs.Handles.{reach}
 use Rattle.laws.proofs.Bytes.{part_length}
 use Rattle.check_handles.proofs.Reach.{handle_read}

@@ -1,5 +1,4 @@
 use native.Mathlib.Omega.{arith}
-use borrow.Author.Rules.{rules}
 use Rattle.spec.specs.Handles.{reach_directory}
 use Rattle.check_handles.proofs.Reach.{object_reached}
 use Rattle.check_handles.proofs.handle.reach_directory.Goals as goal

@@ -1,4 +1,3 @@
-use borrow.Author.Rules.{rules}
 use borrow.Author.Tests.{eq-eqb, ne_eqb, le-leb, lt-leb}
 use Rattle.spec.specs.Handles.{check_name}
 use Rattle.laws.proofs.Bytes.{part_length}

@@ -1,4 +1,3 @@
-use borrow.Author.Rules.{rules}
 use Rattle.check_make.proofs.checks.bad_for_directory.Goals as goal
 
 pub returns-then-bad_attributes : goal.returns-then-bad_attributes

@@ -1,4 +1,3 @@
-use borrow.Author.Rules.{rules}
 use Rattle.spec.specs.Procedures.Names.{check_existing}
 use Rattle.check_make.proofs.checks.check_existing.Goals as goal
 

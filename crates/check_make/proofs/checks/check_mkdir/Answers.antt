@@ -1,5 +1,4 @@
 use Prim.Native.Nat.{zero-le}
-use borrow.Author.Rules.{rules}
 use Rattle.spec.specs.Procedures.Names.{check_mkdir}
 use Rattle.store_records.proofs.Good.{good_shaped, good_names_sound}
 use Rattle.check_make.proofs.checks.check_mkdir.Goals as goal

@@ -1,4 +1,3 @@
-use borrow.Author.Rules.{rules}
 use Rattle.spec.specs.Procedures.Names.{check_new}
 use Rattle.check_make.proofs.checks.check_new.Goals as goal
 

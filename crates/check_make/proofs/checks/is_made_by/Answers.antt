@@ -1,5 +1,4 @@
-use borrow.Author.Rules.{rules}
-use borrow.Author.Tests.{eq-eqb, ne_eqb, not-false, not-true}
+use borrow.Author.Tests.{eq-eqb, ne_eqb}
 use Rattle.spec.specs.Procedures.Names.{is_made_by}
 use Rattle.check_make.proofs.checks.is_made_by.Goals as goal
 

@@ -1,4 +1,3 @@
-use borrow.Author.Rules.{rules}
 use Rattle.check_make.proofs.checks.is_taken.Goals as goal
 
 pub returns-in-Unchecked : goal.returns-in-Unchecked

@@ -3,7 +3,6 @@ use native.Mathlib.Omega.{arith}
 use Rattle.spec.specs.Edits.{resize}
 use Rattle.spec.specs.Room.{size_of}
 use Rattle.edit_size.proofs.Same.{resize_same}
-use borrow.Author.Rules.{rules}
 use Rattle.edit_size.proofs.size.resize.Goals as goal
 
 pub returns-then-size-old : goal.returns-then-size-old

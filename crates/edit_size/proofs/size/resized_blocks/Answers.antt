@@ -1,12 +1,11 @@
 use borrow.Author.Rules.{rules}
 use native.Mathlib.Omega.{arith}
-use Prim.Native.Nat.{◌-◌, ◌≤◌, zero-le}
+use Prim.Native.Nat.{◌-◌, zero-le}
 use mathlib.Core.Path.{◌≡◌, refl, ap, ◌∙◌}
-use lib.ListN.{length, length-set}
+use lib.ListN.{length-set}
 use Rattle.kinds.specs.BlockNumbers.{numbers_of}
-use Rattle.kinds.specs.Numbers.{file_blocks}
 use Rattle.store_records.proofs.Numbered.{numbers_length}
-use Rattle.edit_size.proofs.ResizedNumbers.{block_put, numbers_to, own_next, added_next, numbers_all}
+use Rattle.edit_size.proofs.ResizedNumbers.{block_put, own_next, added_next, numbers_all}
 use Rattle.edit_size.proofs.size.resized_blocks.Goals as goal
 use Rattle.edit_size.proofs.size.resized_blocks.Goals.{then-k-before, else-k-before}
 

@@ -1,13 +1,9 @@
-use borrow.Author.Rules.{rules}
-use native.Mathlib.Omega.{arith}
-use Prim.Native.Nat.{◌-◌, ◌≤◌, zero-le}
-use mathlib.Core.Logic.{⊎_elim}
-use mathlib.Core.Path.{◌≡◌, refl, ap, ◌∙◌}
-use lib.ListN.{length, length-set}
+use Prim.Native.Nat.{◌-◌, ◌≤◌}
+use mathlib.Core.Path.{◌≡◌}
+use lib.ListN.{length}
 use Rattle.kinds.specs.BlockNumbers.{numbers_of}
 use Rattle.kinds.specs.Numbers.{file_blocks}
-use Rattle.store_records.proofs.Numbered.{numbers_length}
-use Rattle.edit_size.proofs.ResizedNumbers.{block_put, numbers_to, own_next, added_next, numbers_all}
+use Rattle.edit_size.proofs.ResizedNumbers.{numbers_to}
 use Rattle.edit_size.proofs.size.resized_blocks.Given as goal
 
 abbrev pub invariant-loop-k : goal.invariant-loop-k

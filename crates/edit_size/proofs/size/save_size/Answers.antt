@@ -1,4 +1,3 @@
-use borrow.Author.Rules.{rules}
 use Rattle.kinds.specs.BlockNumbers.{numbers_of}
 use Rattle.edit_size.proofs.SizeWritten.{size_written}
 use Rattle.edit_size.proofs.size.save_size.Goals as goal

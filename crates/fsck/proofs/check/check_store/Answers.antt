@@ -1,9 +1,7 @@
 use mathlib.Core.Path.{sym, ap, ◌∙◌}
-use borrow.Author.Tests.{not-true, not-false}
 use Rattle.laws.proofs.Valid.{shaped, shaped_framed}
 use Rattle.fsck.proofs.Verdict.{shape_no, shape_yes, checked_bad, checked_records_bad, checked_good}
 use Rattle.fsck.specs.declared.shape.Counts.{Counts}
-use borrow.Author.Rules.{rules}
 use Rattle.fsck.proofs.check.check_store.Goals as goal
 
 pub returns-in_default : goal.returns-in_default

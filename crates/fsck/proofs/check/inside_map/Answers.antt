@@ -1,8 +1,7 @@
 use native.Mathlib.Omega.{arith}
-use Prim.Native.Nat.{◌*◌, ◌-◌, ◌≤◌, zero-le}
+use Prim.Native.Nat.{◌*◌, ◌-◌, zero-le}
 use Rattle.kinds.specs.Numbers.{most_name_bytes}
-use Rattle.fsck.proofs.Filled.{blank_of, Filled, filled_none, filled_more, filled_all}
-use borrow.Author.Rules.{rules}
+use Rattle.fsck.proofs.Filled.{blank_of, filled_none, filled_more, filled_all}
 use Rattle.fsck.proofs.check.inside_map.Goals as goal
 
 pub loop-i-init : goal.loop-i-init

@@ -1,8 +1,6 @@
-use native.Mathlib.Omega.{arith}
-use Prim.Native.Nat.{◌*◌, ◌-◌, ◌≤◌, zero-le}
+use Prim.Native.Nat.{◌-◌, ◌≤◌}
 use Rattle.kinds.specs.Numbers.{most_name_bytes}
-use Rattle.fsck.proofs.Filled.{blank_of, Filled, filled_none, filled_more, filled_all}
-use borrow.Author.Rules.{rules}
+use Rattle.fsck.proofs.Filled.{Filled}
 use Rattle.fsck.proofs.check.inside_map.Given as goal
 
 abbrev pub invariant-loop-i : goal.invariant-loop-i

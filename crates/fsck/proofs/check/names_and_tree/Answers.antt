@@ -1,4 +1,3 @@
-use borrow.Author.Tests.{not-true, not-false}
 use Rattle.kinds.specs.Numbers.{most_objects, most_name_records}
 use Rattle.fsck_objects.proofs.Passes.{told_false}
 use Rattle.fsck.proofs.Filled.{blank_of}

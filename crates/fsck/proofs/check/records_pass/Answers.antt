@@ -1,8 +1,6 @@
 use mathlib.Core.Path.{sym, ◌∙◌}
-use borrow.Author.Tests.{not-true, not-false}
 use native.Mathlib.Omega.{arith}
 use Rattle.fsck.proofs.Verdict.{records_bad, root_bad, records_told}
-use borrow.Author.Rules.{rules}
 use Rattle.fsck.proofs.check.records_pass.Goals as goal
 
 pub is_directory-requires : goal.is_directory-requires

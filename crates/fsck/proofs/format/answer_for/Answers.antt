@@ -1,7 +1,6 @@
 use borrow.Author.Tests.{le-ltb, lt-ltb, lt-leb, le-leb, ne_eqb, eq-eqb}
 use Rattle.spec.specs.Check.{good_counts}
 use Rattle.fsck.specs.Format.{answer_for}
-use borrow.Author.Rules.{rules}
 use Rattle.fsck.proofs.format.answer_for.Goals as goal
 
 pub returns-then-nanoseconds-ge-NANOSECONDS_END : goal.returns-then-nanoseconds-ge-NANOSECONDS_END

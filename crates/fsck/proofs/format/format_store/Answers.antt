@@ -1,6 +1,5 @@
 use mathlib.Core.Path.{sym, ◌∙◌}
 use Rattle.fsck.proofs.Laid.{asked, leaves_refused, leaves_done}
-use borrow.Author.Rules.{rules}
 use Rattle.fsck.proofs.format.format_store.Goals as goal
 
 pub returns-then-answer-ne-DONE : goal.returns-then-answer-ne-DONE

@@ -1,5 +1,4 @@
 use Rattle.fsck.specs.Format.{front_of}
-use borrow.Author.Rules.{rules}
 use Rattle.fsck.proofs.format.write_front.Goals as goal
 
 pub returns : goal.returns

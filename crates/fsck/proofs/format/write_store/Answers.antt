@@ -3,7 +3,6 @@ use native.Mathlib.Omega.{arith}
 use Prim.Native.Nat.{◌+◌, ◌*◌}
 use Rattle.kinds.specs.Layout.{objects_head, names_head, object_length, name_record_length}
 use Rattle.fsck.proofs.Laid.{format_run}
-use borrow.Author.Rules.{rules}
 use Rattle.fsck.proofs.format.write_store.Goals as goal
 
 pub returns : goal.returns

@@ -3,7 +3,6 @@ use Prim.Native.Nat.{ℕ, ◌*◌}
 use native.Mathlib.Omega.{arith}
 use Rattle.fsck.specs.Found.{names_with, blocks_with}
 use Rattle.fsck.proofs.Shapes.{ShapedWith, shape_bad, shape_counts, names_are, blocks_are}
-use borrow.Author.Rules.{rules}
 use Rattle.fsck.proofs.shape.rest_of_shape.Goals as goal
 
 pub returns-then-names-gt-MOST_NAME_RECORDS : goal.returns-then-names-gt-MOST_NAME_RECORDS

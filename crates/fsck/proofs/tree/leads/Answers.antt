@@ -1,12 +1,10 @@
 use native.Mathlib.Omega.{arith}
-use borrow.Author.Tests.{leb-true}
 use mathlib.Core.Path.{sym, ap, ◌∙◌}
 use Prim.Native.Nat.{ℕ}
 use Rattle.spec.specs.Room.{above}
 use Rattle.fsck_objects.proofs.Passes.{told_true}
 use Rattle.fsck_names.proofs.Parents.{named_live}
 use Rattle.fsck.proofs.Steps.{positive, below_p, parents_by, leads_yes, marked_other, depth_next, known_set, depth_most}
-use borrow.Author.Rules.{rules}
 use Rattle.fsck.proofs.tree.leads.Goals as goal
 
 pub overflow_sub-mark : goal.overflow_sub-mark
@@ -22,7 +20,7 @@ pub overflow_cast-depths : goal.overflow_cast-depths
 overflow_cast-depths c = let a = c.args in
     let s = a.store.now in
     let m = parents_by s a.p a.parents.now c.requires.framed c.requires.p_value c.requires.named_by in
-    omega (arith, m.most, leb-true c.index-depth.result a.p c.if-depth-p.true)
+    omega (arith, m.most, c.if-depth-p.true)
 
 pub returns-then-depth-p : goal.returns-then-depth-p
 returns-then-depth-p c = let a = c.args in
@@ -35,17 +33,13 @@ returns-then-depth-p c = let a = c.args in
     c.index-mark.result c.index-depth.result c.requires.o_lt_p c.index-mark.ensures.0
     c.if-mark-ne0.true c.index-depth.ensures.0 c.if-depth-ne0.true in
     let e = depth_most s a.p a.parents.now m a.o.0 c.index-depth.result d
-    (leb-true c.index-depth.result a.p c.if-depth-p.true) in
+    c.if-depth-p.true in
     told_true (record {
       known = known_set s a.p a.parents.now m a.depths.now c.requires.known a.o.0 c.index-depth.result
           c.requires.o_lt_p z d;
       named = named_live s c.requires.framed a.parents.now c.requires.named_by a.o.0 h z (λ q. c.if-mark-ne0.true (c.index-mark.ensures.0 ∙ q));
       leads = leads_yes s a.o.0 (ap (λ (n : ℕ). above s n a.o.0) (sym c.requires.p_value) ∙ e);
     })
-
---FAIL clauses as one
-pub leads_by_steps-requires : goal.leads_by_steps-requires
-leads_by_steps-requires c = c.before.before.before.before.before.requires
 
 pub returns : goal.returns
 returns c = c.leads_by_steps.ensures

@@ -6,7 +6,6 @@ use Rattle.laws.proofs.Count.{by_bool}
 use Rattle.spec.specs.Room.{is_live, above}
 use Rattle.fsck_names.proofs.Parents.{root_named, named_live, named_free, unnamed_fails, marked_free_fails}
 use Rattle.fsck.proofs.Steps.{below_p, parents_by, above_root, depth_most, leads_yes, leads_free, leads_no}
-use borrow.Author.Rules.{rules}
 use Rattle.fsck.proofs.tree.leads_by_steps.Goals as goal
 
 pub returns-then-i-eq0 : goal.returns-then-i-eq0

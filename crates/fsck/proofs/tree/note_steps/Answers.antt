@@ -1,5 +1,4 @@
-use Rattle.fsck.proofs.Steps.{positive, Noted, note_more, note_not_zero}
-use borrow.Author.Rules.{rules}
+use Rattle.fsck.proofs.Steps.{positive, note_more, note_not_zero}
 use native.Mathlib.Omega.{arith}
 use Rattle.fsck.proofs.tree.note_steps.Goals as goal
 

@@ -1,6 +1,4 @@
-use Rattle.fsck.proofs.Steps.{positive, Noted, note_more, note_not_zero}
-use borrow.Author.Rules.{rules}
-use native.Mathlib.Omega.{arith}
+use Rattle.fsck.proofs.Steps.{Noted}
 use Rattle.fsck.proofs.tree.note_steps.Given as goal
 
 abbrev pub invariant-loop-depths : goal.invariant-loop-depths

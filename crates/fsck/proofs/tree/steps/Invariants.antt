@@ -1,7 +1,4 @@
-use Rattle.fsck.proofs.Steps.{Climbed, climb_start, climb_more, climb_found, climb_lost}
-use borrow.Author.Rules.{rules}
-use native.Mathlib.Omega.{arith}
-use mathlib.Core.Path.{sym, ◌∙◌}
+use Rattle.fsck.proofs.Steps.{Climbed}
 use Prim.Native.Nat.{◌+◌, ◌-◌}
 use Rattle.fsck.proofs.tree.steps.Given as goal
 

@@ -1,10 +1,9 @@
 use native.Mathlib.Omega.{arith}
 use mathlib.Core.Path.{◌≡◌, refl}
-use Prim.Native.Nat.{◌+◌, ◌-◌, ◌*◌, ◌≤◌, zero-le}
+use Prim.Native.Nat.{◌+◌, ◌-◌, zero-le}
 use lib.ListN.{get_or}
 use Rattle.spec.specs.Count.{sum}
 use Rattle.fsck_blocks.proofs.Places.{sum_split, marks_from}
-use borrow.Author.Rules.{rules}
 use Rattle.fsck_blocks.proofs.objects.marked.Goals as goal
 
 pub loop-at-init : goal.loop-at-init

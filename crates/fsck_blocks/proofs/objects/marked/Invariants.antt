@@ -1,10 +1,7 @@
-use native.Mathlib.Omega.{arith}
-use mathlib.Core.Path.{◌≡◌, refl}
-use Prim.Native.Nat.{◌+◌, ◌-◌, ◌*◌, ◌≤◌, zero-le}
+use mathlib.Core.Path.{◌≡◌}
+use Prim.Native.Nat.{◌-◌, ◌*◌, ◌≤◌}
 use lib.ListN.{get_or}
 use Rattle.spec.specs.Count.{sum}
-use Rattle.fsck_blocks.proofs.Places.{sum_split, marks_from}
-use borrow.Author.Rules.{rules}
 use Rattle.fsck_blocks.proofs.objects.marked.Given as goal
 
 abbrev pub invariant-loop-at : goal.invariant-loop-at

@@ -1,17 +1,13 @@
 use native.Mathlib.Omega.{arith}
 use mathlib.Core.Path.{◌≡◌, refl}
-use Prim.Native.Nat.{◌-◌, ◌*◌, ◌≤◌, zero-le}
-use mathlib.Core.Bool.{true}
+use Prim.Native.Nat.{◌-◌, zero-le}
 use lib.ListN.{length}
-use Rattle.kinds.specs.Numbers.{file_blocks}
 use Rattle.spec.specs.Count.{sum, every}
 use Rattle.spec.specs.Room.{held}
 use Rattle.laws.proofs.Count.{sum_more, every_more}
 use Rattle.spec.specs.Check.{good_object}
-use Rattle.fsck_objects.specs.Objects.{MarkedBy}
 use Rattle.fsck_objects.proofs.Passes.{told_false}
 use Rattle.fsck_blocks.proofs.Places.{mark_none, marks_are, told_all}
-use borrow.Author.Rules.{rules}
 use Rattle.fsck_blocks.proofs.objects.objects_pass.Goals as goal
 
 pub loop-o-init : goal.loop-o-init

@@ -1,10 +1,9 @@
 use native.Mathlib.Omega.{arith}
 use mathlib.Core.Path.{◌≡◌, refl}
-use Prim.Native.Nat.{◌+◌, ◌-◌, ◌≤◌, zero-le}
+use Prim.Native.Nat.{◌+◌, ◌-◌, zero-le}
 use lib.ListN.{get_or}
 use Rattle.spec.specs.Count.{sum}
 use Rattle.laws.proofs.Count.{sum_more}
-use borrow.Author.Rules.{rules}
 use Rattle.fsck_blocks.proofs.objects.sum_part.Goals as goal
 
 pub loop-i-init : goal.loop-i-init

@@ -1,10 +1,7 @@
-use native.Mathlib.Omega.{arith}
-use mathlib.Core.Path.{◌≡◌, refl}
-use Prim.Native.Nat.{◌+◌, ◌-◌, ◌≤◌, zero-le}
+use mathlib.Core.Path.{◌≡◌}
+use Prim.Native.Nat.{◌+◌, ◌-◌, ◌≤◌}
 use lib.ListN.{get_or}
 use Rattle.spec.specs.Count.{sum}
-use Rattle.laws.proofs.Count.{sum_more}
-use borrow.Author.Rules.{rules}
 use Rattle.fsck_blocks.proofs.objects.sum_part.Given as goal
 
 abbrev pub invariant-loop-i : goal.invariant-loop-i

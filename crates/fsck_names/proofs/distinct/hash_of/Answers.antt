@@ -1,6 +1,5 @@
 use native.Mathlib.Omega.{arith}
 use Rattle.fsck_names.proofs.Same.{hash_by}
-use borrow.Author.Rules.{rules}
 use Rattle.fsck_names.proofs.distinct.hash_of.Goals as goal
 
 pub returns : goal.returns

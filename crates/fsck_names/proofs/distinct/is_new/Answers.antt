@@ -1,5 +1,4 @@
-use Rattle.fsck_names.proofs.Chained.{Walked, walk_start, walk_step, walk_less, used_before}
-use borrow.Author.Rules.{rules}
+use Rattle.fsck_names.proofs.Chained.{walk_start, walk_step, walk_less, used_before}
 use native.Mathlib.Omega.{arith}
 use mathlib.Core.Path.{◌∙◌}
 use Prim.Native.Nat.{◌-◌}

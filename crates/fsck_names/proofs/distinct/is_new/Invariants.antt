@@ -1,7 +1,4 @@
-use Rattle.fsck_names.proofs.Chained.{Walked, walk_start, walk_step, walk_less, used_before}
-use borrow.Author.Rules.{rules}
-use native.Mathlib.Omega.{arith}
-use mathlib.Core.Path.{◌∙◌}
+use Rattle.fsck_names.proofs.Chained.{Walked}
 use Prim.Native.Nat.{◌-◌}
 use Rattle.fsck_names.proofs.distinct.is_new.Given as goal
 

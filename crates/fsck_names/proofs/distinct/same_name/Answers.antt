@@ -1,6 +1,5 @@
 use Rattle.fsck_names.proofs.Same.{same_found}
 use Rattle.fsck_names.proofs.Joins.{is_used}
-use borrow.Author.Rules.{rules}
 use Rattle.fsck_names.proofs.distinct.same_name.Goals as goal
 
 pub returns : goal.returns

@@ -5,7 +5,6 @@ use lib.ListN.{get_or}
 use Rattle.spec.specs.Image.{object_at}
 use Rattle.spec.specs.Check.{most_names}
 use Rattle.fsck_names.proofs.Parents.{few_names}
-use borrow.Author.Rules.{rules}
 use Rattle.fsck_names.proofs.named.count_further.Goals as goal
 
 pub returns-then-count-most_names : goal.returns-then-count-most_names

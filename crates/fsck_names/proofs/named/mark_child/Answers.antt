@@ -2,7 +2,6 @@ use mathlib.Core.Path.{sym, ◌∙◌}
 use native.Mathlib.Omega.{arith}
 use Rattle.fsck_objects.proofs.Passes.{told_true, told_false}
 use Rattle.fsck_names.proofs.Parents.{child_root, child_many, child_further, child_marked}
-use borrow.Author.Rules.{rules}
 use Rattle.fsck_names.proofs.named.mark_child.Goals as goal
 
 pub returns-then-child-eq0 : goal.returns-then-child-eq0

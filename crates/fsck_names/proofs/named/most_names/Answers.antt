@@ -1,5 +1,4 @@
 use mathlib.Core.Path.{sym, ◌∙◌}
-use borrow.Author.Rules.{rules}
 use Rattle.spec.specs.Room.{is_regular}
 use Rattle.fsck_names.proofs.named.most_names.Goals as goal
 

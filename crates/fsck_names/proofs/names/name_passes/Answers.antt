@@ -1,13 +1,11 @@
 use mathlib.Core.Path.{sym, ◌∙◌}
 use native.Mathlib.Omega.{arith}
-use borrow.Author.Tests.{not-true, not-false}
 use Rattle.fsck_objects.proofs.Passes.{told_true, told_false, fails_name}
 use Rattle.laws.proofs.Valid.{true_used, false_used}
 use Rattle.fsck_names.specs.Distinct.{New}
 use Rattle.fsck_names.proofs.Joins.{used_passes}
 use Rattle.fsck_names.proofs.Chained.{chains_used}
 use Rattle.fsck_names.proofs.Whole.{names_free, names_used}
-use borrow.Author.Rules.{rules}
 use Rattle.fsck_names.proofs.names.name_passes.Goals as goal
 
 pub record_passes-requires-clause-framed : goal.record_passes-requires-clause-framed

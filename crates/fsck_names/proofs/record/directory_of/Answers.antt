@@ -1,5 +1,4 @@
 use Rattle.spec.specs.Image.{name_at, name_from, name_length}
-use borrow.Author.Rules.{rules}
 use Rattle.fsck_names.proofs.record.directory_of.Goals as goal
 
 pub returns : goal.returns

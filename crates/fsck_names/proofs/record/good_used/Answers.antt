@@ -2,10 +2,8 @@ use native.Mathlib.Omega.{arith}
 use mathlib.Core.Path.{sym, ◌∙◌}
 use Prim.Native.Nat.{◌+◌}
 use Rattle.kinds.specs.Layout.{text_offset}
-use borrow.Author.Tests.{not-true, not-false}
 use Rattle.fsck_names.proofs.Joins.{used_is}
 use Rattle.fsck_names.proofs.NameLength.{name_long, part_long}
-use borrow.Author.Rules.{rules}
 use Rattle.fsck_names.proofs.record.good_used.Goals as goal
 
 pub returns-then-len-gt-MOST_NAME_BYTES : goal.returns-then-len-gt-MOST_NAME_BYTES

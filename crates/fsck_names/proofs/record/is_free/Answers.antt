@@ -1,7 +1,6 @@
 use mathlib.Core.Path.{sym, ◌∙◌}
 use borrow.Author.Tests.{eq-eqb, ne_eqb}
 use Rattle.fsck_names.proofs.Padded.{free_is}
-use borrow.Author.Rules.{rules}
 use Rattle.fsck_names.proofs.record.is_free.Goals as goal
 
 pub returns-then-get_u64-ne0 : goal.returns-then-get_u64-ne0

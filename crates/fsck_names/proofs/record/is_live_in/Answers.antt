@@ -1,6 +1,5 @@
 use borrow.Author.Tests.{lt-ltb, le-ltb}
 use Rattle.fsck_names.specs.Record.{is_live_in}
-use borrow.Author.Rules.{rules}
 use Rattle.fsck_names.proofs.record.is_live_in.Goals as goal
 
 pub returns-then-o-p : goal.returns-then-o-p

@@ -6,7 +6,6 @@ use Rattle.spec.specs.Bytes.{part}
 use Rattle.spec.specs.Check.{is_zero, good_name_record}
 use Rattle.laws.proofs.Valid.{true_used, false_used}
 use Rattle.fsck_names.proofs.Joins.{length_at}
-use borrow.Author.Rules.{rules}
 use Rattle.fsck_names.proofs.record.record_passes.Goals as goal
 
 pub is_free-requires : goal.is_free-requires

@@ -1,7 +1,5 @@
 use mathlib.Core.Path.{sym, ◌∙◌}
-use borrow.Author.Tests.{not-true, not-false}
 use Rattle.fsck_names.proofs.Padded.{text_no, text_yes}
-use borrow.Author.Rules.{rules}
 use Rattle.fsck_names.proofs.text.good_text.Goals as goal
 
 pub text_passes-requires-clause-most_name_bytes_in_bounds : goal.text_passes-requires-clause-most_name_bytes_in_bounds

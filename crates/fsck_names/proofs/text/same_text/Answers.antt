@@ -1,5 +1,4 @@
 use Rattle.fsck_names.proofs.Padded.{same_quarters}
-use borrow.Author.Rules.{rules}
 use Rattle.fsck_names.proofs.text.same_text.Goals as goal
 
 pub returns : goal.returns

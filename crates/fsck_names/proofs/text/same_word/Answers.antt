@@ -2,7 +2,6 @@ use mathlib.Core.Path.{ap₂, ◌∙◌}
 use Prim.Native.Nat.{ℕ}
 use lib.Dec.{eqb}
 use Rattle.fsck_names.proofs.Padded.{same_number}
-use borrow.Author.Rules.{rules}
 use Rattle.fsck_names.proofs.text.same_word.Goals as goal
 
 pub returns : goal.returns

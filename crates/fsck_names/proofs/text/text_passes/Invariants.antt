@@ -1,14 +1,9 @@
-use native.Mathlib.Omega.{arith}
-use mathlib.Core.Bool.{Bool, ◌&&◌, not}
-use mathlib.Core.Path.{◌≡◌, refl, sym, ap, ◌∙◌}
-use lib.ListN.{get_or}
-use Prim.Native.Nat.{◌+◌, ◌-◌, ◌≤◌, zero-le}
+use mathlib.Core.Bool.{not}
+use mathlib.Core.Path.{◌≡◌}
+use Prim.Native.Nat.{◌-◌, ◌≤◌}
 use Rattle.kinds.specs.Numbers.{most_name_bytes}
 use Rattle.spec.specs.Count.{every}
 use Rattle.fsck_names.specs.Record.{is_text}
-use Rattle.laws.proofs.Count.{every_next}
-use Rattle.fsck_names.proofs.Padded.{text_step, text_is}
-use borrow.Author.Rules.{rules}
 use Rattle.fsck_names.proofs.text.text_passes.Given as goal
 
 abbrev pub invariant-loop-i : goal.invariant-loop-i

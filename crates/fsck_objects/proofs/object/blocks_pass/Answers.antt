@@ -1,8 +1,6 @@
 use native.Mathlib.Omega.{arith}
-use borrow.Author.Tests.{not-true, not-false}
 use Rattle.fsck_objects.proofs.Passes.{told_false}
 use Rattle.fsck_objects.proofs.Whole.{told_live}
-use borrow.Author.Rules.{rules}
 use Rattle.fsck_objects.proofs.object.blocks_pass.Goals as goal
 
 pub mark_fours-requires-clause-framed : goal.mark_fours-requires-clause-framed

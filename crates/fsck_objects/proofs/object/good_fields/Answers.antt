@@ -1,8 +1,7 @@
-use borrow.Author.Tests.{le-leb, lt-leb, le-ltb, lt-ltb, not-true, not-false}
+use borrow.Author.Tests.{le-leb, lt-leb, le-ltb, lt-ltb}
 use Rattle.fsck_objects.specs.Objects.{good_fields}
 use mathlib.Core.Path.{sym, ◌∙◌}
 use mathlib.Core.Bool.{and-true, and-false}
-use borrow.Author.Rules.{rules}
 use Rattle.fsck_objects.proofs.object.good_fields.Goals as goal
 
 pub returns-then-generation_of-ge-SPENT_GENERATION : goal.returns-then-generation_of-ge-SPENT_GENERATION

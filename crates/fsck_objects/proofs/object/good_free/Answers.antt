@@ -1,7 +1,6 @@
 use mathlib.Core.Path.{sym, ◌∙◌}
-use borrow.Author.Tests.{ne_eqb, eq-eqb, not-true, not-false}
+use borrow.Author.Tests.{ne_eqb, eq-eqb}
 use Rattle.fsck_objects.proofs.Whole.{free_parts}
-use borrow.Author.Rules.{rules}
 use Rattle.fsck_objects.proofs.object.good_free.Goals as goal
 
 pub returns-then-not-is_zero : goal.returns-then-not-is_zero

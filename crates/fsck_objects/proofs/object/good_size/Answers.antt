@@ -3,7 +3,6 @@ use borrow.Author.Tests.{ne_eqb, eq-eqb}
 use Rattle.spec.specs.Check.{good_size}
 use Rattle.spec.specs.Room.{size_of}
 use mathlib.Core.Bool.{or-false}
-use borrow.Author.Rules.{rules}
 use Rattle.fsck_objects.proofs.object.good_size.Goals as goal
 
 pub returns-then-kind-eq-REGULAR : goal.returns-then-kind-eq-REGULAR

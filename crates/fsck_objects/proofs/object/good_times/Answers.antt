@@ -1,4 +1,3 @@
-use borrow.Author.Rules.{rules}
 use borrow.Author.Tests.{lt-ltb, le-ltb}
 use Rattle.spec.specs.Check.{good_time}
 use Rattle.spec.specs.Image.{object_at, object_from, time_at}

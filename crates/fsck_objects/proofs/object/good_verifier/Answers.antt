@@ -3,7 +3,6 @@ use mathlib.Core.Logic.{⊎_elim}
 use mathlib.Core.Bool.{and-false, or-false, or-true}
 use borrow.Author.Tests.{ne_eqb}
 use Rattle.spec.specs.Check.{good_verifier}
-use borrow.Author.Rules.{rules}
 use Rattle.fsck_objects.proofs.object.good_verifier.Goals as goal
 
 pub returns-then-flag-eq0 : goal.returns-then-flag-eq0

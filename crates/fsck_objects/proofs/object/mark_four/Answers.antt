@@ -2,7 +2,6 @@ use native.Mathlib.Omega.{arith}
 use Prim.Native.Nat.{◌+◌}
 use Rattle.fsck_objects.proofs.Passes.{told_true, told_false}
 use Rattle.fsck_objects.proofs.Marks.{mark_out, mark_four}
-use borrow.Author.Rules.{rules}
 use Rattle.fsck_objects.proofs.object.mark_four.Goals as goal
 
 pub returns-then-a-limit : goal.returns-then-a-limit

@@ -1,11 +1,8 @@
 use native.Mathlib.Omega.{arith}
-use borrow.Author.Tests.{not-true, not-false}
 use mathlib.Core.Path.{◌≡◌}
-use Prim.Native.Nat.{◌+◌, ◌-◌, ◌*◌, ◌/◌, ◌≤◌, zero-le}
-use Rattle.fsck_objects.specs.Objects.{MarkedTo}
+use Prim.Native.Nat.{◌+◌, ◌-◌, ◌*◌, ◌/◌, zero-le}
 use Rattle.fsck_objects.proofs.Passes.{told_true, told_false}
 use Rattle.fsck_objects.proofs.Marks.{mark_start}
-use borrow.Author.Rules.{rules}
 use Rattle.fsck_objects.proofs.object.mark_fours.Goals as goal
 
 pub loop-k-init : goal.loop-k-init

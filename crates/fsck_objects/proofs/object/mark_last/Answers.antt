@@ -1,10 +1,8 @@
 use native.Mathlib.Omega.{arith}
 use mathlib.Core.Path.{◌≡◌}
-use Prim.Native.Nat.{◌-◌, ◌≤◌}
-use Rattle.fsck_objects.specs.Objects.{MarkedTo}
+use Prim.Native.Nat.{◌-◌}
 use Rattle.fsck_objects.proofs.Passes.{told_true, told_false}
 use Rattle.fsck_objects.proofs.Marks.{mark_more, mark_out}
-use borrow.Author.Rules.{rules}
 use Rattle.fsck_objects.proofs.object.mark_last.Goals as goal
 
 pub loop-k-init : goal.loop-k-init

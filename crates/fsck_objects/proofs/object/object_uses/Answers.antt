@@ -1,13 +1,8 @@
 use native.Mathlib.Omega.{arith}
-use borrow.Author.Tests.{not-true, not-false}
 use mathlib.Core.Path.{sym, ap, ◌∙◌}
-use Prim.Native.Nat.{◌≤◌}
-use Rattle.kinds.specs.Numbers.{most_file_bytes}
 use Rattle.spec.specs.Room.{need, size_of}
-use Rattle.fsck_objects.specs.Objects.{LiveAt}
 use Rattle.laws.proofs.Valid.{true_live, false_live}
 use Rattle.fsck_objects.proofs.Whole.{fields_need, fields_size, bad_fields, free_passes, free_fails, counted_bad, counted_blocks}
-use borrow.Author.Rules.{rules}
 use Rattle.fsck_objects.proofs.object.object_uses.Goals as goal
 
 pub returns-then-not-good_free : goal.returns-then-not-good_free

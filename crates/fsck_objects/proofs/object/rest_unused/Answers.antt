@@ -1,6 +1,5 @@
 use mathlib.Core.Path.{◌∙◌}
 use Rattle.fsck_objects.proofs.Marks.{rest_is}
-use borrow.Author.Rules.{rules}
 use Rattle.fsck_objects.proofs.object.rest_unused.Goals as goal
 
 pub returns : goal.returns

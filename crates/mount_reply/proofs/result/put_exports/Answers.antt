@@ -1,4 +1,3 @@
-use borrow.Author.Rules.{rules}
 use Rattle.spec.specs.Bytes.{bytes_of, words, opaque_bytes}
 use Rattle.mount_reply.proofs.result.put_exports.Goals as goal
 

@@ -1,5 +1,4 @@
 use native.Mathlib.Omega.{arith}
-use borrow.Author.Rules.{rules}
 use Rattle.spec.specs.Rpc.{accepted}
 use Rattle.mount_spec.specs.Replies.{mount_result_bytes}
 use Rattle.xdr.proofs.Wrote.{wrote_none, and_then, sized}

@@ -1,4 +1,3 @@
-use borrow.Author.Rules.{rules}
 use Rattle.mount_spec.specs.Replies.{mount_result_bytes}
 use Rattle.xdr.proofs.Wrote.{and_then}
 use Rattle.mount_reply.proofs.result.put_mounted.Goals as goal

@@ -1,13 +1,9 @@
 use Prim.Native.Nat.{◌+◌, ◌-◌, ◌*◌, ◌≤◌}
-use mathlib.Core.Path.{◌≡◌, refl}
-use native.Mathlib.Numerals.{add-one}
-use native.Mathlib.Omega.{arith}
-use borrow.Author.Rules.{rules}
+use mathlib.Core.Path.{◌≡◌}
 use lib.ListN.{length}
 use Rattle.kinds.specs.Mount.{rows}
 use Rattle.mount_spec.specs.Replies.{mounts_bytes}
 use Rattle.xdr.specs.Wrote.{Wrote}
-use Rattle.xdr.proofs.Wrote.{wrote_none, and_then, sized}
 use Rattle.mount_reply.specs.Fits.{most_mount_bytes}
 use Rattle.mount_reply.proofs.result.put_mounts.Given as goal
 

@@ -1,5 +1,4 @@
 use native.Mathlib.Omega.{arith}
-use borrow.Author.Rules.{rules}
 use Rattle.mount_reply.proofs.Decimals.{dotted_length}
 use Rattle.mount_reply.proofs.text.dotted_length.Goals as goal
 

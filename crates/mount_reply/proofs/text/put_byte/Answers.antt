@@ -1,6 +1,5 @@
 use mathlib.Core.Path.{refl}
 use native.Mathlib.Omega.{arith}
-use borrow.Author.Rules.{rules}
 use Rattle.laws.proofs.Bytes.{overlay_set}
 use Rattle.xdr.proofs.Wrote.{wrote_over}
 use Rattle.mount_reply.proofs.text.put_byte.Goals as goal

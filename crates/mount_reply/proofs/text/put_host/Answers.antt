@@ -1,6 +1,5 @@
 use mathlib.Core.Path.{sym}
 use native.Mathlib.Omega.{arith}
-use borrow.Author.Rules.{rules}
 use Rattle.xdr.proofs.Wrote.{sized}
 use Rattle.mount_reply.proofs.Opaque.{wrote_opaque}
 use Rattle.mount_reply.proofs.text.put_host.Goals as goal

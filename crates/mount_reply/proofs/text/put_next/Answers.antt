@@ -1,4 +1,3 @@
-use borrow.Author.Rules.{rules}
 use Rattle.xdr.proofs.Wrote.{and_then}
 use Rattle.mount_reply.proofs.text.put_next.Goals as goal
 

@@ -1,5 +1,4 @@
 use native.Mathlib.Omega.{arith}
-use borrow.Author.Rules.{rules}
 use Rattle.laws.proofs.Bytes.{part_length}
 use Rattle.mount_reply.proofs.Opaque.{wrote_opaque}
 use Rattle.mount_reply.proofs.text.put_opaque.Goals as goal

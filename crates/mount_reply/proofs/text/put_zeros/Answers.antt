@@ -1,6 +1,5 @@
 use native.Mathlib.Omega.{arith}
 use lib.ListN.{length-replicate}
-use borrow.Author.Rules.{rules}
 use Rattle.xdr.proofs.Wrote.{wrote_over}
 use Rattle.mount_reply.proofs.text.put_zeros.Goals as goal
 

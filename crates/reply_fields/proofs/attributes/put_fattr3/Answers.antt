@@ -1,5 +1,4 @@
 use Rattle.spec.specs.Replies.{fattr3}
-use borrow.Author.Rules.{rules}
 use Rattle.reply_fields.proofs.attributes.put_fattr3.Goals as goal
 
 pub returns : goal.returns

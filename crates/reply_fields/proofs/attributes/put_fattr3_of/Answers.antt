@@ -1,4 +1,3 @@
-use borrow.Author.Rules.{rules}
 use Rattle.reply_fields.proofs.attributes.put_fattr3_of.Goals as goal
 
 pub returns : goal.returns

@@ -4,7 +4,6 @@ use mathlib.Core.Path.{◌≡◌, refl}
 use Rattle.kinds.specs.Numbers.{handle_length}
 use Rattle.spec.specs.Bytes.{words, opaque_bytes, bytes_of}
 use Rattle.spec.specs.Handles.{handle_of}
-use borrow.Author.Rules.{rules}
 use Rattle.reply_fields.proofs.attributes.put_nfs_fh3.Goals as goal
 
 -- three words as opaque data: their length, and the words

@@ -1,6 +1,5 @@
 use Rattle.spec.specs.Replies.{post_op}
 use Rattle.xdr.proofs.Wrote.{and_words}
-use borrow.Author.Rules.{rules}
 use Rattle.reply_fields.proofs.attributes.put_post_op_attr.Goals as goal
 
 pub returns : goal.returns

@@ -1,6 +1,5 @@
 use native.Mathlib.Omega.{arith}
 use Rattle.xdr.proofs.Wrote.{in_words}
-use borrow.Author.Rules.{rules}
 use Rattle.reply_fields.proofs.attributes.put_post_op_option.Goals as goal
 
 pub put_post_op_attr-requires-clause-at_in_bounds : goal.put_post_op_attr-requires-clause-at_in_bounds

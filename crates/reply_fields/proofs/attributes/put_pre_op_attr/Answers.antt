@@ -1,5 +1,4 @@
 use Rattle.spec.specs.Replies.{pre_op}
-use borrow.Author.Rules.{rules}
 use Rattle.reply_fields.proofs.attributes.put_pre_op_attr.Goals as goal
 
 pub returns : goal.returns

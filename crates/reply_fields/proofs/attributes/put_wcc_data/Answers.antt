@@ -1,6 +1,5 @@
 use Rattle.spec.specs.Replies.{wcc_data}
 use Rattle.xdr.proofs.Wrote.{and_words}
-use borrow.Author.Rules.{rules}
 use Rattle.reply_fields.proofs.attributes.put_wcc_data.Goals as goal
 
 pub returns : goal.returns

@@ -1,6 +1,5 @@
 use native.Mathlib.Omega.{arith}
 use Rattle.xdr.proofs.Wrote.{in_words}
-use borrow.Author.Rules.{rules}
 use Rattle.reply_fields.proofs.attributes.put_wcc_option.Goals as goal
 
 pub put_wcc_data-requires-clause-at_in_bounds : goal.put_wcc_data-requires-clause-at_in_bounds

@@ -5,7 +5,6 @@ use native.Mathlib.Omega.{arith}
 use lib.ListN.{length-take, length-replicate}
 use Rattle.xdr.proofs.Wrote.{and_words}
 use Rattle.reply_fields.proofs.ZeroWords.{zero_words_small, take_zeros}
-use borrow.Author.Rules.{rules}
 use Rattle.reply_fields.proofs.failure.put_dead.Goals as goal
 
 pub put_words-requires : goal.put_words-requires

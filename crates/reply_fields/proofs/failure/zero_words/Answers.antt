@@ -1,5 +1,4 @@
 use mathlib.Core.Path.{refl}
-use borrow.Author.Rules.{rules}
 use Rattle.reply_fields.proofs.failure.zero_words.Goals as goal
 
 pub returns : goal.returns

@@ -5,7 +5,6 @@ use Rattle.spec.specs.Rpc.{accepted}
 use Rattle.laws.proofs.FileBytes.{read_file_length}
 use Rattle.xdr.proofs.Wrote.{wrote_none, and_then, and_words, sized}
 use Rattle.reply_whole.proofs.Joined.{join_words, join_parts, seven_joined}
-use borrow.Author.Rules.{rules}
 use Rattle.reply_whole.proofs.result.put_result.Goals as goal
 
 pub put_status_post_op_attr-requires-clause-at_in_bounds : goal.put_status_post_op_attr-requires-clause-at_in_bounds

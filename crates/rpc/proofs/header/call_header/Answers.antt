@@ -1,4 +1,3 @@
-use borrow.Author.Rules.{rules}
 use Rattle.spec.specs.Header.{call_header}
 use Rattle.rpc.proofs.header.call_header.Goals as goal
 

@@ -1,4 +1,3 @@
-use borrow.Author.Rules.{rules}
 use Rattle.spec.specs.Header.{credential}
 use Rattle.rpc.proofs.header.credential.Goals as goal
 

@@ -1,6 +1,5 @@
 use mathlib.Core.Path.{sym, ap, ◌∙◌}
 use native.Mathlib.Omega.{arith}
-use borrow.Author.Rules.{rules}
 use Rattle.kinds.specs.Reading.{word_of}
 use Rattle.laws.proofs.BrokenHeader.{fault_short, fault_type, fault_cut, fault_overlong, fault_allowed}
 use Rattle.laws.proofs.Xdr.{word_got, word_bad}

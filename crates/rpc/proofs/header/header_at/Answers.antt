@@ -1,5 +1,4 @@
 use borrow.Author.Tests.{eq-eqb, ne_eqb}
-use borrow.Author.Rules.{rules}
 use Rattle.spec.specs.Header.{header}
 use Rattle.rpc.proofs.header.header_at.Goals as goal
 

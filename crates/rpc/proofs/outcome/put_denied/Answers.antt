@@ -1,4 +1,3 @@
-use borrow.Author.Rules.{rules}
 use Rattle.spec.specs.Rpc.{denied}
 use Rattle.rpc.proofs.outcome.put_denied.Goals as goal
 

@@ -1,6 +1,5 @@
 use mathlib.Core.List.{append-nil}
 use borrow.Author.Tests.{ne_eqb, eq-eqb}
-use borrow.Author.Rules.{rules}
 use Rattle.spec.specs.Rpc.{accepted, mismatch}
 use Rattle.xdr.proofs.Wrote.{and_then, sized}
 use Rattle.rpc.proofs.outcome.put_stopped.Goals as goal

@@ -1,6 +1,5 @@
 use native.Mathlib.Omega.{arith}
 use Rattle.spec.specs.Room.{byte_at}
-use borrow.Author.Rules.{rules}
 use Rattle.store_records.proofs.block.byte_at.Goals as goal
 
 pub block_start-requires : goal.block_start-requires

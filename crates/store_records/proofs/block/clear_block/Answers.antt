@@ -3,7 +3,6 @@ use Prim.Native.Nat.{ℕ}
 use lib.ListN.{replicate}
 use Rattle.kinds.specs.Layout.{block_length}
 use Rattle.spec.specs.Bytes.{overlay}
-use borrow.Author.Rules.{rules}
 use Rattle.store_records.proofs.block.clear_block.Goals as goal
 
 pub returns : goal.returns

@@ -1,5 +1,4 @@
 use Rattle.spec.specs.Image.{names}
-use borrow.Author.Rules.{rules}
 use Rattle.store_records.proofs.counts.name_count.Goals as goal
 
 pub returns : goal.returns

@@ -1,5 +1,4 @@
 use Rattle.spec.specs.Image.{objects}
-use borrow.Author.Rules.{rules}
 use Rattle.store_records.proofs.counts.object_count.Goals as goal
 
 pub returns : goal.returns

@@ -1,5 +1,4 @@
 use Rattle.spec.specs.Image.{stamp}
-use borrow.Author.Rules.{rules}
 use Rattle.store_records.proofs.counts.stamp_of.Goals as goal
 
 pub returns : goal.returns

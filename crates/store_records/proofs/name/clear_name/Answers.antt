@@ -4,7 +4,6 @@ use lib.ListN.{replicate}
 use Rattle.kinds.specs.Layout.{name_record_length}
 use Rattle.spec.specs.Bytes.{overlay, bytes_of}
 use Rattle.spec.specs.Image.{name_bytes, put_name}
-use borrow.Author.Rules.{rules}
 use Rattle.store_records.proofs.name.clear_name.Goals as goal
 
 pub returns : goal.returns

@@ -1,5 +1,4 @@
 use Rattle.spec.specs.Room.{is_used_name}
-use borrow.Author.Rules.{rules}
 use Rattle.store_records.proofs.name.is_used_name.Goals as goal
 
 pub returns : goal.returns

@@ -1,5 +1,4 @@
 use Rattle.spec.specs.Image.{name_at, name_from}
-use borrow.Author.Rules.{rules}
 use Rattle.store_records.proofs.name.name_child.Goals as goal
 
 pub returns : goal.returns

@@ -1,5 +1,4 @@
 use Rattle.spec.specs.Image.{name_length}
-use borrow.Author.Rules.{rules}
 use Rattle.store_records.proofs.name.name_length.Goals as goal
 
 pub returns : goal.returns

@@ -6,7 +6,6 @@ use Rattle.laws.proofs.Bytes.{part_length}
 use Rattle.store_records.specs.Text.{name_of, text_of}
 use Rattle.store_records.proofs.Runs.{name_run}
 use native.Mathlib.Omega.{arith}
-use borrow.Author.Rules.{rules}
 use Rattle.store_records.proofs.name.save_name.Goals as goal
 
 pub returns : goal.returns

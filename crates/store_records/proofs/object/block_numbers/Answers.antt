@@ -1,9 +1,8 @@
 use borrow.Author.Rules.{rules}
 use native.Mathlib.Omega.{arith}
-use mathlib.Core.Path.{◌≡◌, refl}
-use Prim.Native.Nat.{◌-◌, ◌≤◌, zero-le}
-use lib.ListN.{length, take, length-set}
-use Rattle.kinds.specs.BlockNumbers.{numbers_of}
+use mathlib.Core.Path.{refl}
+use Prim.Native.Nat.{◌-◌, zero-le}
+use lib.ListN.{length-set}
 use Rattle.kinds.specs.Numbers.{file_blocks}
 use Rattle.store_records.proofs.Numbered.{numbers_next, numbers_all}
 use Rattle.store_records.proofs.object.block_numbers.Goals as goal

@@ -3,7 +3,6 @@ use Rattle.kinds.specs.Layout.{blocks_offset}
 use Rattle.kinds.specs.Numbers.{file_blocks}
 use Rattle.spec.specs.Image.{object_start, object_at, object_from}
 use Rattle.laws.proofs.Records.{half_read}
-use borrow.Author.Rules.{rules}
 use Rattle.store_records.proofs.object.block_of.Goals as goal
 
 pub returns : goal.returns

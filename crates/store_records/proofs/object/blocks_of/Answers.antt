@@ -1,9 +1,7 @@
-use borrow.Author.Rules.{rules}
 use native.Mathlib.Omega.{arith}
-use mathlib.Core.Path.{◌≡◌, refl}
-use Prim.Native.Nat.{◌-◌, ◌≤◌, zero-le}
-use lib.ListN.{length, take, length-set}
-use Rattle.kinds.specs.BlockNumbers.{numbers_of}
+use mathlib.Core.Path.{refl}
+use Prim.Native.Nat.{◌-◌, zero-le}
+use lib.ListN.{length-set}
 use Rattle.kinds.specs.Numbers.{file_blocks}
 use Rattle.spec.specs.Image.{object_at}
 use Rattle.store_records.proofs.Numbered.{numbers_next, numbers_all, blocks_long}

@@ -1,12 +1,9 @@
-use borrow.Author.Rules.{rules}
-use native.Mathlib.Omega.{arith}
-use mathlib.Core.Path.{◌≡◌, refl}
-use Prim.Native.Nat.{◌-◌, ◌≤◌, zero-le}
-use lib.ListN.{length, take, length-set}
+use mathlib.Core.Path.{◌≡◌}
+use Prim.Native.Nat.{◌-◌, ◌≤◌}
+use lib.ListN.{length, take}
 use Rattle.kinds.specs.BlockNumbers.{numbers_of}
 use Rattle.kinds.specs.Numbers.{file_blocks}
 use Rattle.spec.specs.Image.{object_at}
-use Rattle.store_records.proofs.Numbered.{numbers_next, numbers_all, blocks_long}
 use Rattle.store_records.proofs.object.blocks_of.Given as goal
 
 abbrev pub invariant-loop-k : goal.invariant-loop-k

@@ -1,5 +1,4 @@
 use Rattle.spec.specs.Image.{object_at, object_from}
-use borrow.Author.Rules.{rules}
 use Rattle.store_records.proofs.object.generation_of.Goals as goal
 
 pub returns : goal.returns

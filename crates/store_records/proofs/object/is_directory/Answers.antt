@@ -1,5 +1,4 @@
 use Rattle.spec.specs.Room.{is_directory}
-use borrow.Author.Rules.{rules}
 use Rattle.store_records.proofs.object.is_directory.Goals as goal
 
 pub returns : goal.returns

@@ -1,5 +1,4 @@
 use Rattle.spec.specs.Room.{is_regular}
-use borrow.Author.Rules.{rules}
 use Rattle.store_records.proofs.object.is_regular.Goals as goal
 
 pub returns : goal.returns

@@ -1,5 +1,4 @@
 use Rattle.spec.specs.Image.{time_at}
-use borrow.Author.Rules.{rules}
 use Rattle.store_records.proofs.object.load_time.Goals as goal
 
 pub returns : goal.returns

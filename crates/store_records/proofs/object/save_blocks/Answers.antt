@@ -2,8 +2,8 @@ use borrow.Author.Rules.{rules}
 use native.Mathlib.Omega.{arith}
 use native.Mathlib.Numerals.{add-one}
 use mathlib.Core.Path.{◌≡◌, refl, sym, ap, ◌∙◌}
-use Prim.Native.Nat.{ℕ, ◌+◌, ◌-◌, ◌*◌, ◌≤◌, zero-le}
-use lib.ListN.{length, get_or}
+use Prim.Native.Nat.{ℕ, ◌+◌, ◌-◌, ◌*◌, zero-le}
+use lib.ListN.{get_or}
 use Rattle.kinds.specs.BlockNumbers.{numbers_of}
 use Rattle.kinds.specs.Numbers.{file_blocks}
 use Rattle.spec.specs.Bytes.{bytes_of, overlay}

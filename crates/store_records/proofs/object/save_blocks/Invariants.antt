@@ -1,16 +1,10 @@
-use borrow.Author.Rules.{rules}
-use native.Mathlib.Omega.{arith}
-use native.Mathlib.Numerals.{add-one}
-use mathlib.Core.Path.{◌≡◌, refl, sym, ap, ◌∙◌}
-use Prim.Native.Nat.{ℕ, ◌+◌, ◌-◌, ◌*◌, ◌≤◌, zero-le}
-use lib.ListN.{length, get_or}
+use mathlib.Core.Path.{◌≡◌}
+use Prim.Native.Nat.{◌-◌, ◌≤◌}
+use lib.ListN.{length}
 use Rattle.kinds.specs.BlockNumbers.{numbers_of}
 use Rattle.kinds.specs.Numbers.{file_blocks}
-use Rattle.spec.specs.Bytes.{bytes_of, overlay}
+use Rattle.spec.specs.Bytes.{overlay}
 use Rattle.spec.specs.Image.{halves_bytes}
-use Rattle.laws.proofs.Bytes.{overlay_more, overlay_none}
-use Rattle.laws.proofs.Records.{halves_length}
-use Rattle.store_records.proofs.Numbered.{numbers_at}
 use Rattle.store_records.proofs.object.save_blocks.Given as goal
 
 abbrev pub invariant-loop-k : goal.invariant-loop-k

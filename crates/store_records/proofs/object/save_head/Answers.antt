@@ -1,5 +1,4 @@
 use Rattle.store_records.proofs.Runs.{head_run}
-use borrow.Author.Rules.{rules}
 use Rattle.store_records.proofs.object.save_head.Goals as goal
 
 pub returns : goal.returns

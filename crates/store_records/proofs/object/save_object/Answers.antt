@@ -1,6 +1,5 @@
 use Rattle.spec.specs.Image.{times_bytes, verifier_bytes}
 use Rattle.store_records.proofs.Runs.{object_run}
-use borrow.Author.Rules.{rules}
 use Rattle.store_records.proofs.object.save_object.Goals as goal
 
 pub returns : goal.returns

@@ -2,7 +2,6 @@ use native.Mathlib.Omega.{arith}
 use Rattle.spec.specs.Bytes.{bytes_of}
 use Rattle.laws.proofs.Bytes.{overlay_more, bytes_length}
 use Rattle.spec.specs.Image.{time_bytes}
-use borrow.Author.Rules.{rules}
 use Rattle.store_records.proofs.object.save_time.Goals as goal
 
 pub returns : goal.returns

@@ -1,7 +1,6 @@
 use native.Mathlib.Omega.{arith}
 use Rattle.spec.specs.Bytes.{bytes_of}
 use Rattle.laws.proofs.Bytes.{overlay_more, bytes_length}
-use borrow.Author.Rules.{rules}
 use Rattle.store_records.proofs.object.save_verifier.Goals as goal
 
 pub returns : goal.returns

@@ -1,6 +1,5 @@
 use Rattle.spec.specs.Image.{object_at, object_from}
 use Rattle.spec.specs.Room.{size_of}
-use borrow.Author.Rules.{rules}
 use Rattle.store_records.proofs.object.size_of.Goals as goal
 
 pub returns : goal.returns

@@ -1,13 +1,11 @@
-use mathlib.Core.Option.{none}
 use mathlib.Core.Bool.{not}
 use Rattle.spec.specs.Count.{lowest, passing}
 use Rattle.spec.specs.Image.{names}
 use Rattle.spec.specs.Room.{is_used_name, available_name}
 use Rattle.laws.proofs.Count.{lowest_more, lowest_hit}
-use borrow.Author.Rules.{rules}
 use native.Mathlib.Omega.{arith}
 use mathlib.Core.Path.{◌≡◌, refl, sym, ◌∙◌}
-use Prim.Native.Nat.{◌-◌, ◌≤◌, zero-le}
+use Prim.Native.Nat.{◌-◌, zero-le}
 use Rattle.store_search.proofs.name.find_free_name.Goals as goal
 
 pub loop-n-init : goal.loop-n-init

@@ -1,12 +1,9 @@
 use mathlib.Core.Option.{none}
-use Rattle.spec.specs.Count.{lowest, passing}
-use Rattle.spec.specs.Image.{names, name_start}
+use Rattle.spec.specs.Count.{lowest}
+use Rattle.spec.specs.Image.{name_start}
 use Rattle.spec.specs.Room.{is_naming}
-use Rattle.laws.proofs.Count.{lowest_more, lowest_hit}
-use borrow.Author.Rules.{rules}
-use native.Mathlib.Omega.{arith}
-use mathlib.Core.Path.{◌≡◌, refl, sym, ◌∙◌}
-use Prim.Native.Nat.{◌-◌, ◌≤◌, zero-le}
+use mathlib.Core.Path.{◌≡◌}
+use Prim.Native.Nat.{◌-◌, ◌≤◌}
 use Rattle.store_search.proofs.name.find_naming.Given as goal
 
 abbrev pub invariant-loop-i : goal.invariant-loop-i

@@ -1,4 +1,3 @@
-use borrow.Author.Rules.{rules}
 use Rattle.store_search.proofs.name.is_free_name.Goals as goal
 
 pub returns : goal.returns

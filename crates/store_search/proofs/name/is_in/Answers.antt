@@ -1,6 +1,5 @@
 use mathlib.Core.Path.{sym, ◌∙◌}
 use Rattle.store_search.proofs.Named.{elsewhere, in_directory_lem}
-use borrow.Author.Rules.{rules}
 use Rattle.store_search.proofs.name.is_in.Goals as goal
 
 pub returns-then-d-directory : goal.returns-then-d-directory

@@ -1,7 +1,6 @@
 use mathlib.Core.Path.{sym, ◌∙◌}
 use Rattle.spec.specs.Room.{is_used_name}
 use Rattle.store_search.proofs.Named.{names_another, names_it, child_at, length_at}
-use borrow.Author.Rules.{rules}
 use Rattle.store_search.proofs.name.is_naming.Goals as goal
 
 pub returns-then-child-o : goal.returns-then-child-o

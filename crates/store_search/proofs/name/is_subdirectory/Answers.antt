@@ -1,12 +1,10 @@
 use mathlib.Core.Path.{◌≡◌, sym, ap, ◌∙◌}
 use mathlib.Core.Bool.{true, false, and-false, and-true}
-use borrow.Author.Tests.{not-true, not-false}
 use native.Mathlib.Omega.{arith}
 use lib.Dec.{eqb}
 use Rattle.spec.specs.Image.{name_at}
 use Rattle.spec.specs.Room.{is_in, is_directory}
 use Rattle.store_search.proofs.Named.{directory_at_lem, child_at, length_at, free_in, used_yes}
-use borrow.Author.Rules.{rules}
 use Rattle.store_search.proofs.name.is_subdirectory.Goals as goal
 
 pub returns-then-get_u32-eq0 : goal.returns-then-get_u32-eq0

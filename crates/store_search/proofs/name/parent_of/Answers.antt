@@ -4,7 +4,6 @@ use Rattle.spec.specs.Image.{names}
 use Rattle.spec.specs.Room.{is_naming, parent}
 use Rattle.laws.proofs.Count.{lowest_passes}
 use Rattle.store_search.specs.Found.{found_name}
-use borrow.Author.Rules.{rules}
 use Rattle.store_search.proofs.name.parent_of.Goals as goal
 
 pub name_directory-requires : goal.name_directory-requires

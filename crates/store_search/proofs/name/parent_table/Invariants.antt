@@ -1,9 +1,6 @@
-use mathlib.Core.Path.{◌≡◌, sym, ◌∙◌}
 use Prim.Native.Nat.{◌-◌, ◌≤◌}
-use native.Mathlib.Omega.{arith}
-use borrow.Author.Rules.{rules}
 use Rattle.spec.specs.Image.{names}
-use Rattle.store_search.proofs.Parents.{FilledFrom, filled_none, filled_free, filled_used, filled_all}
+use Rattle.store_search.proofs.Parents.{FilledFrom}
 use Rattle.store_search.proofs.name.parent_table.Given as goal
 
 abbrev pub invariant-loop-n : goal.invariant-loop-n

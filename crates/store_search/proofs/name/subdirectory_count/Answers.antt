@@ -1,12 +1,11 @@
 use mathlib.Core.Bool.{◌&&◌}
-use Rattle.spec.specs.Count.{count, sum}
-use Rattle.spec.specs.Image.{names, name_start, name_at}
+use Rattle.spec.specs.Count.{sum}
+use Rattle.spec.specs.Image.{names, name_at}
 use Rattle.spec.specs.Room.{is_in, is_directory, subdirectories}
 use Rattle.laws.proofs.Count.{count_more}
-use borrow.Author.Rules.{rules}
 use native.Mathlib.Omega.{arith}
 use mathlib.Core.Path.{◌≡◌, refl}
-use Prim.Native.Nat.{◌-◌, ◌≤◌, zero-le}
+use Prim.Native.Nat.{◌-◌, zero-le}
 use Rattle.store_search.proofs.name.subdirectory_count.Goals as goal
 
 pub loop-i-init : goal.loop-i-init

@@ -1,12 +1,9 @@
 use mathlib.Core.Bool.{◌&&◌}
-use Rattle.spec.specs.Count.{count, sum}
-use Rattle.spec.specs.Image.{names, name_start, name_at}
-use Rattle.spec.specs.Room.{is_in, is_directory, subdirectories}
-use Rattle.laws.proofs.Count.{count_more}
-use borrow.Author.Rules.{rules}
-use native.Mathlib.Omega.{arith}
-use mathlib.Core.Path.{◌≡◌, refl}
-use Prim.Native.Nat.{◌-◌, ◌≤◌, zero-le}
+use Rattle.spec.specs.Count.{count}
+use Rattle.spec.specs.Image.{name_start, name_at}
+use Rattle.spec.specs.Room.{is_in, is_directory}
+use mathlib.Core.Path.{◌≡◌}
+use Prim.Native.Nat.{◌-◌, ◌≤◌}
 use Rattle.store_search.proofs.name.subdirectory_count.Given as goal
 
 abbrev pub invariant-loop-i : goal.invariant-loop-i

@@ -1,11 +1,10 @@
-use Rattle.spec.specs.Count.{count, sum}
+use Rattle.spec.specs.Count.{sum}
 use Rattle.spec.specs.Image.{objects}
 use Rattle.spec.specs.Room.{is_available, available_count}
 use Rattle.laws.proofs.Count.{count_more}
-use borrow.Author.Rules.{rules}
 use native.Mathlib.Omega.{arith}
 use mathlib.Core.Path.{◌≡◌, refl}
-use Prim.Native.Nat.{◌-◌, ◌≤◌, zero-le}
+use Prim.Native.Nat.{◌-◌, zero-le}
 use Rattle.store_search.proofs.object.available_count.Goals as goal
 
 pub loop-i-init : goal.loop-i-init

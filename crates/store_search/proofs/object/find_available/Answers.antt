@@ -1,12 +1,10 @@
-use mathlib.Core.Option.{none}
 use Rattle.spec.specs.Count.{lowest, passing}
 use Rattle.spec.specs.Image.{objects}
 use Rattle.spec.specs.Room.{is_available, available_object}
 use Rattle.laws.proofs.Count.{lowest_more, lowest_hit}
-use borrow.Author.Rules.{rules}
 use native.Mathlib.Omega.{arith}
 use mathlib.Core.Path.{◌≡◌, refl, sym, ◌∙◌}
-use Prim.Native.Nat.{◌-◌, ◌≤◌, zero-le}
+use Prim.Native.Nat.{◌-◌, zero-le}
 use Rattle.store_search.proofs.object.find_available.Goals as goal
 
 pub loop-i-init : goal.loop-i-init

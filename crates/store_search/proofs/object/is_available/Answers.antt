@@ -1,6 +1,5 @@
 use borrow.Author.Tests.{eq-eqb, ne_eqb}
 use Rattle.spec.specs.Room.{is_available, is_live}
-use borrow.Author.Rules.{rules}
 use Rattle.store_search.proofs.object.is_available.Goals as goal
 
 pub returns-then-kind_of-ne-FREE : goal.returns-then-kind_of-ne-FREE

@@ -6,7 +6,6 @@ use Rattle.spec.specs.Bytes.{part, same_bytes, pairs}
 use Rattle.laws.proofs.Bytes.{part_length}
 use Rattle.store_records.specs.Text.{text_of}
 use Rattle.store_search.proofs.Named.{directory_at_lem, length_at, elsewhere_apart, longer_apart, compared_bytes}
-use borrow.Author.Rules.{rules}
 use Rattle.store_search.proofs.search.compare_name.Goals as goal
 
 pub returns-then-owner-directory : goal.returns-then-owner-directory

@@ -1,9 +1,8 @@
-use mathlib.Core.Option.{none}
 use mathlib.Core.Path.{◌≡◌, refl, sym, ◌∙◌}
-use Prim.Native.Nat.{◌-◌, ◌*◌, ◌≤◌, zero-le}
+use Prim.Native.Nat.{◌-◌, zero-le}
 use native.Mathlib.Omega.{arith}
 use Rattle.spec.specs.Count.{sum, lowest, passing}
-use Rattle.spec.specs.Image.{names, name_start}
+use Rattle.spec.specs.Image.{names}
 use Rattle.spec.specs.Room.{is_named, find_name, compared_at, compared}
 use Rattle.laws.proofs.Bytes.{part_length}
 use Rattle.laws.proofs.Count.{sum_more, lowest_more, lowest_hit}

@@ -1,16 +1,10 @@
 use mathlib.Core.Option.{none}
-use mathlib.Core.Path.{◌≡◌, refl, sym, ◌∙◌}
-use Prim.Native.Nat.{◌-◌, ◌*◌, ◌≤◌, zero-le}
-use native.Mathlib.Omega.{arith}
-use Rattle.spec.specs.Count.{sum, lowest, passing}
-use Rattle.spec.specs.Image.{names, name_start}
-use Rattle.spec.specs.Room.{is_named, find_name, compared_at, compared}
-use Rattle.laws.proofs.Bytes.{part_length}
-use Rattle.laws.proofs.Count.{sum_more, lowest_more, lowest_hit}
+use mathlib.Core.Path.{◌≡◌}
+use Prim.Native.Nat.{◌-◌, ◌*◌, ◌≤◌}
+use Rattle.spec.specs.Count.{sum, lowest}
+use Rattle.spec.specs.Image.{name_start}
+use Rattle.spec.specs.Room.{is_named, compared_at, compared}
 use Rattle.store_records.specs.Text.{text_of}
-use Rattle.laws.proofs.SearchCost.{compared_bound}
-use Rattle.store_search.proofs.Named.{empty_name}
-use borrow.Author.Rules.{rules}
 use Rattle.store_search.proofs.search.search_name.Given as goal
 
 abbrev pub invariant-loop-i : goal.invariant-loop-i

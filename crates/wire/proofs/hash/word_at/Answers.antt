@@ -1,4 +1,4 @@
-use Rattle.std.proofs.Common.{arith, rules}
+use Rattle.std.proofs.Common.{arith}
 use Rattle.wire.proofs.WordLow.{word_low}
 use Rattle.wire.proofs.hash.word_at.Goals as goal
 

@@ -1,4 +1,4 @@
-use Rattle.std.proofs.Common.{sym, rules}
+use Rattle.std.proofs.Common.{sym}
 use Rattle.wire.proofs.Dots.{dot_long, dot_one}
 use Rattle.wire.proofs.names.is_dot.Goals as goal
 

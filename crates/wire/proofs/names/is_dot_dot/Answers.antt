@@ -1,4 +1,4 @@
-use Rattle.std.proofs.Common.{sym, rules, eq-eqb, ne_eqb}
+use Rattle.std.proofs.Common.{sym, eq-eqb, ne_eqb}
 use Rattle.wire.proofs.Dots.{dot_dot_long, dot_dot_two}
 use Rattle.wire.proofs.names.is_dot_dot.Goals as goal
 

@@ -1,4 +1,3 @@
-use Rattle.std.proofs.Common.{rules}
 use Rattle.wire.proofs.names.is_dots.Goals as goal
 
 pub returns-then-is_dot : goal.returns-then-is_dot

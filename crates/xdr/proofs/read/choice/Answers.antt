@@ -1,5 +1,4 @@
 use borrow.Author.Tests.{le-leb, lt-leb}
-use borrow.Author.Rules.{rules}
 use Rattle.spec.specs.Xdr.{choice}
 use Rattle.xdr.proofs.read.choice.Goals as goal
 

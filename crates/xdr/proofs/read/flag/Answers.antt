@@ -1,4 +1,3 @@
-use borrow.Author.Rules.{rules}
 use Rattle.spec.specs.Xdr.{flag}
 use Rattle.xdr.proofs.read.flag.Goals as goal
 

@@ -7,7 +7,6 @@ use Rattle.kinds.specs.Reading.{part_of}
 use Rattle.spec.specs.Bytes.{padding}
 use Rattle.spec.specs.Xdr.{opaque}
 use Rattle.xdr.proofs.Fields.{bytes_fit, bytes_next, bytes_cut, padded_fits, padded_cut}
-use borrow.Author.Rules.{rules}
 use Rattle.xdr.proofs.read.opaque.Goals as goal
 
 pub returns-in_default : goal.returns-in_default

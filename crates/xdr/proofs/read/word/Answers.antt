@@ -1,6 +1,5 @@
 use mathlib.Core.Path.{sym, ap, ◌∙◌}
 use native.Mathlib.Omega.{arith}
-use borrow.Author.Rules.{rules}
 use Rattle.kinds.specs.Reading.{part_of}
 use Rattle.spec.specs.Xdr.{word}
 use Rattle.xdr.proofs.Fields.{number_by_bytes, bytes_fit}

@@ -1,5 +1,4 @@
 use native.Mathlib.Omega.{arith}
-use borrow.Author.Rules.{rules}
 use Rattle.laws.proofs.Bytes.{part_length}
 use Rattle.xdr.proofs.Wrote.{wrote_over}
 use Rattle.xdr.proofs.write.put_bytes.Goals as goal

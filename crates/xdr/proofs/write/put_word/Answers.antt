@@ -1,5 +1,4 @@
 use native.Mathlib.Omega.{arith}
-use borrow.Author.Rules.{rules}
 use Rattle.laws.proofs.Words.{words_length, words_one}
 use Rattle.xdr.proofs.Wrote.{wrote_over}
 use Rattle.xdr.proofs.write.put_word.Goals as goal

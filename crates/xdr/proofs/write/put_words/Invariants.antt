@@ -1,12 +1,8 @@
 use Prim.Native.Nat.{◌-◌, ◌*◌, ◌≤◌}
-use mathlib.Core.Path.{◌≡◌, refl}
-use native.Mathlib.Omega.{arith}
-use borrow.Author.Rules.{rules}
+use mathlib.Core.Path.{◌≡◌}
 use lib.ListN.{length, take}
-use lib.Seq.{take-length}
 use Rattle.spec.specs.Bytes.{words}
 use Rattle.xdr.specs.Wrote.{Wrote}
-use Rattle.xdr.proofs.Wrote.{wrote_none, wrote_word}
 use Rattle.xdr.proofs.write.put_words.Given as goal
 
 abbrev pub invariant-loop-i : goal.invariant-loop-i

@@ -1,0 +1,199 @@
+use mathlib.Core.Path.{refl, subst}
+use lib.ListN.{length}
+use borrow.Author.Rules.{rules}
+use Rattle.spec.specs.Procedures.{act}
+use Rattle.laws.proofs.Arguments.{Within}
+use Rattle.laws.proofs.ArgumentRange.{FitsArguments}
+use Rattle.laws.proofs.Error.{getattr_store, lookup_store, access_store, read_store, readdir_store, fsstat_store, fsinfo_store, pathconf_store, commit_store}
+use Rattle.store_blocks.proofs.Ready.{ready_records}
+use Rattle.act_procedures.proofs.Told.{told, reading}
+use Rattle.act_procedures.proofs.run.Goals as goal
+
+pub getattr-requires : goal.getattr-requires
+getattr-requires c = let w = subst (Within (length c.args.call.now)) c.in-Getattr.is c.requires.within in
+    record { good_records = ready_records c.requires.ready; length_in_bounds = w }
+
+pub setattr-requires : goal.setattr-requires
+setattr-requires c = let w = subst (Within (length c.args.call.now)) c.in-Setattr.is c.requires.within in
+    record { ready = c.requires.ready; fits_settable = subst FitsArguments c.in-Setattr.is c.requires.fits_arguments; length_in_bounds = w }
+
+pub lookup-requires : goal.lookup-requires
+lookup-requires c = let w = subst (Within (length c.args.call.now)) c.in-Lookup.is c.requires.within in
+    (ready_records c.requires.ready, w)
+
+pub access-requires : goal.access-requires
+access-requires c = let w = subst (Within (length c.args.call.now)) c.in-Access.is c.requires.within in
+    record { good_records = ready_records c.requires.ready; length_in_bounds = w }
+
+pub read-requires : goal.read-requires
+read-requires c = let w = subst (Within (length c.args.call.now)) c.in-Read.is c.requires.within in
+    record { good_records = ready_records c.requires.ready; length_in_bounds = w }
+
+pub write-requires : goal.write-requires
+write-requires c = let w = subst (Within (length c.args.call.now)) c.in-Write.is c.requires.within in
+    (c.requires.ready, w)
+
+pub create-requires : goal.create-requires
+create-requires c = let w = subst (Within (length c.args.call.now)) c.in-Create.is c.requires.within in
+    (c.requires.ready, (subst FitsArguments c.in-Create.is c.requires.fits_arguments, w))
+
+pub mkdir-requires : goal.mkdir-requires
+mkdir-requires c = let w = subst (Within (length c.args.call.now)) c.in-Mkdir.is c.requires.within in
+    (c.requires.ready, (subst FitsArguments c.in-Mkdir.is c.requires.fits_arguments, w))
+
+pub remove-requires : goal.remove-requires
+remove-requires c = let w = subst (Within (length c.args.call.now)) c.in-Remove.is c.requires.within in
+    (c.requires.ready.valid, (ready_records c.requires.ready, (c.requires.ready.clock, w)))
+
+pub rmdir-requires : goal.rmdir-requires
+rmdir-requires c = let w = subst (Within (length c.args.call.now)) c.in-Rmdir.is c.requires.within in
+    (c.requires.ready.valid, (ready_records c.requires.ready, (c.requires.ready.clock, w)))
+
+pub rename-requires : goal.rename-requires
+rename-requires c = let w = subst (Within (length c.args.call.now)) c.in-Rename.is c.requires.within in
+    (c.requires.ready.valid, (ready_records c.requires.ready, (c.requires.ready.clock, (w.0.0, (w.0.1, w.1)))))
+
+pub link-requires : goal.link-requires
+link-requires c = let w = subst (Within (length c.args.call.now)) c.in-Link.is c.requires.within in
+    (c.requires.ready.valid, (ready_records c.requires.ready, (c.requires.ready.clock, w)))
+
+pub readdir-requires : goal.readdir-requires
+readdir-requires c = let w = subst (Within (length c.args.call.now)) c.in-Readdir.is c.requires.within in
+    record { good_records = ready_records c.requires.ready; length_in_bounds = w }
+
+pub fsstat-requires : goal.fsstat-requires
+fsstat-requires c = let w = subst (Within (length c.args.call.now)) c.in-Fsstat.is c.requires.within in
+    record { good_records = ready_records c.requires.ready; length_in_bounds = w; used_map = c.requires.ready.map }
+
+pub fsinfo-requires : goal.fsinfo-requires
+fsinfo-requires c = let w = subst (Within (length c.args.call.now)) c.in-Fsinfo.is c.requires.within in
+    record { good_records = ready_records c.requires.ready; length_in_bounds = w }
+
+pub pathconf-requires : goal.pathconf-requires
+pathconf-requires c = let w = subst (Within (length c.args.call.now)) c.in-Pathconf.is c.requires.within in
+    record { good_records = ready_records c.requires.ready; length_in_bounds = w }
+
+pub commit-requires : goal.commit-requires
+commit-requires c = let w = subst (Within (length c.args.call.now)) c.in-Commit.is c.requires.within in
+    record { good_records = ready_records c.requires.ready; length_in_bounds = w }
+
+pub returns-in-Null : goal.returns-in-Null
+unfolding act
+returns-in-Null c = let a = c.args in
+    reading a.store.now a.context a.call.now a.a _ _ c.in-Null.is refl (refl, tt)
+
+--FAIL clauses as one
+pub returns-in-Getattr : goal.returns-in-Getattr
+unfolding act
+returns-in-Getattr c = let a = c.before.before.before.before.before.before.before.args in
+    reading a.store.now a.context a.call.now a.a _ c.getattr.result c.before.before.before.a.given.1 (getattr_store _ _)
+    c.getattr.ensures
+
+pub returns-in-Setattr : goal.returns-in-Setattr
+unfolding act
+returns-in-Setattr c = let a = c.args in
+    told a.store.now a.context a.call.now a.a _ _ _ c.in-Setattr.is
+    c.setattr.ensures
+
+--FAIL clauses as one
+pub returns-in-Lookup : goal.returns-in-Lookup
+unfolding act
+returns-in-Lookup c = let a = c.before.before.before.before.before.before.before.args in
+    reading a.store.now a.context a.call.now a.a _ c.lookup.result c.before.before.before.a3.given.1 (lookup_store _ _ _)
+    c.lookup.ensures
+
+--FAIL clauses as one
+pub returns-in-Access : goal.returns-in-Access
+unfolding act
+returns-in-Access c = let a = c.before.before.before.before.before.before.before.args in
+    reading a.store.now a.context a.call.now a.a _ c.access.result c.before.before.before.a4.given.1 (access_store _ _ _)
+    c.access.ensures
+
+--FAIL clauses as one
+pub returns-in-Read : goal.returns-in-Read
+unfolding act
+returns-in-Read c = let a = c.before.before.before.before.before.before.before.args in
+    reading a.store.now a.context a.call.now a.a _ c.read.result c.before.before.before.a5.given.1 (read_store _ _ _ _)
+    c.read.ensures
+
+pub returns-in-Write : goal.returns-in-Write
+unfolding act
+returns-in-Write c = let a = c.args in
+    told a.store.now a.context a.call.now a.a _ _ _ c.in-Write.is
+    c.write.ensures
+
+pub returns-in-Create : goal.returns-in-Create
+unfolding act
+returns-in-Create c = let a = c.args in
+    told a.store.now a.context a.call.now a.a _ _ _ c.in-Create.is
+    c.create.ensures
+
+pub returns-in-Mkdir : goal.returns-in-Mkdir
+unfolding act
+returns-in-Mkdir c = let a = c.args in
+    told a.store.now a.context a.call.now a.a _ _ _ c.in-Mkdir.is
+    c.mkdir.ensures
+
+pub returns-in-Remove : goal.returns-in-Remove
+unfolding act
+returns-in-Remove c = let a = c.args in
+    told a.store.now a.context a.call.now a.a _ _ _ c.in-Remove.is
+    c.remove.ensures
+
+pub returns-in-Rmdir : goal.returns-in-Rmdir
+unfolding act
+returns-in-Rmdir c = let a = c.args in
+    told a.store.now a.context a.call.now a.a _ _ _ c.in-Rmdir.is
+    c.rmdir.ensures
+
+pub returns-in-Rename : goal.returns-in-Rename
+unfolding act
+returns-in-Rename c = let a = c.args in
+    told a.store.now a.context a.call.now a.a _ _ _ c.in-Rename.is
+    c.rename.ensures
+
+pub returns-in-Link : goal.returns-in-Link
+unfolding act
+returns-in-Link c = let a = c.args in
+    told a.store.now a.context a.call.now a.a _ _ _ c.in-Link.is
+    c.link.ensures
+
+--FAIL clauses as one
+pub returns-in-Readdir : goal.returns-in-Readdir
+unfolding act
+returns-in-Readdir c = let a = c.before.before.before.before.before.before.before.args in
+    reading a.store.now a.context a.call.now a.a _ c.readdir.result c.before.before.before.a13.given.1 (readdir_store _ _ _ _ _)
+    c.readdir.ensures
+
+--FAIL clauses as one
+pub returns-in-Fsstat : goal.returns-in-Fsstat
+unfolding act
+returns-in-Fsstat c = let a = c.before.before.before.before.before.before.before.args in
+    reading a.store.now a.context a.call.now a.a _ c.fsstat.result c.before.before.before.a14.given.1 (fsstat_store _ _)
+    c.fsstat.ensures
+
+--FAIL clauses as one
+pub returns-in-Fsinfo : goal.returns-in-Fsinfo
+unfolding act
+returns-in-Fsinfo c = let a = c.before.before.before.before.before.before.before.args in
+    reading a.store.now a.context a.call.now a.a _ c.fsinfo.result c.before.before.before.a15.given.1 (fsinfo_store _ _)
+    c.fsinfo.ensures
+
+--FAIL clauses as one
+pub returns-in-Pathconf : goal.returns-in-Pathconf
+unfolding act
+returns-in-Pathconf c = let a = c.before.before.before.before.before.before.before.args in
+    reading a.store.now a.context a.call.now a.a _ c.pathconf.result c.before.before.before.a16.given.1 (pathconf_store _ _)
+    c.pathconf.ensures
+
+--FAIL clauses as one
+pub returns-in-Commit : goal.returns-in-Commit
+unfolding act
+returns-in-Commit c = let a = c.before.before.before.before.before.before.before.args in
+    reading a.store.now a.context a.call.now a.a _ c.commit.result c.before.before.before.a17.given.1 (commit_store _ _ _)
+    c.commit.ensures
+
+pub returns-in-Unserved : goal.returns-in-Unserved
+unfolding act
+returns-in-Unserved c = let a = c.args in
+    reading a.store.now a.context a.call.now a.a _ _ c.in-Unserved.is refl (refl, tt)
