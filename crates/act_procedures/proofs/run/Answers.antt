@@ -19,7 +19,7 @@ setattr-requires c = let w = subst (Within (length c.args.call.now)) c.in-Setatt
 
 pub lookup-requires : goal.lookup-requires
 lookup-requires c = let w = subst (Within (length c.args.call.now)) c.in-Lookup.is c.requires.within in
-    (ready_records c.requires.ready, w)
+    record { good_records = ready_records c.requires.ready; length_in_bounds = w.0; length_in_bounds_2 = w.1 }
 
 pub access-requires : goal.access-requires
 access-requires c = let w = subst (Within (length c.args.call.now)) c.in-Access.is c.requires.within in
@@ -31,31 +31,31 @@ read-requires c = let w = subst (Within (length c.args.call.now)) c.in-Read.is c
 
 pub write-requires : goal.write-requires
 write-requires c = let w = subst (Within (length c.args.call.now)) c.in-Write.is c.requires.within in
-    (c.requires.ready, w)
+    record { ready = c.requires.ready; length_in_bounds = w.0; length_in_bounds_2 = w.1 }
 
 pub create-requires : goal.create-requires
 create-requires c = let w = subst (Within (length c.args.call.now)) c.in-Create.is c.requires.within in
-    (c.requires.ready, (subst FitsArguments c.in-Create.is c.requires.fits_arguments, w))
+    record { ready = c.requires.ready; fits_how = subst FitsArguments c.in-Create.is c.requires.fits_arguments; length_in_bounds = w.0; length_in_bounds_2 = w.1 }
 
 pub mkdir-requires : goal.mkdir-requires
 mkdir-requires c = let w = subst (Within (length c.args.call.now)) c.in-Mkdir.is c.requires.within in
-    (c.requires.ready, (subst FitsArguments c.in-Mkdir.is c.requires.fits_arguments, w))
+    record { ready = c.requires.ready; fits_settable = subst FitsArguments c.in-Mkdir.is c.requires.fits_arguments; length_in_bounds = w.0; length_in_bounds_2 = w.1 }
 
 pub remove-requires : goal.remove-requires
 remove-requires c = let w = subst (Within (length c.args.call.now)) c.in-Remove.is c.requires.within in
-    (c.requires.ready.valid, (ready_records c.requires.ready, (c.requires.ready.clock, w)))
+    record { valid = c.requires.ready.valid; good_records = ready_records c.requires.ready; good_clock = c.requires.ready.clock; length_in_bounds = w.0; length_in_bounds_2 = w.1 }
 
 pub rmdir-requires : goal.rmdir-requires
 rmdir-requires c = let w = subst (Within (length c.args.call.now)) c.in-Rmdir.is c.requires.within in
-    (c.requires.ready.valid, (ready_records c.requires.ready, (c.requires.ready.clock, w)))
+    record { valid = c.requires.ready.valid; good_records = ready_records c.requires.ready; good_clock = c.requires.ready.clock; length_in_bounds = w.0; length_in_bounds_2 = w.1 }
 
 pub rename-requires : goal.rename-requires
 rename-requires c = let w = subst (Within (length c.args.call.now)) c.in-Rename.is c.requires.within in
-    (c.requires.ready.valid, (ready_records c.requires.ready, (c.requires.ready.clock, (w.0.0, (w.0.1, w.1)))))
+    record { valid = c.requires.ready.valid; good_records = ready_records c.requires.ready; good_clock = c.requires.ready.clock; length_in_bounds = w.0.0; length_in_bounds_2 = w.0.1; length_in_bounds_3 = w.1.0; length_in_bounds_4 = w.1.1 }
 
 pub link-requires : goal.link-requires
 link-requires c = let w = subst (Within (length c.args.call.now)) c.in-Link.is c.requires.within in
-    (c.requires.ready.valid, (ready_records c.requires.ready, (c.requires.ready.clock, w)))
+    record { valid = c.requires.ready.valid; good_records = ready_records c.requires.ready; good_clock = c.requires.ready.clock; length_in_bounds = w.0; length_in_bounds_2 = w.1.0; length_in_bounds_3 = w.1.1 }
 
 pub readdir-requires : goal.readdir-requires
 readdir-requires c = let w = subst (Within (length c.args.call.now)) c.in-Readdir.is c.requires.within in
@@ -82,12 +82,11 @@ unfolding act
 returns-in-Null c = let a = c.args in
     reading a.store.now a.context a.call.now a.a _ _ c.in-Null.is refl (refl, tt)
 
---FAIL clauses as one
 pub returns-in-Getattr : goal.returns-in-Getattr
 unfolding act
-returns-in-Getattr c = let a = c.before.before.before.before.before.before.before.args in
-    reading a.store.now a.context a.call.now a.a _ c.getattr.result c.before.before.before.a.given.1 (getattr_store _ _)
-    c.getattr.ensures
+returns-in-Getattr c = let a = c.args in
+    reading a.store.now a.context a.call.now a.a _ c.getattr.result c.in-Getattr.is (getattr_store _ _)
+    (c.getattr.ensures.result_value, c.getattr.ensures.writable)
 
 pub returns-in-Setattr : goal.returns-in-Setattr
 unfolding act
@@ -95,26 +94,23 @@ returns-in-Setattr c = let a = c.args in
     told a.store.now a.context a.call.now a.a _ _ _ c.in-Setattr.is
     c.setattr.ensures
 
---FAIL clauses as one
 pub returns-in-Lookup : goal.returns-in-Lookup
 unfolding act
-returns-in-Lookup c = let a = c.before.before.before.before.before.before.before.args in
-    reading a.store.now a.context a.call.now a.a _ c.lookup.result c.before.before.before.a3.given.1 (lookup_store _ _ _)
-    c.lookup.ensures
+returns-in-Lookup c = let a = c.args in
+    reading a.store.now a.context a.call.now a.a _ c.lookup.result c.in-Lookup.is (lookup_store _ _ _)
+    (c.lookup.ensures.result_value, c.lookup.ensures.writable)
 
---FAIL clauses as one
 pub returns-in-Access : goal.returns-in-Access
 unfolding act
-returns-in-Access c = let a = c.before.before.before.before.before.before.before.args in
-    reading a.store.now a.context a.call.now a.a _ c.access.result c.before.before.before.a4.given.1 (access_store _ _ _)
-    c.access.ensures
+returns-in-Access c = let a = c.args in
+    reading a.store.now a.context a.call.now a.a _ c.access.result c.in-Access.is (access_store _ _ _)
+    (c.access.ensures.result_value, c.access.ensures.writable)
 
---FAIL clauses as one
 pub returns-in-Read : goal.returns-in-Read
 unfolding act
-returns-in-Read c = let a = c.before.before.before.before.before.before.before.args in
-    reading a.store.now a.context a.call.now a.a _ c.read.result c.before.before.before.a5.given.1 (read_store _ _ _ _)
-    c.read.ensures
+returns-in-Read c = let a = c.args in
+    reading a.store.now a.context a.call.now a.a _ c.read.result c.in-Read.is (read_store _ _ _ _)
+    (c.read.ensures.result_value, c.read.ensures.writable)
 
 pub returns-in-Write : goal.returns-in-Write
 unfolding act
@@ -158,40 +154,35 @@ returns-in-Link c = let a = c.args in
     told a.store.now a.context a.call.now a.a _ _ _ c.in-Link.is
     c.link.ensures
 
---FAIL clauses as one
 pub returns-in-Readdir : goal.returns-in-Readdir
 unfolding act
-returns-in-Readdir c = let a = c.before.before.before.before.before.before.before.args in
-    reading a.store.now a.context a.call.now a.a _ c.readdir.result c.before.before.before.a13.given.1 (readdir_store _ _ _ _ _)
-    c.readdir.ensures
+returns-in-Readdir c = let a = c.args in
+    reading a.store.now a.context a.call.now a.a _ c.readdir.result c.in-Readdir.is (readdir_store _ _ _ _ _)
+    (c.readdir.ensures.result_value, c.readdir.ensures.writable)
 
---FAIL clauses as one
 pub returns-in-Fsstat : goal.returns-in-Fsstat
 unfolding act
-returns-in-Fsstat c = let a = c.before.before.before.before.before.before.before.args in
-    reading a.store.now a.context a.call.now a.a _ c.fsstat.result c.before.before.before.a14.given.1 (fsstat_store _ _)
-    c.fsstat.ensures
+returns-in-Fsstat c = let a = c.args in
+    reading a.store.now a.context a.call.now a.a _ c.fsstat.result c.in-Fsstat.is (fsstat_store _ _)
+    (c.fsstat.ensures.result_value, c.fsstat.ensures.writable)
 
---FAIL clauses as one
 pub returns-in-Fsinfo : goal.returns-in-Fsinfo
 unfolding act
-returns-in-Fsinfo c = let a = c.before.before.before.before.before.before.before.args in
-    reading a.store.now a.context a.call.now a.a _ c.fsinfo.result c.before.before.before.a15.given.1 (fsinfo_store _ _)
-    c.fsinfo.ensures
+returns-in-Fsinfo c = let a = c.args in
+    reading a.store.now a.context a.call.now a.a _ c.fsinfo.result c.in-Fsinfo.is (fsinfo_store _ _)
+    (c.fsinfo.ensures.result_value, c.fsinfo.ensures.writable)
 
---FAIL clauses as one
 pub returns-in-Pathconf : goal.returns-in-Pathconf
 unfolding act
-returns-in-Pathconf c = let a = c.before.before.before.before.before.before.before.args in
-    reading a.store.now a.context a.call.now a.a _ c.pathconf.result c.before.before.before.a16.given.1 (pathconf_store _ _)
-    c.pathconf.ensures
+returns-in-Pathconf c = let a = c.args in
+    reading a.store.now a.context a.call.now a.a _ c.pathconf.result c.in-Pathconf.is (pathconf_store _ _)
+    (c.pathconf.ensures.result_value, c.pathconf.ensures.writable)
 
---FAIL clauses as one
 pub returns-in-Commit : goal.returns-in-Commit
 unfolding act
-returns-in-Commit c = let a = c.before.before.before.before.before.before.before.args in
-    reading a.store.now a.context a.call.now a.a _ c.commit.result c.before.before.before.a17.given.1 (commit_store _ _ _)
-    c.commit.ensures
+returns-in-Commit c = let a = c.args in
+    reading a.store.now a.context a.call.now a.a _ c.commit.result c.in-Commit.is (commit_store _ _ _)
+    (c.commit.ensures.result_value, c.commit.ensures.writable)
 
 pub returns-in-Unserved : goal.returns-in-Unserved
 unfolding act
