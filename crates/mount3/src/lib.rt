@@ -1,4 +1,4 @@
-// MOUNT version 3: the function that a C program calls.
+// MOUNT version 3: the entry, which the crate mount3_c exports to C programs.
 #![tactic(auto)]
 
 ghost use Rattle.mount_spec.specs.Serve.{serve_mount};
@@ -13,8 +13,7 @@ use kinds::numbers::Answer;
 
 // Answers a call of MOUNT: 2, 4, 1, 12, 5, 7, 8 or 9, which change nothing, or 0 with the length of the reply. 8, 9 and GARBAGE_ARGS come with the byte
 // at which the field starts that cannot be read.
-#[unsafe(no_mangle)]
-pub extern "C" fn mount3_call(
+pub fn mount3_call(
     call: &[u8],
     store: &[u8],
     table: &mut [u8],

@@ -1,4 +1,4 @@
-// The functions that a C program calls.
+// The entries: what the crate nfs3_c exports to C programs.
 #![tactic(auto)]
 
 ghost use Rattle.std.specs.Prelude.{◌≡◌};
@@ -16,8 +16,7 @@ use kinds::object::{Context, Time};
 
 // Answers a call: 2, 3, 4, 1, 5, 7, 8 or 9, which change nothing, or 0 with the length of the reply. 8, 9 and GARBAGE_ARGS come with the byte at which
 // the field starts that cannot be read.
-#[unsafe(no_mangle)]
-pub extern "C" fn nfs3_call(
+pub fn nfs3_call(
     call: &[u8],
     store: &mut [u8],
     reply: &mut [u8],
@@ -45,8 +44,7 @@ pub extern "C" fn nfs3_call(
 }
 
 // Whether a store of any bytes passes the check: 0 or 1.
-#[unsafe(no_mangle)]
-pub extern "C" fn nfs3_check(store: &[u8]) -> Answer
+pub fn nfs3_check(store: &[u8]) -> Answer
     ensures { result ≡ answer_of (check store.now) }
 {
     let mut used = [0u8; Limit::MOST_BLOCKS];
@@ -68,8 +66,7 @@ pub extern "C" fn nfs3_check(store: &[u8]) -> Answer
 }
 
 // Makes the bytes a store with a root directory and nothing else: 3, 6 or 0; 3 and 6 change nothing.
-#[unsafe(no_mangle)]
-pub extern "C" fn nfs3_format(
+pub fn nfs3_format(
     store: &mut [u8],
     stamp: u32,
     objects: u32,
@@ -93,8 +90,7 @@ pub extern "C" fn nfs3_format(
 }
 
 // Makes the bytes of `store` what an image of the old layout becomes: 1, 6 or 0; 1 and 6 change nothing.
-#[unsafe(no_mangle)]
-pub extern "C" fn nfs3_convert(old: &[u8], store: &mut [u8]) -> Answer
+pub fn nfs3_convert(old: &[u8], store: &mut [u8]) -> Answer
     ensures { Writes (convert old.now store.old) result store.new }
 {
     let mut room = [0u8; MOST_RECORDS];

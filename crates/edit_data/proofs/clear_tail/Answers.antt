@@ -16,13 +16,13 @@ pub byte_at-at-requires : goal.byte_at-at-requires
 byte_at-at-requires c =
     let w = c.requires.good_records.sound.shaped in
     let f =
-        tail_fits c.args.store.now c.args.o.0 c.args.start c.requires.good_records c.requires.o_bound c.requires.o_value c.requires.start_bound c.if-inside-eq0.false in
+    tail_fits c.args.store.now c.args.o.0 c.args.start c.requires.good_records c.requires.o_bound c.requires.o_value c.requires.start_bound c.if-inside-eq0.false in
     record { object_length_in_bounds = omega (arith, c.requires.o_bound); i_lt_most_file_bytes = f.0; i_in_bounds = omega (arith, f.1) }
 
 pub clear_bytes-requires : goal.clear_bytes-requires
 clear_bytes-requires c =
     let f =
-        tail_fits c.args.store.now c.args.o.0 c.args.start c.requires.good_records c.requires.o_bound c.requires.o_value c.requires.start_bound c.if-inside-eq0.false in
+    tail_fits c.args.store.now c.args.o.0 c.args.start c.requires.good_records c.requires.o_bound c.requires.o_value c.requires.start_bound c.if-inside-eq0.false in
     omega (arith, f.1, c.byte_at-at.ensures)
 
 pub returns-then-asked-rest : goal.returns-then-asked-rest
@@ -36,7 +36,7 @@ returns-then-asked-rest c = let a = c.args in
 pub clear_bytes-requires-2 : goal.clear_bytes-requires-2
 clear_bytes-requires-2 c =
     let f =
-        tail_fits c.args.store.now c.args.o.0 c.args.start c.requires.good_records c.requires.o_bound c.requires.o_value c.requires.start_bound c.if-inside-eq0.false in
+    tail_fits c.args.store.now c.args.o.0 c.args.start c.requires.good_records c.requires.o_bound c.requires.o_value c.requires.start_bound c.if-inside-eq0.false in
     omega (arith, f.1, c.byte_at-at.ensures)
 
 pub returns : goal.returns

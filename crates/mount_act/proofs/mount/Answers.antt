@@ -16,5 +16,5 @@ returns-in-Done c = let below = rw c.in-At.is at c.mount_point-reached.ensures.i
 pub returns-in-Refused-added : goal.returns-in-Refused-added
 unfolding mount check_mount
 returns-in-Refused-added c = let refusal = sym (rw c.in-Refused-added.is at c.add_pair-added.ensures.answers) in
-    rw (← c.mount_point-reached.ensures.result_value, c.in-At.is, refusal) 
+    rw (← c.mount_point-reached.ensures.result_value, c.in-At.is, refusal)
     (record { acts = record { answers = refl; leaves = rw refusal at c.add_pair-added.ensures.leaves }; mountable = tt })

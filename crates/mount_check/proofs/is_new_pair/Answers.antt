@@ -37,7 +37,7 @@ loop-i-preserved c = let a = c.args in
     let w = used_row t r c.requires.table_len c.requires.r_lt_rows c.requires.r_value c.requires.r_value_2 in
     let here : is_same_pair t r c.loop-i.i ≡ false =
     elim c.if-digests-i.branch [
-      then-digests-i+else-same_pair v ↦ sym v.same_pair.ensures ∙ v.if-same_pair.false
+      | then-digests-i+else-same_pair v ↦ sym v.same_pair.ensures ∙ v.if-same_pair.false
       | else-digests-i v ↦ other_digest t r a.digests.now c.requires.rows_pass c.requires.table_len c.requires.r_lt_rows w a.own c.loop-i.i c.requires.own_value below v.if-digests-i.false
     ] in
     (omega arith, one_more (λ q. is_same_pair t r q ≡ false) c.loop-i.i c.loop-i.invariant.1 here)

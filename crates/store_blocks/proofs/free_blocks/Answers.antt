@@ -51,11 +51,11 @@ pub loop-i-preserved : goal.loop-i-preserved
 loop-i-preserved c = let p = is_free_block c.args.store.now in (
   omega arith,
   elim c.if-is_free_block.branch [
-    then-is_free_block w ↦ rw w.list-is (simp length-set c.loop-i.invariant.1)
+    | then-is_free_block w ↦ rw w.list-is (simp length-set c.loop-i.invariant.1)
     | else-is_free_block w ↦ rw w.list-is c.loop-i.invariant.1
   ],
   elim c.if-is_free_block.branch [
-    then-is_free_block w ↦
+    | then-is_free_block w ↦
         listed_hit p c.args.wanted c.loop-i.i c.loop-i.k (numbers_of c.loop-i.list) c.loop-i.invariant.2 _ _ c.requires.wanted_le_file_blocks
         c.if-k-wanted.false (sym c.is_free_block.ensures ∙ w.if-is_free_block.true)
         (ap numbers_of w.list-is ∙ numbers_set c.loop-i.list c.loop-i.k (block_of c.loop-i.i)) w.k-is

@@ -22,11 +22,11 @@ loop-k-preserved c = let a = c.args in
       c.loop-k.invariant.1,
       c.loop-k.invariant.2,
       elim c.if-k-before.branch [
-        then-k-before w ↦ rw w.list-is (simp length-set c.loop-k.invariant.3)
+        | then-k-before w ↦ rw w.list-is (simp length-set c.loop-k.invariant.3)
         | else-k-before w ↦ rw w.list-is (simp length-set c.loop-k.invariant.3)
       ],
       elim c.if-k-before.branch [
-        then-k-before w ↦
+        | then-k-before w ↦
             ap numbers_of w.list-is ∙ block_put c.loop-k.list a.own c.loop-k.k c.loop-k.k
             ∙ own_next own added a.before a.after c.requires.before_le_file_blocks c.requires.after_le_file_blocks p q c.loop-k.k
             (numbers_of c.loop-k.list) (omega arith) w.if-k-before.true c.loop-k.invariant.4

@@ -1,0 +1,24 @@
+use mathlib.Core.Path.{sym, ◌∙◌}
+use Rattle.kinds.specs.Numbers.{most_blocks, most_objects}
+use Rattle.fsck.proofs.Filled.{blank_of}
+use Rattle.fsck.proofs.Verdict.{bad_fails, good_passes}
+use Rattle.nfs3.proofs.Answered.{answer_bad, answer_good}
+use borrow.Author.Rules.{rules}
+use Rattle.nfs3.proofs.nfs3_check.Goals as goal
+
+pub check_store-found-requires-clause-blank : goal.check_store-found-requires-clause-blank
+check_store-found-requires-clause-blank c = blank_of most_blocks
+
+pub check_store-found-requires-clause-blank_2 : goal.check_store-found-requires-clause-blank_2
+check_store-found-requires-clause-blank_2 c = blank_of most_objects
+
+pub check_store-found-requires-clause-blank_3 : goal.check_store-found-requires-clause-blank_3
+check_store-found-requires-clause-blank_3 c = blank_of most_objects
+
+pub returns-in-Bad : goal.returns-in-Bad
+returns-in-Bad c = let s = c.args.store.now in
+    answer_bad s (bad_fails s (sym c.in-Bad.is ∙ c.check_store-found.ensures.is))
+
+pub returns-in-Good : goal.returns-in-Good
+returns-in-Good c = let s = c.args.store.now in
+    answer_good s (good_passes s _ (sym c.in-Good.is ∙ c.check_store-found.ensures.is))

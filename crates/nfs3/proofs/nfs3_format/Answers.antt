@@ -1,0 +1,6 @@
+use Rattle.nfs3.proofs.Answered.{writes_by}
+use borrow.Author.Rules.{rules}
+use Rattle.nfs3.proofs.nfs3_format.Goals as goal
+
+pub returns : goal.returns
+returns c = writes_by _ _ _ c.format_store-number.ensures
