@@ -3,7 +3,6 @@ ghost use Rattle.std.specs.Prelude.{◌≤◌};
 
 use crate::entries::NO_ENTRY;
 use fsck::check::check_store;
-use fsck::shape::Found;
 use kinds::call::Part;
 use kinds::numbers::{Answer, Limit, ObjectNumber};
 use store_search::found::FoundName;
@@ -24,7 +23,7 @@ pub fn search(numbers: &mut Numbers, store: &[u8], call: &[u8]) -> Answer {
     let mut used = [0u8; Limit::MOST_BLOCKS];
     let mut parents = [0u8; Limit::MOST_OBJECTS];
     let mut links = [0u8; Limit::MOST_OBJECTS];
-    let Found::Good(_) = check_store(store, &mut used, &mut parents, &mut links) else {
+    let Some(_) = check_store(store, &mut used, &mut parents, &mut links) else {
         return Answer {
             number: NO_ENTRY,
             length: 0,
