@@ -4,7 +4,7 @@ use mathlib.Core.Path.{◌≡◌, refl, sym, ap, ◌∙◌}
 use mathlib.Core.List.{List}
 use mathlib.Core.Option.{Option, some, none}
 use Rattle.std.specs.Prelude as Code
-use Rattle.std.specs.Prelude.{Some}
+use Rattle.std.specs.Prelude.{Some, None, Ok, Err, ok_or}
 use lib.Dec.{eqb}
 use Rattle.kinds.specs.declared.numbers.NameNumber.{NameNumber}
 use Rattle.spec.specs.Count.{lowest}
@@ -30,6 +30,15 @@ found_entry s g d text n e =
 pub name_found : (s : Store) (g : GoodRecords s) (d : ℕ) (text : List ℕ) (r : Code.Option NameNumber) (n : NameNumber) → r ≡ Some n → found_name r ≡ find_name s d text
     → Entry s n.0
 name_found s g d text r n is e = found_entry s g d text n.0 (sym e ∙ ap found_name is)
+
+-- what is found, or an error where nothing is
+pub found_ok : {A E : Type 0} (r : Code.Option A) (e : E) (x : A) → ok_or r e ≡ Ok x → r ≡ Some x
+found_ok (Some y) e x q = cc
+found_ok None e x q = cc
+
+pub nothing_err : {A E : Type 0} (r : Code.Option A) (e y : E) → ok_or r e ≡ Err y → (r ≡ None) × (y ≡ e)
+nothing_err (Some z) e y q = (cc, cc)
+nothing_err None e y q = (refl, cc)
 
 -- the directory that an object is in is an object of the store
 pub parent_below : (s : Store) (g : GoodRecords s) (o : ℕ) → parent s o < objects s
