@@ -3,7 +3,7 @@ ghost use Rattle.std.specs.Prelude.{◌≡◌};
 ghost use Rattle.kinds.specs.Reading.{read_of};
 ghost use Rattle.spec.specs.Arguments.{handle, unbounded, name_in, time, set_number, set_size, set_time, settable, guard, how};
 
-use kinds::call::{Cursor, Guard, How, NameIn, Part, SetNumber, SetSize, SetTime, Settable};
+use kinds::call::{Cursor, How, NameIn, Part, SetTime, Settable};
 use kinds::numbers::Limit;
 use kinds::object::Time;
 use kinds::reading::Read;
@@ -56,28 +56,28 @@ pub fn time(s: &[u8], c: Cursor) -> Read<Time>
 
 // set_mode3, set_uid3, set_gid3.
 #[tactic(auto, unfolding(spec::specs::Arguments::set_number))]
-pub fn set_number(s: &[u8], c: Cursor) -> Read<SetNumber>
+pub fn set_number(s: &[u8], c: Cursor) -> Read<Option<u32>>
     ensures { read_of result ≡ set_number s.now c.at }
 {
     let (given, c) = flag(s, c)?;
     if !given {
-        return Ok((SetNumber::Keep, c));
+        return Ok((None, c));
     }
     let (n, c) = word(s, c)?;
-    Ok((SetNumber::To(n), c))
+    Ok((Some(n), c))
 }
 
 // set_size3.
 #[tactic(auto, unfolding(spec::specs::Arguments::set_size))]
-pub fn set_size(s: &[u8], c: Cursor) -> Read<SetSize>
+pub fn set_size(s: &[u8], c: Cursor) -> Read<Option<u64>>
     ensures { read_of result ≡ set_size s.now c.at }
 {
     let (given, c) = flag(s, c)?;
     if !given {
-        return Ok((SetSize::Keep, c));
+        return Ok((None, c));
     }
     let (n, c) = long(s, c)?;
-    Ok((SetSize::To(n), c))
+    Ok((Some(n), c))
 }
 
 // set_atime, set_mtime.
@@ -122,15 +122,15 @@ pub fn settable(s: &[u8], c: Cursor) -> Read<Settable>
 
 // sattrguard3.
 #[tactic(auto, unfolding(spec::specs::Arguments::guard))]
-pub fn guard(s: &[u8], c: Cursor) -> Read<Guard>
+pub fn guard(s: &[u8], c: Cursor) -> Read<Option<Time>>
     ensures { read_of result ≡ guard s.now c.at }
 {
     let (given, c) = flag(s, c)?;
     if !given {
-        return Ok((Guard::Absent, c));
+        return Ok((None, c));
     }
     let (t, c) = time(s, c)?;
-    Ok((Guard::Ctime(t), c))
+    Ok((Some(t), c))
 }
 
 // createhow3.

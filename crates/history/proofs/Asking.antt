@@ -1,4 +1,6 @@
 -- That a request asks for room, or for one name too many, in the words of the checks themselves. `Conditions` has that these are the words of the book. Assumes nothing.
+use Rattle.std.specs.Prelude.{Option}
+use Rattle.kinds.specs.declared.object.Time.{Time}
 use mathlib.Core.Path.{◌≡◌}
 use mathlib.Core.Bool.{true, false, ◌&&◌, ◌||◌}
 use mathlib.Core.Option.{some, none}
@@ -8,7 +10,6 @@ use Rattle.kinds.specs.Numbers.{most_transfer_bytes, most_file_bytes, most_links
 use Rattle.kinds.specs.declared.call.Part.{Part}
 use Rattle.kinds.specs.declared.call.NameIn.{NameIn}
 use Rattle.kinds.specs.declared.call.Settable.{Settable}
-use Rattle.kinds.specs.declared.call.Guard.{Guard}
 use Rattle.kinds.specs.declared.call.How.{How}
 use Rattle.kinds.specs.declared.call.How.TheVariants as How
 use Rattle.kinds.specs.declared.call.Arguments.TheVariants as Call
@@ -27,7 +28,7 @@ use Rattle.history.proofs.Statuses.{MayAdd}
 -- the request passes the earlier checks of its procedure, and asks for this room
 pub data AsksStore (s : Store) (x : Request) : Room → Type 0 where
   -- SETATTR: the size that it gives, or the old one
-  by_setattr : (h : Part) (a : Settable) (g : Guard) (o : ℕ) → Asks x (Call.Setattr h a g)
+  by_setattr : (h : Part) (a : Settable) (g : Option Time) (o : ℕ) → Asks x (Call.Setattr h a g)
       → reach s (cut x.call h) ≡ passed o → differs g (object_at s o).ctime ≡ false → bad_attributes a ≡ false
       → is_given a.size && is_directory s o ≡ false
       → AsksStore s x (growth (size_of s o) (size_set a.size (size_of s o)))

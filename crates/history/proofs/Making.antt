@@ -1,4 +1,5 @@
 -- CREATE and MKDIR keep the invariant, with the line that the book gets. Assumes nothing.
+use Rattle.std.specs.Prelude.{Option, Some, None}
 use mathlib.Core.Path.{◌≡◌, sym, ap, ◌∙◌, subst}
 use mathlib.Core.Bool.{true, false}
 use mathlib.Core.List.{List, ◌∷◌}
@@ -7,8 +8,6 @@ use native.Mathlib.Omega.{arith}
 use Rattle.kinds.specs.Numbers.{most_file_bytes}
 use Rattle.kinds.specs.declared.object.Context.{Context}
 use Rattle.kinds.specs.declared.object.Object.{Object}
-use Rattle.kinds.specs.declared.call.SetSize.{SetSize}
-use Rattle.kinds.specs.declared.call.SetSize.TheVariants as SetSize
 use Rattle.spec.specs.Checked.{absent}
 use Rattle.spec.specs.Edits.{with_generation, resize, create_object, mtime_and_ctime}
 use Rattle.spec.specs.Handles.{handle_of}
@@ -78,7 +77,7 @@ pub record NewMade (σ p q r : ℕ) (s u : Store) (L : Ledger) (kind o d : ℕ) 
 
 module _ (σ p q r : ℕ) (s : Store) (L : Ledger) (I : Inv σ p q r s L) (c : Context) (clock : GoodClock c.clock) where
   -- ---- a new object
-  module _ (kind o n d : ℕ) (text : List ℕ) (v : Object) (size : SetSize) (fresh : FreshObject v) (is : v.kind ≡ kind)
+  module _ (kind o n d : ℕ) (text : List ℕ) (v : Object) (size : Option ℕ) (fresh : FreshObject v) (is : v.kind ≡ kind)
       (room : NewRoom s (size_set size 0) o n) (small : size_set size 0 ≤ most_file_bytes) (good : GoodName text) (below : Below 256 text)
       (parent : (view s).kind d ≡ 2) (absent : entries_at (names s) (view s) d text ≡ 0) (file : is_given size ≡ true → kind ≡ 1) where
     t : Store
@@ -177,10 +176,10 @@ module _ (σ p q r : ℕ) (s : Store) (L : Ledger) (I : Inv σ p q r s L) (c : C
         (line_some σ p q r s L I h text d directory_kind directory_handle n e)
 
   -- ---- CREATE of an existing file
-  pub existing_keeps : (o : ℕ) (size : SetSize) → (view s).kind o ≡ 1 → size_set size 0 ≤ most_file_bytes
+  pub existing_keeps : (o : ℕ) (size : Option ℕ) → (view s).kind o ≡ 1 → size_set size 0 ≤ most_file_bytes
       → need (size_set size (size_of s o)) - need (size_of s o) ≤ free_block_count s → Keeps σ p q r s (existing_edit s c o size) L
-  existing_keeps o SetSize.Keep k m e = keeps_refl σ p q r s L I
-  existing_keeps o (SetSize.To n) k m e =
+  existing_keeps o None k m e = keeps_refl σ p q r s L I
+  existing_keeps o (Some n) k m e =
       let first = resize_inv σ p q r s L I o n k m e in
       keeps_trans σ p q r s (resize s o n) _ L L first
       (touch_inv σ p q r (resize s o n) L first.owes.inv c.clock o mtime_and_ctime (omega (arith, first.kinds o (omega arith))) clock

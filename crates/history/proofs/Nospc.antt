@@ -1,5 +1,7 @@
 -- NOSPC is answered exactly where the room that the book counts is missing, and OK where it is there; MLINK to a LINK of a file with 16 names.
 -- Assumes nothing.
+use Rattle.std.specs.Prelude as Code
+use Rattle.kinds.specs.declared.object.Time.{Time}
 use mathlib.Core.Path.{◌≡◌, refl, sym, ap, ◌∙◌, subst}
 use mathlib.Core.Logic.{◌↔◌, ◌⊎◌, inl, inr, by_cases, ⊎_elim}
 use mathlib.Core.Bool.{Bool, true, false, ◌&&◌, ◌||◌, not}
@@ -16,7 +18,6 @@ use Rattle.kinds.specs.declared.object.Context.{Context}
 use Rattle.kinds.specs.declared.call.Part.{Part}
 use Rattle.kinds.specs.declared.call.NameIn.{NameIn}
 use Rattle.kinds.specs.declared.call.Settable.{Settable}
-use Rattle.kinds.specs.declared.call.Guard.{Guard}
 use Rattle.kinds.specs.declared.call.How.{How}
 use Rattle.kinds.specs.declared.call.How.TheVariants as How
 use Rattle.kinds.specs.declared.call.Arguments.{Arguments}
@@ -150,7 +151,7 @@ module _ (σ p q r : ℕ) (s : Store) (L : Ledger) (I : Inv σ p q r s L) where
   missing? old size = dec_lt (blocks_left p r s L) (need size - need old)
 
   -- ---- SETATTR
-  setattr_room : (x : Request) (h : Part) (a : Settable) (g : Guard) (o : ℕ) → Asks x (Call.Setattr h a g)
+  setattr_room : (x : Request) (h : Part) (a : Settable) (g : Code.Option Time) (o : ℕ) → Asks x (Call.Setattr h a g)
       → reach s (cut x.call h) ≡ passed o → differs g (object_at s o).ctime ≡ false → bad_attributes a ≡ false → is_given a.size && is_directory s o ≡ false
       → AnswersRoom (reply_to s x) (BlocksMissing p r s L (size_of s o) (size_set a.size (size_of s o)))
   unfolding act setattr check_setattr status_of

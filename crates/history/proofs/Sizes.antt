@@ -1,4 +1,6 @@
 -- SETATTR and WRITE keep the invariant. Assumes nothing.
+use Rattle.std.specs.Prelude.{Option, Some, None}
+use Rattle.kinds.specs.declared.object.Time.{Time}
 use mathlib.Core.Path.{◌≡◌, refl, sym, ◌∙◌, subst}
 use mathlib.Core.Bool.{Bool, true, cond}
 use mathlib.Core.List.{List}
@@ -9,10 +11,7 @@ use lib.ListN.{length, take, length-take}
 use borrow.Author.Tests.{eqb-false}
 use Rattle.kinds.specs.Numbers.{most_file_bytes, most_transfer_bytes}
 use Rattle.kinds.specs.declared.object.Context.{Context}
-use Rattle.kinds.specs.declared.call.SetSize.{SetSize}
-use Rattle.kinds.specs.declared.call.SetSize.TheVariants as SetSize
 use Rattle.kinds.specs.declared.call.Settable.{Settable}
-use Rattle.kinds.specs.declared.call.Guard.{Guard}
 use Rattle.spec.specs.Checked.{Checked, refused, passed}
 use Rattle.spec.specs.Edits.{set_attributes, resize, mtime_and_ctime, write_file}
 use Rattle.spec.specs.Image.{Store, objects, blocks, object_at}
@@ -37,15 +36,15 @@ use Rattle.history.proofs.Inv.{Inv, Keeps, keeps_refl, keeps_trans, good, touch_
 pub seen_live : (s : Store) (o : ℕ) → o < objects s → is_live s o ≡ true → LiveIn (view s) o
 seen_live s o l e = omega (arith, kind_at s o l, live_true s o e)
 
-pub resize_to_lem : (σ p q r : ℕ) (s : Store) (L : Ledger) → Inv σ p q r s L → (o : ℕ) (z : SetSize) → (is_given z ≡ true → (view s).kind o ≡ 1)
+pub resize_to_lem : (σ p q r : ℕ) (s : Store) (L : Ledger) → Inv σ p q r s L → (o : ℕ) (z : Option ℕ) → (is_given z ≡ true → (view s).kind o ≡ 1)
     → size_set z 0 ≤ most_file_bytes
     → need (size_set z (size_of s o)) - need (size_of s o) ≤ free_block_count s → Keeps σ p q r s (resize_to s o z) L
-resize_to_lem σ p q r s L I o SetSize.Keep k m h = keeps_refl σ p q r s L I
-resize_to_lem σ p q r s L I o (SetSize.To n) k m h = resize_inv σ p q r s L I o n (k refl) m h
+resize_to_lem σ p q r s L I o None k m h = keeps_refl σ p q r s L I
+resize_to_lem σ p q r s L I o (Some n) k m h = resize_inv σ p q r s L I o n (k refl) m h
 
 module _ (σ p q r : ℕ) (s : Store) (L : Ledger) (I : Inv σ p q r s L) (c : Context) (clock : GoodClock c.clock) where
   -- ---- SETATTR
-  setattr_edit_lem : (h : List ℕ) (a : Settable) (g : Guard) (o : ℕ) → FitsSettable a → SetattrPassed s h a g o → Keeps σ p q r s (setattr_edit s c o a) L
+  setattr_edit_lem : (h : List ℕ) (a : Settable) (g : Option Time) (o : ℕ) → FitsSettable a → SetattrPassed s h a g o → Keeps σ p q r s (setattr_edit s c o a) L
   unfolding setattr_edit
   setattr_edit_lem h a g o f w =
       let k = kind_at s o w.reached.below in
@@ -61,7 +60,7 @@ module _ (σ p q r : ℕ) (s : Store) (L : Ledger) (I : Inv σ p q r s L) (c : C
       let third = forget_inv σ p q r u L second.owes.inv o (omega (arith, second.kinds o m)) in
       keeps_trans σ p q r s t _ L L first (keeps_trans σ p q r t u _ L L second third)
 
-  pub setattr_keeps : (h : List ℕ) (a : Settable) (g : Guard) → FitsSettable a → Keeps σ p q r s (setattr s c h a g).store L
+  pub setattr_keeps : (h : List ℕ) (a : Settable) (g : Option Time) → FitsSettable a → Keeps σ p q r s (setattr s c h a g).store L
   unfolding setattr
   setattr_keeps h a g f = go (check_setattr s h a g) refl
     where

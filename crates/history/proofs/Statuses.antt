@@ -1,5 +1,7 @@
 -- The statuses of checks that refuse. What holds of every error but NOSPC and MLINK, of NOSPC where room is asked for, and of MLINK where LINK may
 -- answer it, holds of the status with which the checks of each procedure refuse. Assumes nothing.
+use Rattle.std.specs.Prelude as Code
+use Rattle.kinds.specs.declared.object.Time.{Time}
 use mathlib.Core.Path.{◌≡◌, refl, sym, ap, ◌∙◌, subst}
 use mathlib.Core.Logic.{◌≢◌}
 use mathlib.Core.Bool.{Bool, true, false, ◌&&◌, ◌||◌, not, cond}
@@ -14,7 +16,6 @@ use Rattle.kinds.specs.Numbers.{NOENT, ACCES, EXIST, NOTDIR, INVAL, FBIG, NOSPC,
 use Rattle.kinds.specs.Numbers.{NOT_SYNC, BAD_COOKIE, TOOSMALL, most_name_bytes}
 use Rattle.kinds.specs.Numbers.{most_transfer_bytes, listing_cost, entry_fixed_cost, most_file_bytes, most_links, handle_length}
 use Rattle.kinds.specs.declared.call.Settable.{Settable}
-use Rattle.kinds.specs.declared.call.Guard.{Guard}
 use Rattle.kinds.specs.declared.call.How.{How}
 use Rattle.kinds.specs.declared.call.How.TheVariants as How
 use Rattle.spec.specs.Bytes.{be_at}
@@ -218,7 +219,7 @@ module _ (P : ℕ → Type 0) (plain : (n : ℕ) → Plain n → P n) (s : Store
       listing_tells listing_cost entry_fixed_cost (min count most_transfer_bytes) (entries_above cookie (entries s d)))) (λ _ _. tells_passed P _))
 
   -- ---- those that ask for room
-  pub setattr_tells : (h : List ℕ) (a : Settable) (g : Guard)
+  pub setattr_tells : (h : List ℕ) (a : Settable) (g : Code.Option Time)
       → ((o : ℕ) → reach s h ≡ passed o → differs g (object_at s o).ctime ≡ false → bad_attributes a ≡ false
       → is_given a.size && is_directory s o ≡ false → P NOSPC)
       → Tells P (check_setattr s h a g)

@@ -1,6 +1,6 @@
 -- DEMAND 3: what holds of the store and of the book after any list of requests from any successful format. `Kept` is the statement; the
 -- definitions above it are its words. Each field quotes the sentence of document 01 or 02, or of demand 3 as it was asked, that it says.
-use Rattle.std.specs.Prelude.{ℕ, suc, ◌+◌, ◌*◌, ◌-◌, ◌≤◌, ◌<◌, min, max, ◌≡◌, ◌⊎◌, ◌↔◌, Bool, true, false, ◌&&◌, ◌||◌, not, eqb, length, get_or}
+use Rattle.std.specs.Prelude.{ℕ, suc, ◌+◌, ◌*◌, ◌-◌, ◌≤◌, ◌<◌, min, max, ◌≡◌, ◌⊎◌, ◌↔◌, Bool, true, false, ◌&&◌, ◌||◌, not, eqb, length, get_or, Option}
 use mathlib.Core.List.{List, [], ◌∷◌, Memᴰ}
 use Rattle.std.proofs.Math.Option.{some}
 use Rattle.kinds.specs.Layout.{block_length}
@@ -10,7 +10,6 @@ use Rattle.kinds.specs.declared.object.Time.{Time}
 use Rattle.kinds.specs.declared.call.Part.{Part}
 use Rattle.kinds.specs.declared.call.NameIn.{NameIn}
 use Rattle.kinds.specs.declared.call.Settable.{Settable}
-use Rattle.kinds.specs.declared.call.Guard.{Guard}
 use Rattle.kinds.specs.declared.call.How.{How}
 use Rattle.kinds.specs.declared.call.How.TheVariants as How
 use Rattle.kinds.specs.declared.call.Arguments.{Arguments}
@@ -251,7 +250,7 @@ pub record MayLink (b : Book) (x : Request) (h : Part) (p : NameIn) : Type 0 whe
 -- are looked for in the book; only the guard's ctime and the sizes are the store's
 pub data AsksRoom (w : State) (x : Request) : Room → Type 0 where
   -- SETATTR of a live handle, no size of a directory: the size that it gives, or the old one
-  by_setattr : (h : Part) (a : Settable) (g : Guard) (kind : ℕ) → Asks x (Call.Setattr h a g)
+  by_setattr : (h : Part) (a : Settable) (g : Option Time) (kind : ℕ) → Asks x (Call.Setattr h a g)
       → HasLine w.ledger.book (cut x.call h) kind
       → differs g (object_at w.store (object_in (cut x.call h))).ctime ≡ false
       → bad_attributes a ≡ false → is_given a.size && eqb kind DIRECTORY ≡ false

@@ -14,20 +14,6 @@ pub struct Cursor {
     pub at: usize,
 }
 
-// set_mode3, set_uid3, set_gid3.
-#[derive(Clone, Copy)]
-pub enum SetNumber {
-    Keep,
-    To(u32),
-}
-
-// set_size3.
-#[derive(Clone, Copy)]
-pub enum SetSize {
-    Keep,
-    To(u64),
-}
-
 // set_atime, set_mtime.
 #[derive(Clone, Copy)]
 pub enum SetTime {
@@ -36,22 +22,15 @@ pub enum SetTime {
     ToClient(Time),
 }
 
-// The settable attributes: sattr3.
+// The settable attributes: sattr3. A number that is not given keeps its value (set_mode3, set_uid3, set_gid3, set_size3).
 #[derive(Clone, Copy)]
 pub struct Settable {
-    pub mode: SetNumber,
-    pub uid: SetNumber,
-    pub gid: SetNumber,
-    pub size: SetSize,
+    pub mode: Option<u32>,
+    pub uid: Option<u32>,
+    pub gid: Option<u32>,
+    pub size: Option<u64>,
     pub atime: SetTime,
     pub mtime: SetTime,
-}
-
-// sattrguard3: no guard, or the ctime that the object must have.
-#[derive(Clone, Copy)]
-pub enum Guard {
-    Absent,
-    Ctime(Time),
 }
 
 // A name in a directory: diropargs3.
@@ -74,7 +53,8 @@ pub enum How {
 pub enum Arguments {
     Null,
     Getattr(Part),
-    Setattr(Part, Settable, Guard),
+    // The handle, the attributes, and the ctime that the object must have where one is given (sattrguard3).
+    Setattr(Part, Settable, Option<Time>),
     Lookup(NameIn),
     Access(Part, u32),
     Read(Part, u64, u32),

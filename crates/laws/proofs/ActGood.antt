@@ -1,4 +1,6 @@
 -- Every call keeps the shape of the store, and the demands of the store check on single records and on blocks. Assumes nothing.
+use Rattle.std.specs.Prelude.{Option, Some, None}
+use Rattle.kinds.specs.declared.object.Time.{Time}
 use mathlib.Core.Path.{◌≡◌, refl, sym, ap, ◌∙◌}
 use mathlib.Core.Logic.{◌≢◌, ◌⊎◌, ⊎_elim}
 use mathlib.Core.Bool.{true, false}
@@ -11,10 +13,7 @@ use borrow.Author.Tests.{eqb-false}
 use Rattle.kinds.specs.Numbers.{REGULAR, DIRECTORY, most_transfer_bytes, most_file_bytes}
 use Rattle.kinds.specs.declared.object.Object.{Object}
 use Rattle.kinds.specs.declared.object.Context.{Context}
-use Rattle.kinds.specs.declared.call.SetSize.{SetSize}
-use Rattle.kinds.specs.declared.call.SetSize.TheVariants as SetSize
 use Rattle.kinds.specs.declared.call.Settable.{Settable}
-use Rattle.kinds.specs.declared.call.Guard.{Guard}
 use Rattle.kinds.specs.declared.call.How.{How}
 use Rattle.kinds.specs.declared.call.Arguments.{Arguments}
 use Rattle.kinds.specs.declared.call.Arguments.TheVariants as Arguments
@@ -68,9 +67,9 @@ unfolding size_of
 size_small s o v = live_size (blocks s) (object_at s o) v
 
 -- no size is given
-pub not_given : (x : SetSize) → is_given x ≡ false → size_set x 0 ≡ 0
-not_given SetSize.Keep e = refl
-not_given (SetSize.To n) e = true_false e
+pub not_given : (x : Option ℕ) → is_given x ≡ false → size_set x 0 ≡ 0
+not_given None e = refl
+not_given (Some n) e = true_false e
 
 -- ---- edits of any store with good records
 module _ (s : Store) (g : GoodRecords s) where
@@ -78,10 +77,10 @@ module _ (s : Store) (g : GoodRecords s) where
   tree_refl = (kept_structure s s (kept_refl s g.sound)).tree
 
   -- a size, where one is given
-  pub resize_to_lem : (o : ℕ) (x : SetSize) → o < objects s → (is_given x ≡ true → (object_at s o).kind ≡ REGULAR) → size_set x 0 ≤ most_file_bytes
+  pub resize_to_lem : (o : ℕ) (x : Option ℕ) → o < objects s → (is_given x ≡ true → (object_at s o).kind ≡ REGULAR) → size_set x 0 ≤ most_file_bytes
       → need (size_set x (size_of s o)) - need (size_of s o) ≤ free_block_count s → StillGood s (resize_to s o x) × SameTree s (resize_to s o x)
-  resize_to_lem o SetSize.Keep l k small room = (still_refl s g, tree_refl)
-  resize_to_lem o (SetSize.To n) l k small room =
+  resize_to_lem o None l k small room = (still_refl s g, tree_refl)
+  resize_to_lem o (Some n) l k small room =
       let r = k refl in
       (resize_still s g o n l r small room, resize_tree s o n g.sound l (live_at s g o l (omega arith)) small room)
 
@@ -169,7 +168,7 @@ module _ (s : Store) (c : Context) (v : Valid s) (b : Below 256 s) (k : GoodCloc
   settle_good fail (passed a) go f = f a refl
 
   -- ---- SETATTR
-  setattr_edit_lem : (h : List ℕ) (a : Settable) (w : Guard) (o : ℕ) → FitsSettable a → SetattrPassed s h a w o → StillGood s (setattr_edit s c o a)
+  setattr_edit_lem : (h : List ℕ) (a : Settable) (w : Option Time) (o : ℕ) → FitsSettable a → SetattrPassed s h a w o → StillGood s (setattr_edit s c o a)
   unfolding setattr_edit
   setattr_edit_lem h a w o f p =
       let l = p.reached.below in
@@ -186,7 +185,7 @@ module _ (s : Store) (c : Context) (v : Valid s) (b : Below 256 s) (k : GoodCloc
       let i = still_trans s t u r.0 q in
       still_trans s u (setattr_edit s c o a) i (forget_verifier_still u q.good o (below_after s u i o l) (rw (tree.kind o m) still_live_lem))
 
-  setattr_good : (h : List ℕ) (a : Settable) (w : Guard) → FitsSettable a → StillGood s (setattr s c h a w).store
+  setattr_good : (h : List ℕ) (a : Settable) (w : Option Time) → FitsSettable a → StillGood s (setattr s c h a w).store
   unfolding setattr
   setattr_good h a w f =
       settle_good (fail_changing s h) (check_setattr s h a w) (λ o. edited s o (setattr_edit s c o a)) (λ o e. setattr_edit_lem h a w o f (setattr_passed s h a w o e))
@@ -211,7 +210,7 @@ module _ (s : Store) (c : Context) (v : Valid s) (b : Below 256 s) (k : GoodCloc
       (λ o e. write_store_lem h offset count bytes o w (write_passed s h offset count bytes o e))
 
   -- ---- CREATE and MKDIR
-  new_edit_lem : (v : Object) (x : SetSize) (o n d : ℕ) (text : List ℕ) → FreshObject v → (is_given x ≡ true → v.kind ≡ REGULAR) → size_set x 0 ≤ most_file_bytes
+  new_edit_lem : (v : Object) (x : Option ℕ) (o n d : ℕ) (text : List ℕ) → FreshObject v → (is_given x ≡ true → v.kind ≡ REGULAR) → size_set x 0 ≤ most_file_bytes
       → NewRoom s (size_set x 0) o n → d < objects s → (object_at s d).kind ≡ DIRECTORY → GoodName text → Below 256 text
       → StillGood s (new_edit s c v x o n d text)
   unfolding new_edit with_generation size_of
@@ -236,14 +235,14 @@ module _ (s : Store) (c : Context) (v : Valid s) (b : Below 256 s) (k : GoodCloc
       (sizes.1.kind d m ∙ ap (λ (y : Object). y.kind)
       (e.other_objects d below (λ q. omega (arith, room.object_free, ap (λ (i : ℕ). (object_at s i).kind) q)))) dir
 
-  existing_edit_lem : (o : ℕ) (x : SetSize) → o < objects s → (object_at s o).kind ≡ REGULAR → size_set x 0 ≤ most_file_bytes
+  existing_edit_lem : (o : ℕ) (x : Option ℕ) → o < objects s → (object_at s o).kind ≡ REGULAR → size_set x 0 ≤ most_file_bytes
       → need (size_set x (size_of s o)) - need (size_of s o) ≤ free_block_count s → StillGood s (existing_edit s c o x)
-  existing_edit_lem o SetSize.Keep l reg small room = still_refl s records
-  existing_edit_lem o (SetSize.To n) l reg small room =
+  existing_edit_lem o None l reg small room = still_refl s records
+  existing_edit_lem o (Some n) l reg small room =
       let t = resize s o n in
       let r = resize_still s records o n l reg small room in
       let tree = resize_tree s o n records.sound l (live_at s records o l (omega arith)) small room in
-      still_trans s t (existing_edit s c o (SetSize.To n)) r
+      still_trans s t (existing_edit s c o (Some n)) r
       (set_attributes_still t r.good c.clock o mtime_and_ctime (below_after s t r o l) (rw (tree.kind o l) (omega arith)) k mtime_and_ctime_fits
       mtime_and_ctime_allowed)
 

@@ -1,4 +1,5 @@
 -- That what is read from a call lies within it, and that numbers read from a call of bytes fit their places. Assumes nothing.
+use Rattle.std.specs.Prelude.{Some, None}
 use mathlib.Core.Path.{◌≡◌, subst}
 use mathlib.Core.Bool.{Bool, true, false, cond}
 use mathlib.Core.List.{List}
@@ -9,8 +10,6 @@ use Rattle.kinds.specs.Numbers.{most_handle_bytes}
 use Rattle.kinds.specs.Reading.{Read, got}
 use Rattle.kinds.specs.declared.call.Part.{Part}
 use Rattle.kinds.specs.declared.call.NameIn.{NameIn}
-use Rattle.kinds.specs.declared.call.SetNumber.{SetNumber}
-use Rattle.kinds.specs.declared.call.SetNumber.TheVariants as SetNumber
 use Rattle.kinds.specs.declared.call.SetTime.{SetTime}
 use Rattle.kinds.specs.declared.call.SetTime.TheVariants as SetTime
 use Rattle.kinds.specs.declared.call.Settable.{Settable}
@@ -71,11 +70,11 @@ time_fits =
 set_number_fits : Gives FitsNumber set_number
 unfolding set_number
 set_number_fits =
-    gives_then (λ (b : Bool). Unit {0}) FitsNumber flag (λ given. cond given (word >>= (λ n. done (SetNumber.To n))) (done SetNumber.Keep))
+    gives_then (λ (b : Bool). Unit {0}) FitsNumber flag (λ given. cond given (word >>= (λ n. done (Some n))) (done None))
     (gives_any flag) (λ given _.
-    gives_cond FitsNumber given (word >>= (λ n. done (SetNumber.To n))) (done SetNumber.Keep)
-    (gives_then (λ (n : ℕ). n < 2 ^ 32) FitsNumber word (λ n. done (SetNumber.To n)) word_fits (λ n f. gives_done FitsNumber (SetNumber.To n) f))
-    (gives_done FitsNumber SetNumber.Keep tt))
+    gives_cond FitsNumber given (word >>= (λ n. done (Some n))) (done None)
+    (gives_then (λ (n : ℕ). n < 2 ^ 32) FitsNumber word (λ n. done (Some n)) word_fits (λ n f. gives_done FitsNumber (Some n) f))
+    (gives_done FitsNumber None tt))
 
 set_time_fits : Gives FitsSetTime set_time
 unfolding set_time

@@ -1,4 +1,6 @@
 -- A reply with an error status leaves the store as it was. Assumes nothing.
+use Rattle.std.specs.Prelude as Code
+use Rattle.kinds.specs.declared.object.Time.{Time}
 use mathlib.Core.Path.{◌≡◌, refl, ap}
 use mathlib.Core.Option.{Option}
 use mathlib.Core.Logic.{◌≢◌, ◌⊎◌, ⊎_elim}
@@ -11,7 +13,6 @@ use Rattle.kinds.specs.declared.object.Attributes.{Attributes}
 use Rattle.kinds.specs.declared.object.Change.{Change}
 use Rattle.kinds.specs.declared.object.Context.{Context}
 use Rattle.kinds.specs.declared.call.Settable.{Settable}
-use Rattle.kinds.specs.declared.call.Guard.{Guard}
 use Rattle.kinds.specs.declared.call.How.{How}
 use Rattle.kinds.specs.declared.call.Arguments.{Arguments}
 use Rattle.kinds.specs.declared.call.Arguments.TheVariants as Arguments
@@ -102,7 +103,7 @@ create_ok s c d text manner (new o n) = created_ok _ _ _
 create_ok s c d text manner (existing o) = created_ok _ _ _
 
 module _ (s : Store) (c : Context) where
-  setattr_error : (h : List ℕ) (a : Settable) (g : Guard) → KeptUnlessOK s (setattr s c h a g)
+  setattr_error : (h : List ℕ) (a : Settable) (g : Code.Option Time) → KeptUnlessOK s (setattr s c h a g)
   unfolding setattr
   setattr_error h a g = settle_ok s (fail_changing s h) (check_setattr s h a g) (λ o. edited s o (setattr_edit s c o a)) (λ o. changed_ok _)
 

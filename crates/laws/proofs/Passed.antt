@@ -1,4 +1,6 @@
 -- What the checks of each procedure tell where they pass. Assumes nothing.
+use Rattle.std.specs.Prelude as Code
+use Rattle.kinds.specs.declared.object.Time.{Time}
 use mathlib.Core.Path.{◌≡◌, refl, sym, ap, ◌∙◌, subst}
 use mathlib.Core.Logic.{◌≢◌, ◌⊎◌, ⊎_elim}
 use mathlib.Core.Bool.{Bool, true, false, ◌&&◌, ◌||◌, not}
@@ -12,7 +14,6 @@ use borrow.Author.Tests.{leb-true, leb-false, ltb-true, ltb-false, eqb-true, eqb
 use Rattle.kinds.specs.Numbers.{REGULAR, DIRECTORY, NOENT, ACCES, EXIST, NOTDIR, INVAL, FBIG, NOSPC, MLINK, NAMETOOLONG, NOTEMPTY, STALE, BADHANDLE}
 use Rattle.kinds.specs.Numbers.{NOT_SYNC, kept_flag, most_transfer_bytes, most_file_bytes, spent_generation, most_name_bytes, most_links, handle_length}
 use Rattle.kinds.specs.declared.call.Settable.{Settable}
-use Rattle.kinds.specs.declared.call.Guard.{Guard}
 use Rattle.kinds.specs.declared.call.How.{How}
 use Rattle.kinds.specs.declared.call.How.TheVariants as How
 use Rattle.spec.specs.Bytes.{be_at, same_bytes}
@@ -238,14 +239,14 @@ room_for_new_lem s size p e =
     subst (λ (x : ℕ × ℕ). NewRoom s size x.0 x.1) q w)))
 
 -- ---- SETATTR
-pub record SetattrPassed (s : Store) (h : List ℕ) (a : Settable) (g : Guard) (o : ℕ) : Type 0 where
+pub record SetattrPassed (s : Store) (h : List ℕ) (a : Settable) (g : Code.Option Time) (o : ℕ) : Type 0 where
   pub reached : Reached s h o
   pub guarded : differs g (object_at s o).ctime ≡ false
   pub allowed : Allowed a
   pub not_directory : is_given a.size ≡ true → (object_at s o).kind ≢ DIRECTORY
   pub room : need (size_set a.size (size_of s o)) - need (size_of s o) ≤ free_block_count s
 
-pub setattr_passed : (s : Store) (h : List ℕ) (a : Settable) (g : Guard) (o : ℕ) → check_setattr s h a g ≡ passed o → SetattrPassed s h a g o
+pub setattr_passed : (s : Store) (h : List ℕ) (a : Settable) (g : Code.Option Time) (o : ℕ) → check_setattr s h a g ≡ passed o → SetattrPassed s h a g o
 unfolding check_setattr
 setattr_passed s h a g o e =
     bind_passed (reach s h) _ o e (λ i e₁ f₁.

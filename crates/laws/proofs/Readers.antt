@@ -1,17 +1,12 @@
 -- What holds of each way to build a reader holds of the readers of numbers, times and attributes. Assumes nothing.
+use Rattle.std.specs.Prelude.{Option, Some, None}
 use Prim.Native.Nat.{ℕ}
 use mathlib.Core.Bool.{Bool, true, false, cond}
 use lib.Dec.{leb, eqb}
 use Rattle.kinds.specs.declared.object.Time.{Time}
-use Rattle.kinds.specs.declared.call.SetNumber.{SetNumber}
-use Rattle.kinds.specs.declared.call.SetNumber.TheVariants as SetNumber
-use Rattle.kinds.specs.declared.call.SetSize.{SetSize}
-use Rattle.kinds.specs.declared.call.SetSize.TheVariants as SetSize
 use Rattle.kinds.specs.declared.call.SetTime.{SetTime}
 use Rattle.kinds.specs.declared.call.SetTime.TheVariants as SetTime
 use Rattle.kinds.specs.declared.call.Settable.{Settable}
-use Rattle.kinds.specs.declared.call.Guard.{Guard}
-use Rattle.kinds.specs.declared.call.Guard.TheVariants as Guard
 use Rattle.kinds.specs.declared.call.How.{How}
 use Rattle.kinds.specs.declared.call.How.TheVariants as How
 use Rattle.spec.specs.Arguments.{time, set_number, set_size, set_time, settable, guard, how}
@@ -53,13 +48,13 @@ module _ (P : (A : Type 0) → Reader A → Type 0) (b : Built P) where
   unfolding time
   of_time = b.of_then of_word (λ seconds. b.of_then of_word (λ nanoseconds. b.of_done _))
 
-  of_number_set : P SetNumber set_number
+  of_number_set : P (Option ℕ) set_number
   unfolding set_number
-  of_number_set = of_optional SetNumber.To SetNumber.Keep of_word
+  of_number_set = of_optional Some None of_word
 
-  of_size_set : P SetSize set_size
+  of_size_set : P (Option ℕ) set_size
   unfolding set_size
-  of_size_set = of_optional SetSize.To SetSize.Keep of_long
+  of_size_set = of_optional Some None of_long
 
   of_time_set : P SetTime set_time
   unfolding set_time
@@ -76,9 +71,9 @@ module _ (P : (A : Type 0) → Reader A → Type 0) (b : Built P) where
       b.of_then of_number_set (λ gid.
       b.of_then of_size_set (λ size. b.of_then of_time_set (λ atime. b.of_then of_time_set (λ mtime. b.of_done _))))))
 
-  pub of_guard : P Guard guard
+  pub of_guard : P (Option Time) guard
   unfolding guard
-  of_guard = of_optional Guard.Ctime Guard.Absent of_time
+  of_guard = of_optional Some None of_time
 
   pub of_how : P How how
   unfolding how

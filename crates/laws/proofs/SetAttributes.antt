@@ -1,4 +1,5 @@
 -- The first edit, an object's attributes and times, and the second, its verifier forgotten. Assumes nothing.
+use Rattle.std.specs.Prelude.{Option, Some, None}
 use mathlib.Core.Path.{◌≡◌, refl}
 use mathlib.Core.Logic.{◌⊎◌}
 use mathlib.Core.Bool.{Bool, true, false, ◌||◌, cond}
@@ -9,8 +10,6 @@ use borrow.Author.Tests.{ltb-false, leb-false}
 use Rattle.kinds.specs.Numbers.{nanoseconds_end, most_file_bytes, most_mode}
 use Rattle.kinds.specs.declared.object.Time.{Time}
 use Rattle.kinds.specs.declared.object.Object.{Object}
-use Rattle.kinds.specs.declared.call.SetNumber.{SetNumber}
-use Rattle.kinds.specs.declared.call.SetNumber.TheVariants as SetNumber
 use Rattle.kinds.specs.declared.call.SetTime.{SetTime}
 use Rattle.kinds.specs.declared.call.SetTime.TheVariants as SetTime
 use Rattle.kinds.specs.declared.call.Settable.{Settable}
@@ -29,9 +28,9 @@ use Rattle.laws.proofs.Valid.{GoodVerifier, LiveObject, GoodObjects}
 use Rattle.laws.proofs.Writes.{object_written}
 
 -- ---- attributes whose numbers fit their places, as those of the code's type do
-abbrev pub FitsNumber : SetNumber → Type 0
-FitsNumber SetNumber.Keep = Unit {0}
-FitsNumber (SetNumber.To n) = n < 2 ^ 32
+abbrev pub FitsNumber : Option ℕ → Type 0
+FitsNumber None = Unit {0}
+FitsNumber (Some n) = n < 2 ^ 32
 
 abbrev pub FitsSetTime : SetTime → Type 0
 FitsSetTime SetTime.Keep = Unit {0}
@@ -45,9 +44,9 @@ pub record FitsSettable (a : Settable) : Type 0 where
   pub atime : FitsSetTime a.atime
   pub mtime : FitsSetTime a.mtime
 
-number_fits : (x : SetNumber) (old : ℕ) → FitsNumber x → old < 2 ^ 32 → number_set x old < 2 ^ 32
-number_fits SetNumber.Keep old f h = h
-number_fits (SetNumber.To n) old f h = f
+number_fits : (x : Option ℕ) (old : ℕ) → FitsNumber x → old < 2 ^ 32 → number_set x old < 2 ^ 32
+number_fits None old f h = h
+number_fits (Some n) old f h = f
 
 time_fits : (clock : Time) (x : SetTime) (old : Time) → FitsTime clock → FitsSetTime x → FitsTime old → FitsTime (time_set clock x old)
 time_fits clock SetTime.Keep old c f h = h
@@ -100,9 +99,9 @@ size_touches_fits a f =
     }
 
 -- ---- attributes that the check of a store allows
-abbrev pub AllowedMode : SetNumber → Type 0
-AllowedMode SetNumber.Keep = Unit {0}
-AllowedMode (SetNumber.To n) = n ≤ most_mode
+abbrev pub AllowedMode : Option ℕ → Type 0
+AllowedMode None = Unit {0}
+AllowedMode (Some n) = n ≤ most_mode
 
 abbrev pub AllowedTime : SetTime → Type 0
 AllowedTime SetTime.Keep = Unit {0}
@@ -115,9 +114,9 @@ pub record Allowed (a : Settable) : Type 0 where
   pub mtime : AllowedTime a.mtime
   pub size : size_set a.size 0 ≤ most_file_bytes
 
-allowed_mode : (x : SetNumber) → number_over most_mode x ≡ false → AllowedMode x
-allowed_mode SetNumber.Keep e = tt
-allowed_mode (SetNumber.To n) e = ltb-false most_mode n e
+allowed_mode : (x : Option ℕ) → number_over most_mode x ≡ false → AllowedMode x
+allowed_mode None e = tt
+allowed_mode (Some n) e = ltb-false most_mode n e
 
 allowed_time : (x : SetTime) → bad_time x ≡ false → AllowedTime x
 allowed_time SetTime.Keep e = tt
@@ -152,9 +151,9 @@ unfolding size_touches
 size_touches_allowed a f =
     record { mode = f.mode; atime = f.atime; mtime = server_keeps (λ x. AllowedTime x) (is_given a.size) a.mtime tt f.mtime; size = f.size }
 
-mode_allowed : (x : SetNumber) (old : ℕ) → AllowedMode x → old ≤ most_mode → number_set x old ≤ most_mode
-mode_allowed SetNumber.Keep old f h = h
-mode_allowed (SetNumber.To n) old f h = f
+mode_allowed : (x : Option ℕ) (old : ℕ) → AllowedMode x → old ≤ most_mode → number_set x old ≤ most_mode
+mode_allowed None old f h = h
+mode_allowed (Some n) old f h = f
 
 time_allowed : (clock : Time) (x : SetTime) (old : Time) → clock.nanoseconds < nanoseconds_end → AllowedTime x → old.nanoseconds < nanoseconds_end
     → (time_set clock x old).nanoseconds < nanoseconds_end

@@ -1,4 +1,6 @@
 -- Every call: a file that it does not address keeps its contents, and what WRITE and SETATTR make of the one that they address. Assumes nothing.
+use Rattle.std.specs.Prelude.{Option}
+use Rattle.kinds.specs.declared.object.Time.{Time}
 use mathlib.Core.Path.{◌≡◌, refl, sym, ap, ◌∙◌}
 use mathlib.Core.Logic.{◌≢◌, ⊎_elim, ◌⊎◌}
 use mathlib.Core.List.{List}
@@ -10,7 +12,6 @@ use borrow.Author.Tests.{ltb-false}
 use Rattle.kinds.specs.Numbers.{REGULAR, DIRECTORY, most_transfer_bytes}
 use Rattle.kinds.specs.declared.object.Context.{Context}
 use Rattle.kinds.specs.declared.call.Settable.{Settable}
-use Rattle.kinds.specs.declared.call.Guard.{Guard}
 use Rattle.kinds.specs.declared.call.How.{How}
 use Rattle.kinds.specs.declared.call.Arguments.{Arguments}
 use Rattle.kinds.specs.declared.call.Arguments.TheVariants as Arguments
@@ -58,7 +59,7 @@ module _ (s : Store) (g : GoodRecords s) (c : Context) (k : GoodClock c.clock) w
   write_call_lem h offset count bytes o w e = rw e (write_passed_written s g c k h offset count bytes o w (write_passed s h offset count bytes o e))
 
   -- a SETATTR that passes its checks cuts or pads the contents where it sets a size
-  pub setattr_call_lem : (h : List ℕ) (a : Settable) (w : Guard) (o : ℕ) → FitsSettable a → check_setattr s h a w ≡ passed o
+  pub setattr_call_lem : (h : List ℕ) (a : Settable) (w : Option Time) (o : ℕ) → FitsSettable a → check_setattr s h a w ≡ passed o
       → contents (setattr s c h a w).store o ≡ sized_to (contents s o) a.size
   unfolding setattr
   setattr_call_lem h a w o f e = rw e (setattr_contents s g c k h a w o f (setattr_passed s h a w o e))
@@ -75,7 +76,7 @@ module _ (s : Store) (g : GoodRecords s) (c : Context) (k : GoodClock c.clock) (
   other_handle : (h : List ℕ) (o : ℕ) → ¬ (reach s h ≡ passed p) → reach s h ≡ passed o → p ≢ o
   other_handle h o no_one e q = no_one (e ∙ ap (λ (i : ℕ). passed i) (sym q))
 
-  setattr_frame : (h : List ℕ) (a : Settable) (w : Guard) → FitsSettable a → ¬ (reach s h ≡ passed p)
+  setattr_frame : (h : List ℕ) (a : Settable) (w : Option Time) → FitsSettable a → ¬ (reach s h ≡ passed p)
       → contents (setattr s c h a w).store p ≡ contents s p
   unfolding setattr
   setattr_frame h a w f z =

@@ -1,4 +1,6 @@
 -- The edits of SETATTR, WRITE, CREATE, MKDIR, REMOVE, RMDIR, RENAME and LINK, as the contents of files show them. Assumes nothing.
+use Rattle.std.specs.Prelude.{Option, Some, None}
+use Rattle.kinds.specs.declared.object.Time.{Time}
 use mathlib.Core.Path.{◌≡◌, refl, sym, ap, ◌∙◌}
 use mathlib.Core.Logic.{◌≢◌}
 use mathlib.Core.Bool.{true}
@@ -12,10 +14,7 @@ use borrow.Author.Tests.{ltb-false}
 use Rattle.kinds.specs.Numbers.{REGULAR, DIRECTORY, most_file_bytes, most_transfer_bytes}
 use Rattle.kinds.specs.declared.object.Object.{Object}
 use Rattle.kinds.specs.declared.object.Context.{Context}
-use Rattle.kinds.specs.declared.call.SetSize.{SetSize}
-use Rattle.kinds.specs.declared.call.SetSize.TheVariants as SetSize
 use Rattle.kinds.specs.declared.call.Settable.{Settable}
-use Rattle.kinds.specs.declared.call.Guard.{Guard}
 use Rattle.spec.specs.Edits.{set_attributes, only_ctime, mtime_and_ctime, resize, with_generation, add_name, create_object, remove_name, move_name}
 use Rattle.spec.specs.Image.{Store, objects, names, blocks, object_at, name_at}
 use Rattle.spec.specs.Procedures.Attributes.{is_given, size_set, size_touches, resize_to, setattr_edit}
@@ -47,7 +46,7 @@ use Rattle.laws_contents.proofs.WriteEdit.{write_store_written, write_store_othe
 
 module _ (s : Store) (g : GoodRecords s) (c : Context) (k : GoodClock c.clock) where
   -- ---- SETATTR
-  setattr_size : (h : List ℕ) (a : Settable) (w : Guard) (o : ℕ) → SetattrPassed s h a w o → MaySize s o a.size
+  setattr_size : (h : List ℕ) (a : Settable) (w : Option Time) (o : ℕ) → SetattrPassed s h a w o → MaySize s o a.size
   setattr_size h a w o q =
       let l = q.reached.below in
       record {
@@ -73,14 +72,14 @@ module _ (s : Store) (g : GoodRecords s) (c : Context) (k : GoodClock c.clock) w
       ∙ set_attributes_contents t c.clock o (size_touches a) r.good.sound below clock fits p beside
 
   -- SETATTR cuts or pads the contents where it sets a size
-  pub setattr_contents : (h : List ℕ) (a : Settable) (w : Guard) (o : ℕ) → FitsSettable a → SetattrPassed s h a w o
+  pub setattr_contents : (h : List ℕ) (a : Settable) (w : Option Time) (o : ℕ) → FitsSettable a → SetattrPassed s h a w o
       → contents (setattr_edit s c o a) o ≡ sized_to (contents s o) a.size
   setattr_contents h a w o f q =
       let m = setattr_size h a w o q in
       attributes_set a o f m o m.below ∙ resize_to_contents s g o a.size m
 
   -- and keeps those of every other file
-  pub setattr_others : (h : List ℕ) (a : Settable) (w : Guard) (o : ℕ) → FitsSettable a → SetattrPassed s h a w o
+  pub setattr_others : (h : List ℕ) (a : Settable) (w : Option Time) (o : ℕ) → FitsSettable a → SetattrPassed s h a w o
       → (p : ℕ) → p < objects s → p ≢ o → contents (setattr_edit s c o a) p ≡ contents s p
   setattr_others h a w o f q p l d =
       let m = setattr_size h a w o q in
@@ -112,23 +111,23 @@ module _ (s : Store) (g : GoodRecords s) (c : Context) (k : GoodClock c.clock) w
   touched t h d p l m = set_attributes_contents t c.clock d mtime_and_ctime h l (clock_fits c.clock k) mtime_and_ctime_fits p m
 
   -- ---- CREATE of a name that is there: its size alone
-  pub existing_contents : (o : ℕ) (x : SetSize) → MaySize s o x → contents (existing_edit s c o x) o ≡ sized_to (contents s o) x
-  existing_contents o SetSize.Keep m = refl
-  existing_contents o (SetSize.To n) m =
-      let r = resize_to_still s g o (SetSize.To n) m in
+  pub existing_contents : (o : ℕ) (x : Option ℕ) → MaySize s o x → contents (existing_edit s c o x) o ≡ sized_to (contents s o) x
+  existing_contents o None m = refl
+  existing_contents o (Some n) m =
+      let r = resize_to_still s g o (Some n) m in
       let l : o < objects (resize s o n) = rw r.shape.objects m.below in
-      touched (resize s o n) r.good.sound o o l l ∙ resize_to_contents s g o (SetSize.To n) m
+      touched (resize s o n) r.good.sound o o l l ∙ resize_to_contents s g o (Some n) m
 
   -- and keeps the contents of every other file
-  pub existing_others : (o : ℕ) (x : SetSize) → MaySize s o x → (p : ℕ) → p < objects s → p ≢ o → contents (existing_edit s c o x) p ≡ contents s p
-  existing_others o SetSize.Keep m p l d = refl
-  existing_others o (SetSize.To n) m p l d =
-      let r = resize_to_still s g o (SetSize.To n) m in
+  pub existing_others : (o : ℕ) (x : Option ℕ) → MaySize s o x → (p : ℕ) → p < objects s → p ≢ o → contents (existing_edit s c o x) p ≡ contents s p
+  existing_others o None m p l d = refl
+  existing_others o (Some n) m p l d =
+      let r = resize_to_still s g o (Some n) m in
       touched (resize s o n) r.good.sound o p (rw r.shape.objects m.below) (rw r.shape.objects l)
-      ∙ resize_to_others s g o (SetSize.To n) m p l d
+      ∙ resize_to_others s g o (Some n) m p l d
 
   -- ---- CREATE and MKDIR of a new name
-  module _ (v : Object) (x : SetSize) (o n d : ℕ) (text : List ℕ) (fresh : FreshObject v) (sized : is_given x ≡ true → v.kind ≡ REGULAR)
+  module _ (v : Object) (x : Option ℕ) (o n d : ℕ) (text : List ℕ) (fresh : FreshObject v) (sized : is_given x ≡ true → v.kind ≡ REGULAR)
       (small : size_set x 0 ≤ most_file_bytes) (room : NewRoom s (size_set x 0) o n) (below : d < objects s) (dir : (object_at s d).kind ≡ DIRECTORY)
       (good : GoodName text) (w : Below 256 text) where
     -- the store with the new object, and its size to be set

@@ -1,7 +1,5 @@
 -- What a resize, a write and several writes make of a list of bytes. Nothing here knows a store.
-use Rattle.std.specs.Prelude.{ℕ, ◌+◌, ◌-◌, cond, List, [], ◌∷◌, ◌++◌, eqb, length, take, drop}
-use Rattle.kinds.specs.declared.call.SetSize.{SetSize}
-use Rattle.kinds.specs.declared.call.SetSize.TheVariants as SetSize
+use Rattle.std.specs.Prelude.{ℕ, ◌+◌, ◌-◌, cond, List, [], ◌∷◌, ◌++◌, eqb, length, take, drop, Option, Some, None}
 use Rattle.spec.specs.Bytes.{zeros}
 
 -- old cut to n bytes, or padded with zeros up to n
@@ -31,6 +29,6 @@ made old [] = old
 made old (w ∷ ws) = made (after old w) ws
 
 -- the contents of a file whose size a call may set
-abbrev pub sized_to : List ℕ → SetSize → List ℕ
-sized_to old SetSize.Keep = old
-sized_to old (SetSize.To n) = at_size old n
+abbrev pub sized_to : List ℕ → Option ℕ → List ℕ
+sized_to old None = old
+sized_to old (Some n) = at_size old n

@@ -1,18 +1,12 @@
 -- The argument types of RFC 1813, as readers in the order of their XDR.
-use Rattle.std.specs.Prelude.{ℕ, cond, eqb}
+use Rattle.std.specs.Prelude.{ℕ, cond, eqb, Option, Some, None}
 use Rattle.kinds.specs.Numbers.{most_handle_bytes}
 use Rattle.kinds.specs.Reading.{Read}
 use Rattle.kinds.specs.declared.object.Time.{Time}
 use Rattle.kinds.specs.declared.call.Part.{Part}
-use Rattle.kinds.specs.declared.call.SetNumber.{SetNumber}
-use Rattle.kinds.specs.declared.call.SetNumber.TheVariants as SetNumber
-use Rattle.kinds.specs.declared.call.SetSize.{SetSize}
-use Rattle.kinds.specs.declared.call.SetSize.TheVariants as SetSize
 use Rattle.kinds.specs.declared.call.SetTime.{SetTime}
 use Rattle.kinds.specs.declared.call.SetTime.TheVariants as SetTime
 use Rattle.kinds.specs.declared.call.Settable.{Settable}
-use Rattle.kinds.specs.declared.call.Guard.{Guard}
-use Rattle.kinds.specs.declared.call.Guard.TheVariants as Guard
 use Rattle.kinds.specs.declared.call.NameIn.{NameIn}
 use Rattle.kinds.specs.declared.call.How.{How}
 use Rattle.kinds.specs.declared.call.How.TheVariants as How
@@ -43,12 +37,12 @@ time = do
   done (record { seconds = seconds; nanoseconds = nanoseconds })
 
 -- set_mode3, set_uid3, set_gid3
-unfoldable pub set_number : Reader SetNumber
-set_number = optional word SetNumber.To SetNumber.Keep
+unfoldable pub set_number : Reader (Option ℕ)
+set_number = optional word Some None
 
 -- set_size3
-unfoldable pub set_size : Reader SetSize
-set_size = optional long SetSize.To SetSize.Keep
+unfoldable pub set_size : Reader (Option ℕ)
+set_size = optional long Some None
 
 -- set_atime, set_mtime: DONT_CHANGE 0, SET_TO_SERVER_TIME 1, SET_TO_CLIENT_TIME 2 with a time
 unfoldable pub set_time : Reader SetTime
@@ -71,8 +65,8 @@ settable = do
   done (record { mode = mode; uid = uid; gid = gid; size = size; atime = atime; mtime = mtime })
 
 -- sattrguard3: obj_ctime
-unfoldable pub guard : Reader Guard
-guard = optional time Guard.Ctime Guard.Absent
+unfoldable pub guard : Reader (Option Time)
+guard = optional time Some None
 
 -- createhow3: UNCHECKED 0 and GUARDED 1 with attributes, EXCLUSIVE 2 with a verifier of 8 bytes
 unfoldable pub how : Reader How

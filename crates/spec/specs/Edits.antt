@@ -1,14 +1,10 @@
 -- The edits of the store. Nothing else writes it.
-use Rattle.std.specs.Prelude.{ℕ, zero, suc, ◌+◌, ◌-◌, ◌%◌, min, max, List, [], ◌∷◌, ◌++◌, cond, eqb, ltb, get_or, take, drop, replicate}
+use Rattle.std.specs.Prelude.{ℕ, zero, suc, ◌+◌, ◌-◌, ◌%◌, min, max, List, [], ◌∷◌, ◌++◌, cond, eqb, ltb, get_or, take, drop, replicate, Option, Some, None}
 use Rattle.kinds.specs.Numbers.{file_blocks, unused_block}
 use Rattle.kinds.specs.Layout.{block_length}
 use Rattle.kinds.specs.Objects.{free_object}
 use Rattle.kinds.specs.declared.object.Time.{Time}
 use Rattle.kinds.specs.declared.object.Object.{Object}
-use Rattle.kinds.specs.declared.call.SetNumber.{SetNumber}
-use Rattle.kinds.specs.declared.call.SetNumber.TheVariants as SetNumber
-use Rattle.kinds.specs.declared.call.SetSize.{SetSize}
-use Rattle.kinds.specs.declared.call.SetSize.TheVariants as SetSize
 use Rattle.kinds.specs.declared.call.SetTime.{SetTime}
 use Rattle.kinds.specs.declared.call.SetTime.TheVariants as SetTime
 use Rattle.kinds.specs.declared.call.Settable.{Settable}
@@ -17,9 +13,9 @@ use Rattle.spec.specs.Image.{Store, block_start, object_at, put_object, name_at,
 use Rattle.spec.specs.Room.{size_of, need, held, free_blocks, namings, byte_at}
 
 -- a number that a call may set
-abbrev pub number_set : SetNumber → ℕ → ℕ
-number_set SetNumber.Keep old = old
-number_set (SetNumber.To n) old = n
+abbrev pub number_set : Option ℕ → ℕ → ℕ
+number_set None old = old
+number_set (Some n) old = n
 
 -- a time that a call may set to the clock or to its own
 abbrev pub time_set : Time → SetTime → Time → Time
@@ -52,11 +48,11 @@ set_attributes s clock o a = put_object s o (with_attributes clock a (object_at 
 -- sets ctime alone, and mtime and ctime
 abbrev pub only_ctime : Settable
 only_ctime =
-    record { mode = SetNumber.Keep; uid = SetNumber.Keep; gid = SetNumber.Keep; size = SetSize.Keep; atime = SetTime.Keep; mtime = SetTime.Keep }
+    record { mode = None; uid = None; gid = None; size = None; atime = SetTime.Keep; mtime = SetTime.Keep }
 
 abbrev pub mtime_and_ctime : Settable
 mtime_and_ctime =
-    record { mode = SetNumber.Keep; uid = SetNumber.Keep; gid = SetNumber.Keep; size = SetSize.Keep; atime = SetTime.Keep; mtime = SetTime.ToServer }
+    record { mode = None; uid = None; gid = None; size = None; atime = SetTime.Keep; mtime = SetTime.ToServer }
 
 -- an object with another verifier and flag
 unfoldable pub with_verifier : ℕ → ℕ → Object → Object

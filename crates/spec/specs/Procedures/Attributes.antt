@@ -1,18 +1,12 @@
 -- GETATTR, SETATTR and ACCESS, and the attributes that a call may set.
-use Rattle.std.specs.Prelude.{ℕ, ◌-◌, eqb, leb, ltb, Bool, true, false, ◌&&◌, ◌||◌, not, cond, List}
+use Rattle.std.specs.Prelude.{ℕ, ◌-◌, eqb, leb, ltb, Bool, true, false, ◌&&◌, ◌||◌, not, cond, List, Option, Some, None}
 use Rattle.std.specs.Int.Bits.{bit_and}
 use Rattle.kinds.specs.Numbers.{OK, INVAL, NOSPC, NOT_SYNC, nanoseconds_end, most_file_bytes, most_mode, file_rights, directory_rights}
 use Rattle.kinds.specs.declared.object.Time.{Time}
 use Rattle.kinds.specs.declared.object.Context.{Context}
-use Rattle.kinds.specs.declared.call.SetNumber.{SetNumber}
-use Rattle.kinds.specs.declared.call.SetNumber.TheVariants as SetNumber
-use Rattle.kinds.specs.declared.call.SetSize.{SetSize}
-use Rattle.kinds.specs.declared.call.SetSize.TheVariants as SetSize
 use Rattle.kinds.specs.declared.call.SetTime.{SetTime}
 use Rattle.kinds.specs.declared.call.SetTime.TheVariants as SetTime
 use Rattle.kinds.specs.declared.call.Settable.{Settable}
-use Rattle.kinds.specs.declared.call.Guard.{Guard}
-use Rattle.kinds.specs.declared.call.Guard.TheVariants as Guard
 use Rattle.spec.specs.Checked.{Checked, ◌>>=◌, ◌>>◌, refuse_if, passed}
 use Rattle.spec.specs.Edits.{set_attributes, forget_verifier, resize}
 use Rattle.spec.specs.Handles.{reach, attributes, change}
@@ -20,18 +14,18 @@ use Rattle.spec.specs.Image.{Store, object_at}
 use Rattle.spec.specs.Results.{Done, unchanged, fail_showing, fail_changing, settle, dead, changed, got_attributes, granted}
 use Rattle.spec.specs.Room.{is_directory, size_of, need, free_block_count}
 
-abbrev pub is_given : SetSize → Bool
-is_given SetSize.Keep = false
-is_given (SetSize.To n) = true
+abbrev pub is_given : Option ℕ → Bool
+is_given None = false
+is_given (Some n) = true
 
 -- the size that is given, or the old one
-abbrev pub size_set : SetSize → ℕ → ℕ
-size_set SetSize.Keep old = old
-size_set (SetSize.To n) old = n
+abbrev pub size_set : Option ℕ → ℕ → ℕ
+size_set None old = old
+size_set (Some n) old = n
 
-abbrev pub number_over : ℕ → SetNumber → Bool
-number_over most SetNumber.Keep = false
-number_over most (SetNumber.To n) = ltb most n
+abbrev pub number_over : ℕ → Option ℕ → Bool
+number_over most None = false
+number_over most (Some n) = ltb most n
 
 -- "client nanoseconds of 1,000,000,000 or more"
 abbrev pub bad_time : SetTime → Bool
@@ -65,21 +59,21 @@ size_touches a =
     }
 
 -- a file of the size that is given, where one is
-abbrev pub resize_to : Store → ℕ → SetSize → Store
-resize_to s o SetSize.Keep = s
-resize_to s o (SetSize.To n) = resize s o n
+abbrev pub resize_to : Store → ℕ → Option ℕ → Store
+resize_to s o None = s
+resize_to s o (Some n) = resize s o n
 
 unfoldable pub getattr : Store → List ℕ → Done
 getattr s h = settle s dead (reach s h) (λ o. unchanged s (got_attributes (attributes s o)))
 
 -- the guard's ctime is not the object's
-abbrev pub differs : Guard → Time → Bool
-differs Guard.Absent ctime = false
-differs (Guard.Ctime t) ctime = not (eqb t.seconds ctime.seconds && eqb t.nanoseconds ctime.nanoseconds)
+abbrev pub differs : Option Time → Time → Bool
+differs None ctime = false
+differs (Some t) ctime = not (eqb t.seconds ctime.seconds && eqb t.nanoseconds ctime.nanoseconds)
 
 -- "guard differs, NOT_SYNC; then INVAL for mode over 4,095, client nanoseconds of 1,000,000,000 or more, size on a directory, size over
 -- 8,192; then NOSPC for growth past the free blocks"
-unfoldable pub check_setattr : Store → List ℕ → Settable → Guard → Checked ℕ
+unfoldable pub check_setattr : Store → List ℕ → Settable → Option Time → Checked ℕ
 check_setattr s h a g = do
   o ← reach s h
   refuse_if (differs g (object_at s o).ctime) NOT_SYNC
@@ -96,7 +90,7 @@ setattr_edit s c o a = forget_verifier (set_attributes (resize_to s o a.size) c.
 abbrev pub edited : Store → ℕ → Store → Done
 edited s o t = record { result = changed OK (change s t o); store = t }
 
-unfoldable pub setattr : Store → Context → List ℕ → Settable → Guard → Done
+unfoldable pub setattr : Store → Context → List ℕ → Settable → Option Time → Done
 setattr s c h a g = settle s (fail_changing s h) (check_setattr s h a g) (λ o. edited s o (setattr_edit s c o a))
 
 -- "the request's bits within 0x2D for files, 0x1F for directories"

@@ -1,13 +1,12 @@
 -- LOOKUP, CREATE and MKDIR.
-use Rattle.std.specs.Prelude.{ℕ, eqb, Bool, true, false, ◌&&◌, ◌||◌, not, cond, List}
+use Rattle.std.specs.Prelude as Code
+use Rattle.std.specs.Prelude.{ℕ, eqb, Bool, true, false, ◌&&◌, ◌||◌, not, cond, List, Some, None}
 use Rattle.std.proofs.Math.Option.{Option, some, none}
 use Rattle.kinds.specs.Numbers.{NOENT, EXIST, INVAL, NOSPC, REGULAR, DIRECTORY, kept_flag}
 use Rattle.kinds.specs.Objects.{plain_object}
 use Rattle.kinds.specs.declared.object.Time.{Time}
 use Rattle.kinds.specs.declared.object.Object.{Object}
 use Rattle.kinds.specs.declared.object.Context.{Context}
-use Rattle.kinds.specs.declared.call.SetSize.{SetSize}
-use Rattle.kinds.specs.declared.call.SetSize.TheVariants as SetSize
 use Rattle.kinds.specs.declared.call.Settable.{Settable}
 use Rattle.kinds.specs.declared.call.How.{How}
 use Rattle.kinds.specs.declared.call.How.TheVariants as How
@@ -62,7 +61,7 @@ abbrev pub touch_directory : Store → Context → ℕ → Store
 touch_directory s c d = set_attributes s c.clock d mtime_and_ctime
 
 -- the new object v, of the size that is given, where one is
-unfoldable pub new_edit : Store → Context → Object → SetSize → ℕ → ℕ → ℕ → List ℕ → Store
+unfoldable pub new_edit : Store → Context → Object → Code.Option ℕ → ℕ → ℕ → ℕ → List ℕ → Store
 new_edit s c v size o n d text = touch_directory (resize_to (create_object s o n v d text) o size) c d
 
 -- the object's handle and attributes, and the directory's change
@@ -127,9 +126,9 @@ check_create s h text manner = do
   passed (d, t)
 
 -- "(one given sets mtime and ctime; ..)"
-abbrev pub existing_edit : Store → Context → ℕ → SetSize → Store
-existing_edit s c o SetSize.Keep = s
-existing_edit s c o (SetSize.To n) = set_attributes (resize s o n) c.clock o mtime_and_ctime
+abbrev pub existing_edit : Store → Context → ℕ → Code.Option ℕ → Store
+existing_edit s c o None = s
+existing_edit s c o (Some n) = set_attributes (resize s o n) c.clock o mtime_and_ctime
 
 -- a new file; EXCLUSIVE: "its 8-byte verifier kept"
 abbrev pub new_file : Time → How → Object
