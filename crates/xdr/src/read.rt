@@ -36,7 +36,7 @@ pub fn bytes(s: &[u8], c: Cursor, n: usize) -> Read<Part>
 }
 
 // An unsigned int.
-#[tactic(auto, using(crate::proofs::Fields::number_by_bytes, crate::proofs::Fields::bytes_fit), unfolding(spec::specs::Xdr::word))]
+#[tactic(auto, unfolding(spec::specs::Xdr::word, spec::specs::Xdr::number, spec::specs::Xdr::bytes))]
 pub fn word(s: &[u8], c: Cursor) -> Read<u32>
     ensures { read_of result ≡ word s.now c.at }
 {
@@ -45,7 +45,7 @@ pub fn word(s: &[u8], c: Cursor) -> Read<u32>
 }
 
 // An unsigned hyper, or 8 bytes of fixed-length opaque data as a number.
-#[tactic(auto, using(crate::proofs::Fields::number_by_bytes, crate::proofs::Fields::bytes_fit), unfolding(spec::specs::Xdr::long))]
+#[tactic(auto, unfolding(spec::specs::Xdr::long, spec::specs::Xdr::number, spec::specs::Xdr::bytes))]
 pub fn long(s: &[u8], c: Cursor) -> Read<u64>
     ensures { read_of result ≡ long s.now c.at }
 {
@@ -54,7 +54,7 @@ pub fn long(s: &[u8], c: Cursor) -> Read<u64>
 }
 
 // An enumeration of the numbers 0 to `top`.
-#[tactic(auto, using(crate::proofs::Fields::word_start), unfolding(spec::specs::Xdr::choice))]
+#[tactic(auto, unfolding(spec::specs::Xdr::choice, spec::specs::Xdr::word, spec::specs::Xdr::number))]
 pub fn choice(s: &[u8], c: Cursor, top: u32) -> Read<u32>
     ensures { read_of result ≡ choice top s.now c.at }
 {

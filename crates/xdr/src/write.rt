@@ -14,6 +14,7 @@ pub fn put_word(reply: &mut [u8], at: usize, v: u32) -> usize
 }
 
 // Words, one after the other.
+#[tactic(auto, using(crate::proofs::Wrote::wrote_none), unfolding(spec::specs::Bytes::words))]
 pub fn put_words(reply: &mut [u8], at: usize, ws: &[u32]) -> usize
     requires { at + 4 * length ws.now ≤ length reply.old }
     ensures { Wrote (4 * length ws.now) reply.old reply.new at result (words ws.now) }
