@@ -36,7 +36,7 @@ pub fn bytes(s: &[u8], c: Cursor, n: usize) -> Read<Part>
 }
 
 // An unsigned int.
-#[tactic(auto, using(crate::proofs::Fields::number_by_bytes), unfolding(spec::specs::Xdr::word))]
+#[tactic(auto, unfolding(spec::specs::Xdr::word, spec::specs::Xdr::number, spec::specs::Xdr::bytes))]
 pub fn word(s: &[u8], c: Cursor) -> Read<u32>
     ensures { read_of result ≡ word s.now c.at }
 {
@@ -45,7 +45,7 @@ pub fn word(s: &[u8], c: Cursor) -> Read<u32>
 }
 
 // An unsigned hyper, or 8 bytes of fixed-length opaque data as a number.
-#[tactic(auto, using(crate::proofs::Fields::number_by_bytes), unfolding(spec::specs::Xdr::long))]
+#[tactic(auto, unfolding(spec::specs::Xdr::long, spec::specs::Xdr::number, spec::specs::Xdr::bytes))]
 pub fn long(s: &[u8], c: Cursor) -> Read<u64>
     ensures { read_of result ≡ long s.now c.at }
 {
@@ -54,7 +54,7 @@ pub fn long(s: &[u8], c: Cursor) -> Read<u64>
 }
 
 // An enumeration of the numbers 0 to `top`.
-#[tactic(auto, unfolding(spec::specs::Xdr::choice))]
+#[tactic(auto, unfolding(spec::specs::Xdr::choice, spec::specs::Xdr::word, spec::specs::Xdr::number))]
 pub fn choice(s: &[u8], c: Cursor, top: u32) -> Read<u32>
     ensures { read_of result ≡ choice top s.now c.at }
 {
@@ -76,23 +76,25 @@ pub fn flag(s: &[u8], c: Cursor) -> Read<bool>
 }
 
 // Variable-length opaque data of at most `most` bytes, with its padding, which may be any bytes.
+#[tactic(auto, unfolding(spec::specs::Xdr::opaque))]
 pub fn opaque(s: &[u8], c: Cursor, most: usize) -> Read<Part>
     ensures { read_of result ≡ opaque most s.now c.at }
 {
     let refused = Err(BadField(c.at));
-    let Ok((n, c1)) = word(s, c) else {
+    let Ok((n, next)) = word(s, c) else {
         return refused;
     };
     let length = n as usize;
     if most < length {
         return refused;
     }
-    let rest = padding(length);
-    let Ok((_, next)) = bytes(s, c1, length + rest) else {
+    let Ok((part, next)) = bytes(s, next, length) else {
         return refused;
     };
-    let start = c1.at;
-    Ok((Part { start, length }, next))
+    let Ok((_, next)) = bytes(s, next, padding(length)) else {
+        return refused;
+    };
+    Ok((part, next))
 }
 
 // The end of the call: nothing is left over.

@@ -4,6 +4,7 @@ ghost use Rattle.spec.specs.Bytes.{words, part};
 ghost use Rattle.xdr.specs.Wrote.{Wrote};
 
 // One word.
+#[tactic(auto, using(crate::proofs::Wrote::wrote_over, laws::proofs::Words::words_length, laws::proofs::Words::words_one))]
 pub fn put_word(reply: &mut [u8], at: usize, v: u32) -> usize
     requires { at + 4 ≤ length reply.old }
     ensures { Wrote 4 reply.old reply.new at result (words (v ∷ [])) }
@@ -13,6 +14,7 @@ pub fn put_word(reply: &mut [u8], at: usize, v: u32) -> usize
 }
 
 // Words, one after the other.
+#[tactic(auto, using(crate::proofs::Wrote::wrote_none), unfolding(spec::specs::Bytes::words))]
 pub fn put_words(reply: &mut [u8], at: usize, ws: &[u32]) -> usize
     requires { at + 4 * length ws.now ≤ length reply.old }
     ensures { Wrote (4 * length ws.now) reply.old reply.new at result (words ws.now) }
@@ -25,6 +27,7 @@ pub fn put_words(reply: &mut [u8], at: usize, ws: &[u32]) -> usize
 }
 
 // The len bytes of src from `from`.
+#[tactic(auto, using(crate::proofs::Wrote::wrote_over, laws::proofs::Bytes::part_length))]
 pub fn put_bytes(reply: &mut [u8], at: usize, src: &[u8], from: usize, len: usize) -> usize
     requires len_in_bounds { at + len ≤ length reply.old }
     requires len_in_bounds_2 { from + len ≤ length src.now }
