@@ -37,13 +37,7 @@ pub fn save_time(store: &mut [u8], at: usize, t: Time)
 fn block_numbers(numbers: [u16; 16]) -> [BlockNumber; 16]
     ensures { numbers_of result ≡ numbers }
 {
-    let mut blocks = [BlockNumber(Limit::UNUSED_BLOCK); 16];
-    let mut k = 0;
-    while k < Limit::FILE_BLOCKS {
-        blocks[k] = BlockNumber(numbers[k]);
-        k += 1;
-    }
-    blocks
+    numbers.map(BlockNumber)
 }
 
 // Writes the block numbers of a record.
@@ -51,11 +45,8 @@ pub fn save_blocks(store: &mut [u8], at: usize, blocks: [BlockNumber; 16])
     requires { at + (verifier_offset - blocks_offset) ≤ length store.old }
     ensures { store.new ≡ overlay store.old at (halves_bytes file_blocks (numbers_of blocks)) }
 {
-    let mut k = 0;
-    while k < Limit::FILE_BLOCKS {
-        let r = blocks[k];
+    for (k, r) in blocks.iter().enumerate() {
         wire::put_u16(store, at + 2 * k, r.0);
-        k += 1;
     }
 }
 
@@ -100,12 +91,8 @@ pub fn save_object(store: &mut [u8], o: ObjectNumber, v: Object)
 {
     let at = object_start(store, o);
     save_head(store, at, v);
-    let atime = v.atime;
-    let mtime = v.mtime;
-    let ctime = v.ctime;
-    save_times(store, at + ObjectRecord::ATIME, atime, mtime, ctime);
-    let blocks = v.blocks;
-    save_blocks(store, at + ObjectRecord::BLOCKS, block_numbers(blocks));
+    save_times(store, at + ObjectRecord::ATIME, v.atime, v.mtime, v.ctime);
+    save_blocks(store, at + ObjectRecord::BLOCKS, block_numbers(v.blocks));
     save_verifier(store, at + ObjectRecord::VERIFIER, v.verifier, v.exclusive);
 }
 
@@ -214,10 +201,8 @@ pub fn blocks_of(store: &[u8], o: ObjectNumber) -> [BlockNumber; 16]
     ensures { numbers_of result ≡ (object_at store.now o.0).blocks }
 {
     let mut blocks = [BlockNumber(Limit::UNUSED_BLOCK); 16];
-    let mut k = 0;
-    while k < Limit::FILE_BLOCKS {
+    for k in 0..Limit::FILE_BLOCKS {
         blocks[k] = block_of(store, o, k);
-        k += 1;
     }
     blocks
 }

@@ -1,6 +1,7 @@
 -- The laws of the proofs of this crate.
 pub mod Copies
-pub mod LowFirst
+pub mod Overlaid
+pub mod Numbers
 pub mod Pairs
 pub mod Dots
 pub mod TwoWords

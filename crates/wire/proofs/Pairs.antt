@@ -3,7 +3,7 @@ use Rattle.std.proofs.Common.{◌≡◌, ℕ, ◌+◌, ◌<◌, ◌≤◌, Bool,
 use mathlib.Core.Bool.{and-true}
 use Rattle.spec.specs.Bytes.{part, same_bytes, pairs}
 use Rattle.laws.proofs.Bytes.{part_cons, part_length, same_eq, pairs_equal, pairs_bound}
-use Rattle.wire.proofs.LowFirst.{part_four}
+use Rattle.wire.proofs.Numbers.{part_four}
 
 -- one pair that differs
 pub one_differs : (a : List ℕ) (at : ℕ) (b : List ℕ) (from : ℕ) → at < length a → from < length b → get_or a at 0 ≢ get_or b from 0

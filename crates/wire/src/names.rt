@@ -8,10 +8,7 @@ pub fn is_dot(s: &[u8], at: usize, n: usize) -> bool
     requires { at + n ≤ length s.now }
     ensures { result ≡ is_dot (part s.now at n) }
 {
-    if n != 1 {
-        return false;
-    }
-    s[at] == b'.'
+    n == 1 && s[at] == b'.'
 }
 
 // Whether the n bytes from `at` are "..".
@@ -19,13 +16,7 @@ pub fn is_dot_dot(s: &[u8], at: usize, n: usize) -> bool
     requires { at + n ≤ length s.now }
     ensures { result ≡ is_dot_dot (part s.now at n) }
 {
-    if n != 2 {
-        return false;
-    }
-    if s[at] != b'.' {
-        return false;
-    }
-    s[at + 1] == b'.'
+    n == 2 && s[at] == b'.' && s[at + 1] == b'.'
 }
 
 // Whether the n bytes from `at` are "." or "..".
@@ -33,8 +24,5 @@ pub fn is_dots(s: &[u8], at: usize, n: usize) -> bool
     requires { at + n ≤ length s.now }
     ensures { result ≡ is_dots (part s.now at n) }
 {
-    if is_dot(s, at, n) {
-        return true;
-    }
-    is_dot_dot(s, at, n)
+    is_dot(s, at, n) || is_dot_dot(s, at, n)
 }

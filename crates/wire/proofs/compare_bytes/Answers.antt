@@ -1,4 +1,4 @@
-use Rattle.std.proofs.Common.{◌≡◌, ◌+◌, ◌-◌, sym, refl, ◌∙◌, zero-le, arith, rules}
+use Rattle.std.proofs.Common.{◌≡◌, ◌+◌, sym, refl, ◌∙◌, zero-le, arith, rules}
 use borrow.Author.Tests.{not-true, not-false}
 use Rattle.spec.specs.Bytes.{part}
 use Rattle.laws.proofs.Bytes.{part_length, part_snoc, same_yes, pairs_equal, first_difference, equal_further}
@@ -32,22 +32,22 @@ loop-i-preserved c = let a = c.args in
     let all = c.compare_four-four.ensures.pairs_value ∙ four_equal a.a.now (a.at + c.loop-i.i) a.b.now (a.from + c.loop-i.i) (omega arith) (omega arith) same in
     rw all (omega arith, equal_further a.a.now a.b.now a.at a.from c.loop-i.i 4 c.loop-i.invariant.1 same)
 
-pub loop-i-2-init : goal.loop-i-2-init
-loop-i-2-init c = c.loop-i.invariant
+pub loop-k-init : goal.loop-k-init
+loop-k-init c = c.loop-i.invariant.1
 
 pub returns-then-a-at : goal.returns-then-a-at
 returns-then-a-at c = let a = c.args in
-    let one = one_differs a.a.now (a.at + c.loop-i-2.i) a.b.now (a.from + c.loop-i-2.i) (omega arith) (omega arith) c.if-a-at.true in
-    let p = first_difference a.a.now a.b.now a.at a.from a.len c.loop-i-2.i 1 c.requires.len_in_bounds c.requires.len_in_bounds_2 (omega arith) c.loop-i-2.invariant.1 one.0 in
+    let one = one_differs a.a.now (a.at + c.loop-k.k) a.b.now (a.from + c.loop-k.k) (omega arith) (omega arith) c.if-a-at.true in
+    let p = first_difference a.a.now a.b.now a.at a.from a.len c.loop-k.k 1 c.requires.len_in_bounds c.requires.len_in_bounds_2 (omega arith) c.loop-k.invariant one.0 in
     record { same_value = sym p.0; pairs_value = omega (arith, p.1, one.1) }
 
-pub loop-i-2-preserved : goal.loop-i-2-preserved
-loop-i-2-preserved c = let i = c.loop-i-2.i in
+pub loop-k-preserved : goal.loop-k-preserved
+loop-k-preserved c = let i = c.loop-k.k in
     let a = c.args in
-    (omega arith, rw (part_snoc a.a.now a.at i (omega arith), part_snoc a.b.now a.from i (omega arith)) (cc))
+    rw (part_snoc a.a.now a.at i (omega arith), part_snoc a.b.now a.from i (omega arith)) (cc)
 
 pub returns : goal.returns
 returns c = let a = c.args in
-    let e : c.loop-i-2.i ≡ a.len = omega arith in
-    let same = rw e at c.loop-i-2.invariant.1 in
-    record { same_value = sym (same_yes _ _ same); pairs_value = e ∙ sym (pairs_equal _ _ same ∙ part_length a.a.now a.at a.len c.requires.len_in_bounds) }
+    let e : c.loop-k.k ≡ a.len = omega arith in
+    let same = rw e at c.loop-k.invariant in
+    record { same_value = sym (same_yes _ _ same); pairs_value = sym (pairs_equal _ _ same ∙ part_length a.a.now a.at a.len c.requires.len_in_bounds) }

@@ -8,8 +8,5 @@ invariant-loop-i l = (l.i ≤ l.len) × (part l.a l.at l.i ≡ part l.b l.from l
 abbrev pub decreases-loop-i : goal.decreases-loop-i
 decreases-loop-i l = l.len - l.i
 
-abbrev pub invariant-loop-i-2 : goal.invariant-loop-i-2
-invariant-loop-i-2 l = (l.i ≤ l.len) × (part l.a l.at l.i ≡ part l.b l.from l.i)
-
-abbrev pub decreases-loop-i-2 : goal.decreases-loop-i-2
-decreases-loop-i-2 l = l.len - l.i
+abbrev pub invariant-loop-k : goal.invariant-loop-k
+invariant-loop-k l = part l.a l.at l.k ≡ part l.b l.from l.k

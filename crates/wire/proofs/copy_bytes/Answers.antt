@@ -1,38 +1,30 @@
-use Rattle.std.proofs.Common.{◌≡◌, ◌-◌, sym, refl, ◌∙◌, zero-le, arith, length-set}
+use Rattle.std.proofs.Common.{◌≡◌, ◌+◌, ◌-◌, sym, zero-le, arith}
 use Rattle.spec.specs.Bytes.{part}
-use Rattle.laws.proofs.Bytes.{overlay_step, overlay_none, part_snoc, part_length}
+use Rattle.laws.proofs.Bytes.{overlay_none}
 use Rattle.wire.proofs.Copies.{copy_more}
+use Rattle.wire.proofs.Overlaid.{part_written}
 use Rattle.wire.proofs.copy_bytes.Goals as goal
 
 pub loop-i-init : goal.loop-i-init
 unfolding part
-loop-i-init c = (zero-le, refl, sym (overlay_none _ _))
+loop-i-init c = (zero-le, sym (overlay_none _ _))
 
 pub loop-i-preserved : goal.loop-i-preserved
 loop-i-preserved c = let a = c.args in
     let i = c.loop-i.i in (
       omega arith,
-      omega arith,
-      copy_more a.dst.now a.at a.src.now a.from i 64 _ _ (omega arith) (omega arith) c.loop-i.invariant.2 c.copy_sixty_four.ensures,
+      copy_more a.dst.now a.at a.src.now a.from i 1024 _ _ (omega arith) (omega arith) c.loop-i.invariant.1
+          (part_written _ _ _ _ a.src.now _ _ 1024 c.copy_from_slice.ensures.after (omega arith) (omega arith) (omega arith)),
     )
-
-pub loop-i-2-init : goal.loop-i-2-init
-loop-i-2-init c = (c.loop-i.invariant.0, refl, λ b l e. e)
-
-pub loop-i-2-preserved : goal.loop-i-2-preserved
-loop-i-2-preserved c = let i = c.loop-i-2.i in
-    let a = c.args in (
-      omega arith,
-      simp length-set (omega arith),
-      λ b l e.
-          rw (part_snoc a.src.now a.from i (omega arith))
-          (overlay_step b a.at _ _ i _ (omega arith) (part_length a.src.now a.from i (omega arith)) (c.loop-i-2.invariant.2 b l e)),
-    )
-
-pub shape_of-dst : goal.shape_of-dst
-shape_of-dst c = c.loop-i-2.invariant.1 ∙ c.loop-i.invariant.1
 
 pub returns : goal.returns
-returns c = let a = c.args in
-    let e : c.loop-i-2.i ≡ a.len = omega arith in
-    rw e at (c.loop-i-2.invariant.2 a.dst.now c.loop-i.invariant.1 c.loop-i.invariant.2)
+returns c = let e : c.loop-i.i ≡ c.args.len = omega arith in
+    rw e at c.loop-i.invariant.1
+
+pub returns-2 : goal.returns-2
+returns-2 c = let a = c.args in
+    let i = c.loop-i.i in
+    let e : i + (a.len - i) ≡ a.len = omega arith in
+    let last = part_written c.loop-i.dst (a.at + i) (a.at + i + c.min-n.result - (a.at + i)) c.copy_from_slice.new.self a.src.now (a.from + i) _ (a.len - i)
+    c.copy_from_slice.ensures.after (omega arith) (omega arith) (omega arith) in
+    rw e at (copy_more a.dst.now a.at a.src.now a.from i (a.len - i) _ _ (omega arith) (omega arith) c.loop-i.invariant.1 last)

@@ -1,23 +1,28 @@
-use Rattle.std.proofs.Common.{◌≡◌, ◌+◌, ◌-◌, not, eqb, get_or, sym, ◌∙◌, zero-le, arith}
+use Rattle.std.proofs.Common.{◌≡◌, ℕ, ◌+◌, ◌-◌, ◌<◌, eqb, get_or, sym, ap, ◌∙◌, arith}
 use mathlib.Core.Bool.{not-not}
+use Rattle.spec.specs.Bytes.{part}
 use Rattle.spec.specs.Check.{is_zero}
+use Rattle.laws.proofs.Bytes.{get_d_part, part_length}
 use Rattle.laws.proofs.Tests.{remember}
 use Rattle.laws.proofs.Zeros.{all_none, all_next}
 use Rattle.wire.proofs.is_zero.Goals as goal
 
-pub loop-i-init : goal.loop-i-init
+pub loop-x-init : goal.loop-x-init
 unfolding is_zero
-loop-i-init c = (zero-le, sym (all_none (λ x. eqb x 0) c.args.s.now c.args.at))
+loop-x-init c = sym (all_none (λ x. eqb x 0) c.args.s.now c.args.at)
 
-pub loop-i-preserved : goal.loop-i-preserved
-unfolding is_zero
-loop-i-preserved c = let a = c.args in
-    let x = get_or a.s.now (a.at + c.loop-i.i) 0 in (
-      omega arith,
-      remember c.loop-i.other (not (eqb x 0)) _ _ c.loop-i.invariant.1 (not-not _) ∙ sym
-          (all_next (λ x. eqb x 0) a.s.now a.at c.loop-i.i (omega arith)),
-    )
+pub loop-x-preserved : goal.loop-x-preserved
+unfolding is_zero part
+loop-x-preserved c = let s = c.args.s.now in
+    let at = c.args.at in
+    let i = c.loop-x.x-index in
+    let n = at + c.args.n - at in
+    let within : i < n = omega (arith, part_length s at n (omega arith)) in
+    remember c.loop-x.other _ _ (eqb (get_or s (at + i) 0) 0) c.loop-x.invariant (not-not _ ∙ ap (λ (x : ℕ). eqb x 0) (get_d_part s at n i within))
+    ∙ sym (all_next (λ x. eqb x 0) s at i (omega arith))
 
 pub returns : goal.returns
-returns c = let e : c.loop-i.i ≡ c.args.n = omega arith in
-    rw e at c.loop-i.invariant.1
+unfolding is_zero part
+returns c = let a = c.args in
+    let e : c.loop-x.x-index ≡ a.n = omega (arith, part_length a.s.now a.at (a.at + a.n - a.at) (omega arith)) in
+    rw e at c.loop-x.invariant

@@ -1,9 +1,8 @@
-use Rattle.std.proofs.Common.{ℕ, List, reverse, ap, ◌∙◌}
-use Rattle.spec.specs.Bytes.{overlay, bytes_of}
-use Rattle.wire.proofs.LowFirst.{written_turned}
+use Rattle.std.proofs.Common.{◌∙◌, arith}
+use Rattle.laws.proofs.Bytes.{bytes_length}
+use Rattle.wire.proofs.Numbers.{bytes_4}
+use Rattle.wire.proofs.Overlaid.{written}
 use Rattle.wire.proofs.put_u32.Goals as goal
 
 pub returns : goal.returns
-returns c = let laid : List ℕ → List ℕ = overlay c.args.s.now c.args.at in
-    c.store_word.ensures ∙ ap (λ (n : ℕ). laid (reverse (bytes_of 4 n))) c.swap_word.ensures
-    ∙ ap laid (written_turned 4 c.args.v)
+returns c = written c.args.s.now c.args.at _ _ _ (c.copy_from_slice.ensures.after ∙ c.to_be_bytes.ensures ∙ bytes_4 c.args.v) (bytes_length 4 c.args.v ∙ omega arith)

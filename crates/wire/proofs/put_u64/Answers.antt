@@ -1,10 +1,8 @@
-use Rattle.std.proofs.Common.{ap, ◌∙◌, arith}
-use Rattle.spec.specs.Bytes.{overlay}
-use Rattle.laws.proofs.Bytes.{overlay_more, bytes_length}
-use Rattle.wire.proofs.TwoWords.{two_words}
+use Rattle.std.proofs.Common.{◌∙◌, arith}
+use Rattle.laws.proofs.Bytes.{bytes_length}
+use Rattle.wire.proofs.Numbers.{bytes_8}
+use Rattle.wire.proofs.Overlaid.{written}
 use Rattle.wire.proofs.put_u64.Goals as goal
 
 pub returns : goal.returns
-returns c = let a = c.args in
-    overlay_more a.s.now a.at _ _ _ _ 4 (omega arith) (bytes_length 4 _) c.put_u32.ensures c.put_u32-2.ensures
-    ∙ ap (overlay a.s.now a.at) (two_words a.v)
+returns c = written c.args.s.now c.args.at _ _ _ (c.copy_from_slice.ensures.after ∙ c.to_be_bytes.ensures ∙ bytes_8 c.args.v) (bytes_length 8 c.args.v ∙ omega arith)

@@ -1,8 +1,7 @@
-use borrow.Author.Rules.{rules}
 use native.Mathlib.Omega.{arith}
 use native.Mathlib.Numerals.{add-one}
-use mathlib.Core.Path.{◌≡◌, refl, sym, ap, ◌∙◌}
-use Prim.Native.Nat.{ℕ, ◌+◌, ◌-◌, ◌*◌, zero-le}
+use mathlib.Core.Path.{◌≡◌, sym, ap, ◌∙◌}
+use Prim.Native.Nat.{ℕ, ◌+◌, ◌*◌}
 use lib.ListN.{get_or}
 use Rattle.kinds.specs.BlockNumbers.{numbers_of}
 use Rattle.kinds.specs.Numbers.{file_blocks}
@@ -15,28 +14,17 @@ use Rattle.store_records.proofs.object.save_blocks.Goals as goal
 
 pub loop-k-init : goal.loop-k-init
 unfolding halves_bytes
-loop-k-init c = (zero-le, search rules, refl, sym (overlay_none _ _))
-
-pub put_u16-requires : goal.put_u16-requires
-put_u16-requires c = omega arith
+loop-k-init c = sym (overlay_none _ _)
 
 pub loop-k-preserved : goal.loop-k-preserved
 unfolding halves_bytes
-loop-k-preserved c = let i = c.loop-k.invariant in
-    let a = c.args in
-    let ns = numbers_of a.blocks in (
-      omega arith,
-      i.1,
-      omega arith,
-      rw add-one
-          (overlay_more a.store.now a.at (halves_bytes c.loop-k.k ns) (bytes_of 2 (get_or ns c.loop-k.k 0)) _ _ (2 * c.loop-k.k) (omega arith)
-          (halves_length c.loop-k.k ns) i.3
-          (c.put_u16.ensures ∙ ap (λ (n : ℕ). overlay c.loop-k.store (a.at + 2 * c.loop-k.k) (bytes_of 2 n)) (numbers_at a.blocks c.loop-k.k))),
-    )
-
-pub shape_of-store : goal.shape_of-store
-shape_of-store c = c.loop-k.invariant.2
+loop-k-preserved c = let a = c.args in
+    let ns = numbers_of a.blocks in
+    rw add-one
+    (overlay_more a.store.now a.at (halves_bytes c.loop-k.k ns) (bytes_of 2 (get_or ns c.loop-k.k 0)) _ _ (2 * c.loop-k.k) (omega arith)
+    (halves_length c.loop-k.k ns) c.loop-k.invariant
+    (c.put_u16.ensures ∙ ap (λ (n : ℕ). overlay c.loop-k.store (a.at + 2 * c.loop-k.k) (bytes_of 2 n)) (numbers_at a.blocks c.loop-k.k)))
 
 pub returns : goal.returns
 returns c = let e : c.loop-k.k ≡ file_blocks = omega arith in
-    rw e at c.loop-k.invariant.3
+    rw e at c.loop-k.invariant
