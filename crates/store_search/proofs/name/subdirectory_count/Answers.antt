@@ -12,18 +12,6 @@ pub loop-i-init : goal.loop-i-init
 unfolding sum
 loop-i-init c = (c.names_start-at.ensures, zero-le, refl)
 
-pub is_subdirectory-requires-clause-shaped : goal.is_subdirectory-requires-clause-shaped
-is_subdirectory-requires-clause-shaped c = c.requires.shaped
-
-pub is_subdirectory-requires-clause-sound_names : goal.is_subdirectory-requires-clause-sound_names
-is_subdirectory-requires-clause-sound_names c = c.requires.sound_names
-
-pub is_subdirectory-requires-clause-n_bound : goal.is_subdirectory-requires-clause-n_bound
-is_subdirectory-requires-clause-n_bound c = omega arith
-
-pub is_subdirectory-requires-clause-at_value : goal.is_subdirectory-requires-clause-at_value
-is_subdirectory-requires-clause-at_value c = c.loop-i.invariant.0
-
 pub loop-i-preserved : goal.loop-i-preserved
 loop-i-preserved c = let s = c.args.store.now in
     let d = c.args.directory.0 in
