@@ -1,6 +1,5 @@
 // What a name in a call may be.
 ghost use Rattle.std.specs.Prelude.{◌≡◌, ◌+◌, ◌≤◌, length};
-ghost use Rattle.spec.specs.Bytes.{part};
 ghost use Rattle.spec.specs.Names.{good_byte, good_bytes, is_dot, is_dot_dot, is_dots};
 ghost use Rattle.spec.specs.Handles.{check_name};
 ghost use Rattle.spec.specs.Procedures.{cut};
@@ -16,17 +15,11 @@ fn good_byte(x: u8) -> bool
     x != 0 && x != b'/'
 }
 
-// Whether no byte of a part of the call is 0 or "/".
-fn good_bytes(call: &[u8], at: usize, n: usize) -> bool
-    requires { at + n ≤ length call.now }
-    ensures { result ≡ good_bytes (part call.now at n) }
+// Whether no byte is 0 or "/".
+fn good_bytes(text: &[u8]) -> bool
+    ensures { result ≡ good_bytes text.now }
 {
-    for i in 0..n {
-        if !good_byte(call[at + i]) {
-            return false;
-        }
-    }
-    true
+    text.iter().all(|&x| good_byte(x))
 }
 
 // An empty name ACCES, over 32 bytes NAMETOOLONG, with a byte 0 or "/" ACCES.
@@ -42,7 +35,7 @@ pub fn check_name(call: &[u8], name: Part) -> Result<(), Status>
     if Limit::MOST_NAME_BYTES < n {
         return Err(Status::NAMETOOLONG);
     }
-    if !good_bytes(call, start, n) {
+    if !good_bytes(&call[start..start + n]) {
         return Err(Status::ACCES);
     }
     Ok(())

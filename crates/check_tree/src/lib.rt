@@ -16,13 +16,10 @@ pub fn has_entries(store: &[u8], directory: ObjectNumber) -> bool
     requires { GoodRecords store.now }
     ensures { result ≡ has_entries store.now directory.0 }
 {
-    let total = name_count(store);
-    let mut i = 0;
-    while i < total {
+    for i in 0..name_count(store) {
         if is_in(store, NameNumber(i), directory) {
             return true;
         }
-        i += 1;
     }
     false
 }
@@ -38,10 +35,8 @@ pub fn is_within(store: &[u8], o: ObjectNumber, directory: ObjectNumber) -> bool
         return false;
     }
     let parents = parent_table(store);
-    let total = object_count(store);
     let mut at = directory.0;
-    let mut steps = 0;
-    while steps < total {
+    for _ in 0..object_count(store) {
         if at == o.0 {
             return true;
         }
@@ -50,7 +45,6 @@ pub fn is_within(store: &[u8], o: ObjectNumber, directory: ObjectNumber) -> bool
             return false;
         }
         at = parent;
-        steps += 1;
     }
     false
 }

@@ -1,3 +1,4 @@
+pub mod Counted
 pub mod Entry
 pub mod Named
 pub mod Parents

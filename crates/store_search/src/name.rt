@@ -8,7 +8,6 @@ ghost use Rattle.store_records.specs.Shaped.{Shaped, SoundNames};
 ghost use Rattle.store_search.specs.Found.{found_name};
 ghost use Rattle.store_search.specs.Parents.{ParentTable};
 
-use crate::found::one_if;
 use kinds::layout::NameRecord;
 use kinds::numbers::{Limit, NameNumber, ObjectNumber};
 use store_records::counts::{name_count, names_start};
@@ -71,7 +70,7 @@ pub fn naming_count(store: &[u8], o: ObjectNumber) -> usize
     let mut at = names_start(store);
     let mut found = 0;
     for i in 0..name_count(store) {
-        found += one_if(is_naming(store, NameNumber(i), at, o));
+        found += usize::from(is_naming(store, NameNumber(i), at, o));
         at += NameRecord::BYTES;
     }
     found
@@ -146,7 +145,7 @@ pub fn subdirectory_count(store: &[u8], directory: ObjectNumber) -> usize
     let mut at = names_start(store);
     let mut found = 0;
     for i in 0..name_count(store) {
-        found += one_if(is_subdirectory(store, NameNumber(i), at, directory));
+        found += usize::from(is_subdirectory(store, NameNumber(i), at, directory));
         at += NameRecord::BYTES;
     }
     found

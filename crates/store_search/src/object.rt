@@ -6,7 +6,6 @@ ghost use Rattle.spec.specs.Room.{is_available, available_object, available_coun
 ghost use Rattle.store_records.specs.Shaped.{Shaped};
 ghost use Rattle.store_search.specs.Found.{found_object};
 
-use crate::found::one_if;
 use kinds::numbers::{Kind, Limit, ObjectNumber};
 use store_records::counts::object_count;
 use store_records::object::{generation_of, kind_of};
@@ -40,7 +39,7 @@ pub fn available_count(store: &[u8]) -> usize
 {
     let mut found = 0;
     for i in 0..object_count(store) {
-        found += one_if(is_available(store, ObjectNumber(i)));
+        found += usize::from(is_available(store, ObjectNumber(i)));
     }
     found
 }

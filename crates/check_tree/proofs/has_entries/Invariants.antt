@@ -1,4 +1,3 @@
-use Prim.Native.Nat.{◌≤◌, ◌-◌}
 use mathlib.Core.Bool.{false}
 use mathlib.Core.Path.{◌≡◌}
 use Rattle.spec.specs.Room.{is_in}
@@ -6,7 +5,4 @@ use Rattle.spec.specs.Count.{some_below}
 use Rattle.check_tree.proofs.has_entries.Given as goal
 
 abbrev pub invariant-loop-i : goal.invariant-loop-i
-invariant-loop-i l = (l.i ≤ l.total) × (some_below l.i (is_in l.store l.directory.0) ≡ false)
-
-abbrev pub decreases-loop-i : goal.decreases-loop-i
-decreases-loop-i l = l.total - l.i
+invariant-loop-i l = some_below l.i (is_in l.store l.directory.0) ≡ false

@@ -1,6 +1,7 @@
 use borrow.Author.Tests.{eq-eqb, ne_eqb, le-leb, lt-leb}
 use Rattle.spec.specs.Handles.{check_name}
 use Rattle.laws.proofs.Bytes.{part_length}
+use Rattle.check_handles.proofs.NameBytes.{part_range}
 use Rattle.check_handles.proofs.text.check_name.Goals as goal
 
 pub returns-then-n-eq0 : goal.returns-then-n-eq0
@@ -17,6 +18,7 @@ returns-then-not-good_bytes c = rw (
   part_length _ _ _ c.requires,
   ne_eqb _ _ c.if-n-eq0.false,
   le-leb _ _ c.if-n-gt-MOST_NAME_BYTES.false,
+  ← part_range,
   ← c.good_bytes.ensures,
   c.if-not-good_bytes.true,
 )
@@ -27,6 +29,7 @@ returns c = rw (
   part_length _ _ _ c.requires,
   ne_eqb _ _ c.if-n-eq0.false,
   le-leb _ _ c.if-n-gt-MOST_NAME_BYTES.false,
+  ← part_range,
   ← c.good_bytes.ensures,
   c.if-not-good_bytes.false,
 )

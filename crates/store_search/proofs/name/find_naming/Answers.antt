@@ -3,7 +3,7 @@ use Rattle.spec.specs.Image.{names}
 use Rattle.spec.specs.Room.{is_naming}
 use Rattle.laws.proofs.Count.{lowest_more, lowest_hit}
 use native.Mathlib.Omega.{arith}
-use mathlib.Core.Path.{◌≡◌, refl, sym, ◌∙◌}
+use mathlib.Core.Path.{refl, sym, ◌∙◌}
 use Rattle.store_search.proofs.name.find_naming.Goals as goal
 
 pub loop-i-init : goal.loop-i-init
@@ -17,7 +17,3 @@ returns-then-is_naming c = let a = c.args in
 
 pub loop-i-preserved : goal.loop-i-preserved
 loop-i-preserved c = (omega arith, lowest_more _ c.loop-i.i c.loop-i.invariant.1 (sym c.is_naming.ensures ∙ c.if-is_naming.false))
-
-pub returns : goal.returns
-returns c = let e : c.loop-i.i ≡ names c.args.store.now = omega arith in
-    sym (rw e at c.loop-i.invariant.1)

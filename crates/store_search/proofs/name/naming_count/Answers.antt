@@ -1,7 +1,7 @@
 use Rattle.spec.specs.Count.{sum}
 use Rattle.spec.specs.Image.{names}
 use Rattle.spec.specs.Room.{is_naming, namings}
-use Rattle.laws.proofs.Count.{count_more}
+use Rattle.store_search.proofs.Counted.{counted}
 use native.Mathlib.Omega.{arith}
 use mathlib.Core.Path.{◌≡◌, refl}
 use Prim.Native.Nat.{zero-le}
@@ -13,12 +13,9 @@ loop-i-init c = (c.names_start-at.ensures, zero-le, refl)
 
 pub loop-i-preserved : goal.loop-i-preserved
 loop-i-preserved c = let s = c.args.store.now in
-    let o = c.args.o.0 in (
-      omega arith,
-      omega arith,
-      count_more (is_naming s o) c.loop-i.i c.loop-i.found _ _ c.loop-i.invariant.2 c.one_if-found.ensures.0
-          c.is_naming.ensures,
-    )
+    let o = c.args.o.0 in
+    let k = counted (is_naming s o) c.loop-i.i c.loop-i.found _ _ c.loop-i.invariant.2 c.loop-i.invariant.1 c.from-found.ensures c.is_naming.ensures in
+    (omega arith, k.0, k.1)
 
 pub returns : goal.returns
 unfolding namings

@@ -8,16 +8,6 @@ pub loop-n-init : goal.loop-n-init
 loop-n-init c = let s = c.args.store.now in
     rw c.name_count-n.ensures (filled_none s)
 
-pub overflow_cast-table : goal.overflow_cast-table
-overflow_cast-table c = let d = c.requires.sound_names.directory (c.loop-n.n - 1) (omega arith)
-    (sym c.is_used_name.ensures ∙ c.if-is_used_name.true) in
-    omega (arith, c.name_directory-directory.ensures, d)
-
-pub bounds-table-o : goal.bounds-table-o
-bounds-table-o c = let d = c.requires.sound_names.child (c.loop-n.n - 1) (omega arith)
-    (sym c.is_used_name.ensures ∙ c.if-is_used_name.true) in
-    omega (arith, c.name_child-child.ensures, d)
-
 pub loop-n-preserved-then-is_used_name : goal.loop-n-preserved-then-is_used_name
 loop-n-preserved-then-is_used_name c = let u = sym c.is_used_name.ensures ∙ c.if-is_used_name.true in
     let child = c.requires.sound_names.child (c.loop-n.n - 1) (omega arith) u in

@@ -22,18 +22,6 @@ pub loop-i-init : goal.loop-i-init
 unfolding sum lowest passing
 loop-i-init c = (c.names_start-at.ensures, zero-le, refl, refl)
 
-pub compare_name-record-requires-clause-at_value : goal.compare_name-record-requires-clause-at_value
-compare_name-record-requires-clause-at_value c = c.loop-i.invariant.0
-
-pub compare_name-record-requires-clause-n_bound : goal.compare_name-record-requires-clause-n_bound
-compare_name-record-requires-clause-n_bound c = c.requires.sound_names.short c.loop-i.i (omega arith)
-
-pub compare_name-record-requires-clause-length_nonzero : goal.compare_name-record-requires-clause-length_nonzero
-compare_name-record-requires-clause-length_nonzero c = omega arith
-
-pub compare_name-record-requires-clause-length_in_bounds : goal.compare_name-record-requires-clause-length_in_bounds
-compare_name-record-requires-clause-length_in_bounds c = c.requires.length_in_bounds
-
 pub overflow_add-compared : goal.overflow_add-compared
 overflow_add-compared c = let a = c.args in
     let s = a.store.now in
