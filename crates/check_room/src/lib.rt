@@ -18,7 +18,6 @@ use kinds::numbers::{Limit, NameNumber, ObjectNumber, Status};
 use store_blocks::free_block_count;
 use store_places::need;
 use store_records::object::size_of;
-use store_search::found::{FoundName, FoundObject};
 use store_search::name::find_free_name;
 use store_search::object::find_available;
 
@@ -95,12 +94,8 @@ pub fn room_for_new(
     requires size_le_most_file_bytes { size ≤ most_file_bytes }
     ensures { room_checked_of result ≡ room_for_new store.now size }
 {
-    let FoundObject::At(o) = find_available(store) else {
-        return Err(Status::NOSPC);
-    };
-    let FoundName::At(n) = find_free_name(store) else {
-        return Err(Status::NOSPC);
-    };
+    let o = find_available(store).ok_or(Status::NOSPC)?;
+    let n = find_free_name(store).ok_or(Status::NOSPC)?;
     if lacks_room(store, used, 0, size) {
         return Err(Status::NOSPC);
     }
