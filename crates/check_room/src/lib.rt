@@ -13,7 +13,6 @@ ghost use Rattle.store_blocks.specs.Blocks.{UsedMap};
 ghost use Rattle.check_room.specs.Meaning.{room_checked_of};
 
 use check_settable::size_set;
-use kinds::call::SetSize;
 use kinds::numbers::{Limit, NameNumber, ObjectNumber, Status};
 use store_blocks::free_block_count;
 use store_places::need;
@@ -42,7 +41,7 @@ pub fn lacks_room_for_size(
     store: &[u8],
     used: &[u8; Limit::MOST_BLOCKS],
     o: ObjectNumber,
-    size: SetSize,
+    size: Option<u64>,
 ) -> bool
     requires good_records { GoodRecords store.now }
     requires used_map { UsedMap store.now used.now }

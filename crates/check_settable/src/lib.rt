@@ -1,37 +1,34 @@
 // The attributes that a call may set, those that CREATE gives, and the ctime that a call may ask for.
 #![tactic(auto)]
 
-ghost use Rattle.std.specs.Prelude.{◌≡◌, ◌&&◌, eqb};
+ghost use Rattle.std.specs.Prelude.{◌≡◌};
 ghost use Rattle.spec.specs.Edits.{only_ctime};
 ghost use Rattle.spec.specs.Procedures.Attributes.{is_given, size_set, number_over, bad_time, bad_attributes, differs};
 ghost use Rattle.spec.specs.Procedures.Names.{settable_in};
 
-use kinds::call::{Guard, How, SetNumber, SetSize, SetTime, Settable};
+use kinds::call::{How, SetTime, Settable};
 use kinds::numbers::Limit;
 use kinds::object::Time;
 
 // Whether a size is given.
-pub fn is_given(size: SetSize) -> bool
+pub fn is_given(size: Option<u64>) -> bool
     ensures { result ≡ is_given size }
 {
-    matches!(size, SetSize::To(_))
+    size.is_some()
 }
 
 // The size that is given, or the old one.
-pub fn size_set(size: SetSize, old: u64) -> u64
+pub fn size_set(size: Option<u64>, old: u64) -> u64
     ensures { result ≡ size_set size old }
 {
-    match size {
-        SetSize::Keep => old,
-        SetSize::To(n) => n,
-    }
+    size.unwrap_or(old)
 }
 
 // Whether a number is given that is over the most.
-fn number_over(most: u32, number: SetNumber) -> bool
+fn number_over(most: u32, number: Option<u32>) -> bool
     ensures { result ≡ number_over most number }
 {
-    matches!(number, SetNumber::To(n) if most < n)
+    number.is_some_and(|n| most < n)
 }
 
 // Whether a time of the client is given whose nanoseconds make a second or more.
@@ -52,18 +49,11 @@ pub fn bad_attributes(a: Settable) -> bool
         || Limit::MOST_FILE_BYTES < size_set(a.size, 0)
 }
 
-// Whether two times are the same.
-fn same_time(t: Time, u: Time) -> bool
-    ensures { result ≡ eqb t.seconds u.seconds && eqb t.nanoseconds u.nanoseconds }
-{
-    t.seconds == u.seconds && t.nanoseconds == u.nanoseconds
-}
-
 // Whether the guard's ctime is not the object's.
-pub fn differs(guard: Guard, ctime: Time) -> bool
+pub fn differs(guard: Option<Time>, ctime: Time) -> bool
     ensures { result ≡ differs guard ctime }
 {
-    matches!(guard, Guard::Ctime(t) if !same_time(t, ctime))
+    guard.is_some_and(|t| t != ctime)
 }
 
 // Sets ctime alone.
@@ -71,10 +61,10 @@ pub fn only_ctime() -> Settable
     ensures { result ≡ only_ctime }
 {
     Settable {
-        mode: SetNumber::Keep,
-        uid: SetNumber::Keep,
-        gid: SetNumber::Keep,
-        size: SetSize::Keep,
+        mode: None,
+        uid: None,
+        gid: None,
+        size: None,
         atime: SetTime::Keep,
         mtime: SetTime::Keep,
     }

@@ -7,7 +7,7 @@ ghost use Rattle.spec.specs.Bytes.{overlay, bytes_of};
 ghost use Rattle.spec.specs.Image.{object_start};
 ghost use Rattle.spec.specs.Edits.{number_set, time_set, with_attributes, set_attributes, mtime_and_ctime, forget_verifier};
 
-use kinds::call::{SetNumber, SetTime, Settable};
+use kinds::call::{SetTime, Settable};
 use kinds::layout::ObjectRecord;
 use kinds::numbers::ObjectNumber;
 use kinds::object::{Object, Time};
@@ -17,13 +17,10 @@ use store_records::object::{
 };
 
 // A number that a call may set.
-pub fn number_set(a: SetNumber, old: u32) -> u32
+pub fn number_set(a: Option<u32>, old: u32) -> u32
     ensures { result ≡ number_set a old }
 {
-    match a {
-        SetNumber::Keep => old,
-        SetNumber::To(n) => n,
-    }
+    a.unwrap_or(old)
 }
 
 // A time that a call may set to the clock or to its own.

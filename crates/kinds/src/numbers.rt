@@ -4,17 +4,17 @@ ghost use Rattle.kinds.specs.Numbers.{statuses, procedures, limits, answers, mes
 
 // The number of an object, of a name record and of a block: three types, so that none is taken for another. A block number has two bytes, as an
 // object record holds it.
-#[derive(Clone, Copy)]
+#[derive(Clone, Copy, Debug, PartialEq, Eq)]
 pub struct ObjectNumber(pub usize);
 
-#[derive(Clone, Copy)]
+#[derive(Clone, Copy, Debug, PartialEq, Eq)]
 pub struct NameNumber(pub usize);
 
-#[derive(Clone, Copy)]
+#[derive(Clone, Copy, Debug, PartialEq, Eq)]
 pub struct BlockNumber(pub u16);
 
 // An NFS version 3 status, RFC 1813 section 2.6.
-#[derive(Clone, Copy)]
+#[derive(Clone, Copy, Debug, PartialEq, Eq)]
 pub struct Status(pub u32);
 
 impl Status {

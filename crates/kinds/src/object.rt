@@ -4,7 +4,7 @@ ghost use Rattle.kinds.specs.Objects.{root_object};
 
 use crate::numbers::{Kind, Limit};
 
-#[derive(Clone, Copy)]
+#[derive(Clone, Copy, PartialEq, Eq)]
 pub struct Time {
     pub seconds: u32,
     pub nanoseconds: u32,
