@@ -92,6 +92,7 @@ pub fn next_header<'a>(r: Reader<'a>) -> Read<Header>
 }
 
 // The answer to a call whose header is refused at a place: 5, 7, 8 or 9.
+#[tactic(auto, unfolding(spec::specs::Header::header_fault, spec::specs::Xdr::word, spec::specs::Xdr::number))]
 pub fn fault(call: &[u8], place: usize) -> Fault
     requires { place ≤ most_call_bytes }
     ensures { result ≡ header_fault call.now place }
@@ -109,20 +110,14 @@ pub fn fault(call: &[u8], place: usize) -> Fault
         };
     }
     let offset = place as u32;
-    let Ok((length, _)) = word(call, Cursor { at: place }) else {
-        return Fault {
-            number: Answer::HEADER,
-            offset,
-        };
-    };
-    if length as usize > Limit::MOST_CREDENTIAL_BYTES {
-        return Fault {
+    match word(call, Cursor { at: place }) {
+        Ok((length, _)) if length as usize > Limit::MOST_CREDENTIAL_BYTES => Fault {
             number: Answer::CREDENTIAL,
             offset,
-        };
-    }
-    Fault {
-        number: Answer::HEADER,
-        offset,
+        },
+        _ => Fault {
+            number: Answer::HEADER,
+            offset,
+        },
     }
 }
