@@ -10,9 +10,9 @@ ghost use Rattle.mount_call.specs.Reading.{mount_arguments_after};
 use call_end::finish;
 use kinds::call::{Cursor, Part};
 use kinds::mount::{MountArguments, MountProcedure, Row};
-use kinds::reading::{Read, place_of};
-use reader::{Reader, past};
-use rpc::header::{CallRead, next_header, procedure_of};
+use kinds::reading::Read;
+use reader::Reader;
+use rpc::header::{CallRead, call_at};
 use xdr::read::opaque;
 
 // A path, and the end of the call after it.
@@ -53,18 +53,9 @@ fn next_arguments<'a>(r: Reader<'a>, procedure: u32) -> Read<MountArguments>
     arguments_at(r.call, r.at, procedure)
 }
 
-// The call at a reader's place: the header there, and where that ends the arguments of its procedure.
-fn next_call<'a>(r: Reader<'a>) -> CallRead<MountArguments>
-    ensures { (read_of result.header ≡ header r.entry.call.now r.entry.at) × (read_of result.arguments ≡ mount_arguments_after r.entry.call.now (header r.entry.call.now r.entry.at)) }
-{
-    let header = next_header(r);
-    let arguments = next_arguments(past(r, place_of(header)), procedure_of(header));
-    CallRead { header, arguments }
-}
-
 // The call at a place of its bytes, by a reader that is made there.
 pub fn read_mount_call(call: &[u8], at: usize) -> CallRead<MountArguments>
     ensures { (read_of result.header ≡ header call.now at) × (read_of result.arguments ≡ mount_arguments_after call.now (header call.now at)) }
 {
-    next_call(reader::new(call, at))
+    call_at(reader::new(call, at), next_arguments)
 }

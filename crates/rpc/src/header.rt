@@ -1,14 +1,14 @@
 // Reads the header of a call, and says why one cannot be read.
 ghost use Rattle.std.specs.Prelude.{◌≡◌, ◌≤◌};
 ghost use Rattle.kinds.specs.Numbers.{most_call_bytes};
-ghost use Rattle.kinds.specs.Reading.{read_of};
+ghost use Rattle.kinds.specs.Reading.{place_of, read_of};
 ghost use Rattle.spec.specs.Header.{credential, call_header, header, header_fault};
 ghost use Rattle.rpc.specs.Meaning.{procedure_of};
 
 use kinds::call::{CallHeader, Credential, Cursor, Header};
 use kinds::numbers::{Answer, Fault, Limit, Message, Procedure};
-use kinds::reading::Read;
-use reader::Reader;
+use kinds::reading::{Read, place_of};
+use reader::{Reader, past};
 use xdr::read::{choice, opaque, word};
 
 // A number that no procedure has.
@@ -92,6 +92,7 @@ pub fn next_header<'a>(r: Reader<'a>) -> Read<Header>
 }
 
 // The answer to a call whose header is refused at a place: 5, 7, 8 or 9.
+#[tactic(auto, unfolding(spec::specs::Header::header_fault, spec::specs::Xdr::word, spec::specs::Xdr::number))]
 pub fn fault(call: &[u8], place: usize) -> Fault
     requires { place ≤ most_call_bytes }
     ensures { result ≡ header_fault call.now place }
@@ -109,20 +110,28 @@ pub fn fault(call: &[u8], place: usize) -> Fault
         };
     }
     let offset = place as u32;
-    let Ok((length, _)) = word(call, Cursor { at: place }) else {
-        return Fault {
-            number: Answer::HEADER,
-            offset,
-        };
-    };
-    if length as usize > Limit::MOST_CREDENTIAL_BYTES {
-        return Fault {
+    match word(call, Cursor { at: place }) {
+        Ok((length, _)) if length as usize > Limit::MOST_CREDENTIAL_BYTES => Fault {
             number: Answer::CREDENTIAL,
             offset,
-        };
+        },
+        _ => Fault {
+            number: Answer::HEADER,
+            offset,
+        },
     }
-    Fault {
-        number: Answer::HEADER,
-        offset,
-    }
+}
+
+// The call at a reader's place: the header there, and where that ends the arguments of its procedure, as `read` reads them.
+pub fn call_at<'a, A: Copy, F: Fn(Reader<'a>, u32) -> Read<A>>(
+    r: Reader<'a>,
+    read: F,
+) -> CallRead<A>
+    requires { F.IsAlwaysCallable read }
+    ensures header { read_of result.header ≡ header r.entry.call.now r.entry.at }
+    ensures arguments { F.post read (record { call = r.entry.call; at = place_of (header r.entry.call.now r.entry.at) }) (procedure_of (header r.entry.call.now r.entry.at)) result.arguments }
+{
+    let header = next_header(r);
+    let arguments = read(past(r, place_of(header)), procedure_of(header));
+    CallRead { header, arguments }
 }

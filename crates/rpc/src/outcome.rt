@@ -63,6 +63,7 @@ pub fn judge(p: Program, h: CallHeader) -> Result<(), AcceptStat>
 }
 
 // The reply to a call of another RPC version than 2.
+#[tactic(auto, unfolding(spec::specs::Rpc::denied))]
 pub fn put_denied(reply: &mut [u8], xid: u32) -> usize
     requires { 24 ≤ length reply.old }
     ensures { Wrote 24 reply.old reply.new 0 result (denied xid) }
@@ -88,6 +89,7 @@ pub fn put_head(reply: &mut [u8], xid: u32, stat: u32) -> usize
 }
 
 // The reply to a call whose procedure does not run: an accept_stat other than SUCCESS, and for PROG_MISMATCH the versions.
+#[tactic(auto, using(xdr::proofs::Wrote::sized), unfolding(spec::specs::Rpc::accepted, spec::specs::Rpc::mismatch))]
 pub fn put_stopped(reply: &mut [u8], p: Program, xid: u32, stat: u32) -> usize
     requires { 32 ≤ length reply.old }
     ensures { Wrote (length (accepted xid stat (mismatch (program_of p) stat))) reply.old reply.new 0 result (accepted xid stat (mismatch (program_of p) stat)) }

@@ -1,5 +1,4 @@
-use mathlib.Core.List.{append-nil}
-use borrow.Author.Tests.{ne_eqb, eq-eqb}
+use borrow.Author.Tests.{eq-eqb}
 use Rattle.spec.specs.Rpc.{accepted, mismatch}
 use Rattle.xdr.proofs.Wrote.{and_then, sized}
 use Rattle.rpc.proofs.outcome.put_stopped.Goals as goal
@@ -8,7 +7,3 @@ pub returns-then-stat-eq-PROG_MISMATCH : goal.returns-then-stat-eq-PROG_MISMATCH
 unfolding accepted mismatch
 returns-then-stat-eq-PROG_MISMATCH c = rw (eq-eqb _ _ c.if-stat-eq-PROG_MISMATCH.true)
     (sized _ (and_then c.put_head-next.ensures c.put_words.ensures))
-
-pub returns : goal.returns
-unfolding accepted mismatch
-returns c = rw (ne_eqb _ _ c.if-stat-eq-PROG_MISMATCH.false, append-nil) (sized _ c.put_head-next.ensures)
