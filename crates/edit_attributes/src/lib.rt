@@ -38,27 +38,14 @@ pub fn time_set(clock: Time, a: SetTime, old: Time) -> Time
 pub fn with_attributes(clock: Time, a: Settable, v: Object) -> Object
     ensures { result ≡ with_attributes clock a v }
 {
-    let mode = a.mode;
-    let uid = a.uid;
-    let gid = a.gid;
-    let atime = a.atime;
-    let mtime = a.mtime;
-    let old_atime = v.atime;
-    let old_mtime = v.mtime;
-    let blocks = v.blocks;
     Object {
-        kind: v.kind,
-        generation: v.generation,
-        mode: number_set(mode, v.mode),
-        uid: number_set(uid, v.uid),
-        gid: number_set(gid, v.gid),
-        size: v.size,
-        atime: time_set(clock, atime, old_atime),
-        mtime: time_set(clock, mtime, old_mtime),
+        mode: number_set(a.mode, v.mode),
+        uid: number_set(a.uid, v.uid),
+        gid: number_set(a.gid, v.gid),
+        atime: time_set(clock, a.atime, v.atime),
+        mtime: time_set(clock, a.mtime, v.mtime),
         ctime: clock,
-        blocks,
-        verifier: v.verifier,
-        exclusive: v.exclusive,
+        ..v
     }
 }
 
@@ -82,16 +69,11 @@ pub fn set_attributes(store: &mut [u8], clock: Time, o: ObjectNumber, a: Settabl
     requires { object_start o.0 + object_length ≤ length store.old }
     ensures { store.new ≡ set_attributes store.old clock o.0 a }
 {
-    let mode_set = a.mode;
-    let uid_set = a.uid;
-    let gid_set = a.gid;
-    let atime_set = a.atime;
-    let mtime_set = a.mtime;
-    let mode = number_set(mode_set, mode_of(store, o));
-    let uid = number_set(uid_set, uid_of(store, o));
-    let gid = number_set(gid_set, gid_of(store, o));
-    let atime = time_set(clock, atime_set, atime_of(store, o));
-    let mtime = time_set(clock, mtime_set, mtime_of(store, o));
+    let mode = number_set(a.mode, mode_of(store, o));
+    let uid = number_set(a.uid, uid_of(store, o));
+    let gid = number_set(a.gid, gid_of(store, o));
+    let atime = time_set(clock, a.atime, atime_of(store, o));
+    let mtime = time_set(clock, a.mtime, mtime_of(store, o));
     let at = object_start(store, o);
     save_owner(store, at + ObjectRecord::MODE, mode, uid, gid);
     save_times(store, at + ObjectRecord::ATIME, atime, mtime, clock);

@@ -25,11 +25,8 @@ pub fn clear_blocks(store: &mut [u8], list: [BlockNumber; 16], start: usize, end
     requires in_range { InRange (blocks store.old) (part (numbers_of list) start (end - start)) }
     ensures { store.new ≡ clear_blocks store.old (part (numbers_of list) start (end - start)) }
 {
-    let mut k = start;
-    while k < end {
-        let r = list[k];
-        clear_block(store, r);
-        k += 1;
+    for k in start..end {
+        clear_block(store, list[k]);
     }
 }
 
@@ -72,6 +69,7 @@ pub fn write_file(
     requires n_in_bounds { start + n ≤ length call.now }
     ensures { store.new ≡ write_file store.old o.0 offset (part call.now start n) }
 {
+    // A step ends where its block or the bytes end, so that no range has these steps.
     let mut done = 0;
     while done < n {
         let i = offset + done;

@@ -31,10 +31,8 @@ pub fn free_block_count(store: &[u8], map: &[u8; Limit::MOST_BLOCKS]) -> usize
 {
     let total = block_count(store);
     let mut used: u16 = 0;
-    let mut i = 0;
-    while i < total {
-        used += map[i] as u16;
-        i += 1;
+    for x in &map[..total] {
+        used += *x as u16;
     }
     total - used as usize
 }
@@ -51,10 +49,8 @@ fn all_used(store: &[u8], map: &[u8; Limit::MOST_BLOCKS], first: BlockNumber) ->
 {
     let i = first.0 as usize;
     let mut used: u8 = 0;
-    let mut j = 0;
-    while j < GROUP {
-        used += map[i + j];
-        j += 1;
+    for x in &map[i..i + GROUP] {
+        used += *x;
     }
     used as usize == GROUP
 }

@@ -14,7 +14,7 @@ pub loop-k-init : goal.loop-k-init
 unfolding clear_blocks part
 loop-k-init c = let a = c.args in
     let e : a.start - a.start ≡ 0 = omega arith in
-    (search rules, omega arith, omega arith, rw e refl)
+    (search rules, rw e refl)
 
 pub clear_block-requires : goal.clear_block-requires
 clear_block-requires c =
@@ -22,17 +22,15 @@ clear_block-requires c =
     let few : a.end ≤ length (numbers_of a.list) = rw (numbers_length a.list) (omega arith) in
     rw (numbers_at a.list c.loop-k.k)
     (next_fits a.store.now (numbers_of a.list) a.start a.end c.requires.sound few c.requires.in_range c.loop-k.k c.loop-k.store
-    c.loop-k.invariant.1 (omega arith) c.loop-k.invariant.3)
+    (omega arith) (omega arith) c.loop-k.invariant.1)
 
 pub loop-k-preserved : goal.loop-k-preserved
 loop-k-preserved c =
     let a = c.args in
     let few : a.end ≤ length (numbers_of a.list) = rw (numbers_length a.list) (omega arith) in (
       c.loop-k.invariant.0,
-      omega arith,
-      omega arith,
       cleared_next a.store.now (numbers_of a.list) a.start a.end c.requires.sound few c.requires.in_range c.loop-k.k c.loop-k.store
-          c.clear_block.new.store c.loop-k.invariant.1 (omega arith) c.loop-k.invariant.3
+          c.clear_block.new.store (omega arith) (omega arith) c.loop-k.invariant.1
           (rw (numbers_at a.list c.loop-k.k) at c.clear_block.ensures),
     )
 
@@ -41,8 +39,8 @@ shape_of-store c =
     let a = c.args in
     let few : a.end ≤ length (numbers_of a.list) = rw (numbers_length a.list) (omega arith) in
     (cleared_shape a.store.now (numbers_of a.list) a.start a.end c.requires.sound few c.requires.in_range c.loop-k.k c.loop-k.store
-    c.loop-k.invariant.1 c.loop-k.invariant.2 c.loop-k.invariant.3).long
+    (omega arith) (omega arith) c.loop-k.invariant.1).long
 
 pub returns : goal.returns
 returns c = let e : c.loop-k.k ≡ c.args.end = omega arith in
-    rw e at c.loop-k.invariant.3
+    rw e at c.loop-k.invariant.1

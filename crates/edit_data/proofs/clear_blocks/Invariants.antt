@@ -1,4 +1,4 @@
-use Prim.Native.Nat.{◌-◌, ◌≤◌}
+use Prim.Native.Nat.{◌-◌}
 use mathlib.Core.Path.{◌≡◌}
 use lib.ListN.{length}
 use Rattle.kinds.specs.BlockNumbers.{numbers_of}
@@ -8,7 +8,4 @@ use Rattle.spec.specs.Edits.{clear_blocks}
 use Rattle.edit_data.proofs.clear_blocks.Given as goal
 
 abbrev pub invariant-loop-k : goal.invariant-loop-k
-invariant-loop-k l = (length l.list ≡ file_blocks) × (l.start ≤ l.k) × (l.k ≤ l.end) × (l.store ≡ clear_blocks l.initial.store (part (numbers_of l.list) l.start (l.k - l.start)))
-
-abbrev pub decreases-loop-k : goal.decreases-loop-k
-decreases-loop-k l = l.end - l.k
+invariant-loop-k l = (length l.list ≡ file_blocks) × (l.store ≡ clear_blocks l.initial.store (part (numbers_of l.list) l.start (l.k - l.start)))

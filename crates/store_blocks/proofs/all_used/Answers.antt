@@ -1,5 +1,7 @@
-use mathlib.Core.Path.{◌≡◌}
-use Prim.Native.Nat.{◌+◌, ◌-◌, zero-le}
+use mathlib.Core.Path.{◌≡◌, ◌∙◌}
+use lib.ListN.{drop, length-take, length-drop}
+use lib.Seq.{get_or-take, get_or-drop}
+use Prim.Native.Nat.{◌+◌, ◌-◌, ◌<◌, zero-le}
 use native.Mathlib.Nat.{add-zero}
 use native.Mathlib.Omega.{arith}
 use Rattle.spec.specs.Room.{is_free_block}
@@ -7,20 +9,22 @@ use Rattle.store_blocks.specs.Blocks.{group}
 use Rattle.store_blocks.proofs.Blocks.{used_more, mark_small, all_used}
 use Rattle.store_blocks.proofs.all_used.Goals as goal
 
-pub loop-j-init : goal.loop-j-init
-loop-j-init c = (zero-le, zero-le, rw add-zero)
+pub loop-x-init : goal.loop-x-init
+loop-x-init c = (zero-le, rw add-zero)
 
-pub overflow_add-used-in-loop-j : goal.overflow_add-used-in-loop-j
-overflow_add-used-in-loop-j c = let r = c.args.first.0 + c.loop-j.j in
-    omega (arith, mark_small (is_free_block c.args.store.now r) _ (c.requires.used_map.used r (omega arith)))
-
-pub loop-j-preserved : goal.loop-j-preserved
-loop-j-preserved c = let r = c.args.first.0 + c.loop-j.j in
+pub loop-x-preserved : goal.loop-x-preserved
+loop-x-preserved c = let map = c.args.map.now in
+    let first = c.args.first.0 in
+    let n = first + group - first in
+    let j = c.loop-x.x-index in
+    let r = first + j in
     let p = is_free_block c.args.store.now in
-    let mark = c.requires.used_map.used r (omega arith) in
-    let next : c.args.first.0 + (c.loop-j.j + 1) ≡ r + 1 = omega arith in
-    (omega arith, omega (arith, mark_small (p r) _ mark), rw next (omega (arith, used_more p r c.loop-j.used _ _ c.loop-j.invariant.2 mark)))
+    let within : j < n = omega (arith, length-take n (drop first map)) in
+    let mark = get_or-take n (drop first map) j 0 within ∙ get_or-drop first map j 0 ∙ c.requires.used_map.used r (omega (arith, c.requires.group_bound)) in
+    let next : first + (j + 1) ≡ r + 1 = omega arith in
+    (omega (arith, mark_small (p r) _ mark), rw next (omega (arith, used_more p r c.loop-x.used _ _ c.loop-x.invariant.1 mark)))
 
 pub returns : goal.returns
-returns c = let e : c.loop-j.j ≡ group = omega arith in
-    all_used c.loop-j.used _ _ (rw e at c.loop-j.invariant.2)
+returns c = let e : c.loop-x.x-index ≡ group =
+    omega (arith, length-take (c.args.first.0 + group - c.args.first.0) (drop c.args.first.0 c.args.map.now), length-drop c.args.first.0 c.args.map.now, c.requires.shaped.few_blocks, c.requires.group_bound) in
+    all_used c.loop-x.used _ _ (rw e at c.loop-x.invariant.1)

@@ -7,7 +7,7 @@ use Rattle.store_blocks.proofs.Blocks.{listed_none, listed_hit, listed_miss, lis
 use borrow.Author.Tests.{eqb-true}
 use native.Mathlib.Omega.{arith}
 use mathlib.Core.Path.{refl, sym, ap, ◌∙◌}
-use Prim.Native.Nat.{◌-◌, zero-le}
+use Prim.Native.Nat.{zero-le}
 use Rattle.store_blocks.proofs.free_blocks.Goals as goal
 use Rattle.store_blocks.proofs.free_blocks.Goals.{then-is_free_block, else-is_free_block}
 
