@@ -1,12 +1,9 @@
--- A map of zeros, and the map of ones and then zeros as far as it is made. Assumes nothing.
-use mathlib.Core.Path.{◌≡◌, refl, ◌∙◌}
-use mathlib.Core.Logic.{◌≢◌, by_cases}
-use mathlib.Core.List.{List}
-use Prim.Native.Nat.{ℕ, zero, suc, ◌+◌, ◌*◌, ◌≤◌, ◌<◌}
-use native.Mathlib.Decide.{ℕ_discrete}
+-- A map of zeros, and one of ones and then zeros. Assumes nothing.
+use mathlib.Core.Path.{◌≡◌, refl}
+use mathlib.Core.List.{List, ◌++◌}
+use Prim.Native.Nat.{ℕ, zero, suc, ◌≤◌, ◌<◌}
 use native.Mathlib.Omega.{arith}
-use lib.ListN.{length, get_or, set, replicate, length-set, length-replicate}
-use lib.Seq.{get_or-set_same, get_or-set_other}
+use lib.ListN.{get_or, replicate, length-replicate}
 use Rattle.kinds.specs.Numbers.{most_name_bytes}
 use Rattle.fsck_objects.specs.Objects.{Blank, Inside}
 
@@ -18,24 +15,19 @@ zero_at (suc n) (suc i) = zero_at n i
 pub blank_of : (n : ℕ) → Blank n (replicate n 0)
 blank_of n = record { long = length-replicate n 0; zero = zero_at n }
 
--- the first n are 1 and the others 0
-pub record Filled (map : List ℕ) (n : ℕ) : Type 0 where
-  pub long : length map ≡ 2 * most_name_bytes
-  pub ones : (i : ℕ) → i < n → get_or map i 0 ≡ 1
-  pub zeros : (i : ℕ) → n ≤ i → get_or map i 0 ≡ 0
+-- n ones and then m zeros
+abbrev pub ones_then : ℕ → ℕ → List ℕ
+ones_then n m = replicate n 1 ++ replicate m 0
 
-pub filled_none : (map : List ℕ) → Blank (2 * most_name_bytes) map → Filled map 0
-filled_none map b = record { long = b.long; ones = λ i h. absurd (omega arith); zeros = λ i h. b.zero i }
+one_at : (n m i : ℕ) → i < n → get_or (ones_then n m) i 0 ≡ 1
+one_at zero m i h = absurd (omega arith)
+one_at (suc n) m zero h = refl
+one_at (suc n) m (suc i) h = one_at n m i (omega arith)
 
-pub filled_more : (map : List ℕ) (n : ℕ) → n < 2 * most_name_bytes → Filled map n → Filled (set map n 1) (n + 1)
-filled_more map n h f =
-    record {
-      long = simp length-set f.long;
-      ones = λ i l. by_cases (ℕ_discrete i n)
-          (λ (e : i ≡ n). rw e (get_or-set_same map n 1 0 (omega (arith, f.long))))
-          (λ (d : i ≢ n). get_or-set_other map n i 1 0 d ∙ f.ones i (omega arith));
-      zeros = λ i l. get_or-set_other map n i 1 0 (λ e. absurd (omega arith)) ∙ f.zeros i (omega arith);
-    }
+zero_past : (n m i : ℕ) → n ≤ i → get_or (ones_then n m) i 0 ≡ 0
+zero_past zero m i h = zero_at m i
+zero_past (suc n) m zero h = absurd (omega arith)
+zero_past (suc n) m (suc i) h = zero_past n m i (omega arith)
 
-pub filled_all : (map : List ℕ) (n : ℕ) → n ≡ most_name_bytes → Filled map n → Inside map
-filled_all map n e f = record { long = f.long; ones = λ i h. f.ones i (omega arith); zeros = λ i h. f.zeros i (omega arith) }
+pub half_ones : Inside (ones_then most_name_bytes most_name_bytes)
+half_ones = record { long = refl; ones = one_at most_name_bytes most_name_bytes; zeros = zero_past most_name_bytes most_name_bytes }

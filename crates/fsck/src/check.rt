@@ -20,11 +20,7 @@ fn inside_map() -> [u8; 64]
     ensures { Inside result }
 {
     let mut inside = [0u8; 64];
-    let mut i = 0;
-    while i < Limit::MOST_NAME_BYTES {
-        inside[i] = 1;
-        i += 1;
-    }
+    inside[0..Limit::MOST_NAME_BYTES].fill(1);
     inside
 }
 

@@ -147,12 +147,10 @@ pub fn tree_passes(
     ensures { Told result store.now (TreePasses store.now p p depths.new) }
 {
     depths[0] = 1;
-    let mut o = 0;
-    while o < p {
+    for o in 0..p {
         if !leads(store, p, parents, depths, ObjectNumber(o)) {
             return false;
         }
-        o += 1;
     }
     true
 }

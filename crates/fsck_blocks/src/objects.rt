@@ -18,10 +18,8 @@ fn sum_part(used: &[u8; Limit::MOST_BLOCKS], from: usize, n: usize) -> u8
     ensures { result ≡ sum n (λ i. get_or used.now (from + i) 0) }
 {
     let mut total = 0u8;
-    let mut i = 0;
-    while i < n {
-        total += used[from + i];
-        i += 1;
+    for mark in &used[from..from + n] {
+        total += *mark;
     }
     total
 }
@@ -33,12 +31,10 @@ fn marked(used: &[u8; Limit::MOST_BLOCKS], limit: usize) -> usize
     ensures { result ≡ sum limit (λ i. get_or used.now i 0) }
 {
     let mut total = 0;
-    let mut at = 0;
-    while at + 128 <= limit {
-        total += sum_part(used, at, 128) as usize;
-        at += 128;
+    for k in 0..limit / 128 {
+        total += sum_part(used, 128 * k, 128) as usize;
     }
-    total + sum_part(used, at, limit - at) as usize
+    total + sum_part(used, 128 * (limit / 128), limit % 128) as usize
 }
 
 // Whether every object passes and no block is used twice: then as many blocks are marked as the objects have in all. Makes the map of used
@@ -58,13 +54,11 @@ pub fn objects_pass(
     ensures { Told result store.now (ObjectsPass store.now count used.new) }
 {
     let mut total = 0;
-    let mut o = 0;
-    while o < count {
+    for o in 0..count {
         let Some(n) = object_uses(store, inside, ObjectNumber(o), limit, used) else {
             return false;
         };
         total += n;
-        o += 1;
     }
     total == marked(used, limit)
 }

@@ -53,7 +53,7 @@ text_is s at n h l =
 
 -- ---- one byte
 step_bool : (seen slash blank inside : Bool) → blank && slash ≡ false
-    → not (seen || slash || beq blank (not (not inside))) ≡ not seen && cond inside (not blank && not slash) blank
+    → not (seen || (slash || beq blank (not (not inside)))) ≡ not seen && cond inside (not blank && not slash) blank
 step_bool true slash blank inside e = refl
 step_bool false true true inside e = true_false e
 step_bool false true false true e = refl
@@ -67,7 +67,7 @@ zero_slash : (x : ℕ) → eqb x 0 && eqb x 0x2F ≡ false
 zero_slash x = by_bool (eqb x 0) (λ e. rw (eqb-true x 0 e)) (λ e. rw e)
 
 pub text_step : (inside : List ℕ) → Inside inside → (n i x : ℕ) (seen : Bool) → n ≤ most_name_bytes → i < most_name_bytes
-    → not (seen || eqb x 0x2F || beq (eqb x 0) (not (eqb (get_or inside (most_name_bytes - n + i) 0) 0)))
+    → not (seen || (eqb x 0x2F || beq (eqb x 0) (not (eqb (get_or inside (most_name_bytes - n + i) 0) 0))))
     ≡ not seen && cond (ltb i n) (good_byte x) (eqb x 0)
 unfolding good_byte
 text_step inside v n i x seen h l = rw (outside inside v n i h l) (step_bool seen (eqb x 0x2F) (eqb x 0) (ltb i n) (zero_slash x))

@@ -70,12 +70,10 @@ pub fn names_pass(
     requires inside { Inside inside.now }
     ensures { Told result store.now (NamesPass store.now count parents.new links.new head.new next.new) }
 {
-    let mut n = 0;
-    while n < count {
+    for n in 0..count {
         if !name_passes(store, inside, p, NameNumber(n), parents, links, head, next) {
             return false;
         }
-        n += 1;
     }
     true
 }

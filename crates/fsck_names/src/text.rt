@@ -18,11 +18,9 @@ fn text_passes(s: &[u8], inside: &[u8; 64], at: usize, n: usize) -> bool
 {
     let from = Limit::MOST_NAME_BYTES - n;
     let mut other = false;
-    let mut i = 0;
-    while i < Limit::MOST_NAME_BYTES {
+    for i in 0..Limit::MOST_NAME_BYTES {
         let x = s[at + i];
-        other = other | (x == 0x2F) | ((x == 0) == (inside[from + i] != 0));
-        i += 1;
+        other |= (x == 0x2F) | ((x == 0) == (inside[from + i] != 0));
     }
     !other
 }

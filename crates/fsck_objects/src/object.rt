@@ -137,12 +137,10 @@ fn mark_fours(
     requires marked_by { MarkedBy store.now o.0 used.old }
     ensures { Told result store.now (MarkedTo store.now o.0 (4 * (count / 4)) used.new) }
 {
-    let mut k = 0;
-    while k < count / 4 {
+    for k in 0..count / 4 {
         if !mark_four(store, o, count, 4 * k, limit, used) {
             return false;
         }
-        k += 1;
     }
     true
 }
@@ -161,14 +159,12 @@ fn mark_last(
     requires marked_to { MarkedTo store.now o.0 (4 * (count / 4)) used.old }
     ensures { Told result store.now (MarkedTo store.now o.0 count used.new) }
 {
-    let mut k = 4 * (count / 4);
-    while k < count {
+    for k in 4 * (count / 4)..count {
         let b = block_of(store, o, k).0 as usize;
         if b >= limit {
             return false;
         }
         used[b] = 1;
-        k += 1;
     }
     true
 }
@@ -182,10 +178,8 @@ fn past_unused(s: &[u8], inside: &[u8; 64], at: usize, n: usize) -> bool
 {
     let from = 32 - n;
     let mut other = false;
-    let mut i = 0;
-    while i < 32 {
-        other = other | ((s[at + i] != 255) & (inside[from + i] == 0));
-        i += 1;
+    for i in 0..32 {
+        other |= (s[at + i] != 255) & (inside[from + i] == 0);
     }
     !other
 }

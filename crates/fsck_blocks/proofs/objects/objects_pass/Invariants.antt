@@ -1,5 +1,5 @@
 use mathlib.Core.Path.{◌≡◌}
-use Prim.Native.Nat.{◌-◌, ◌*◌, ◌≤◌}
+use Prim.Native.Nat.{◌*◌, ◌≤◌}
 use mathlib.Core.Bool.{true}
 use lib.ListN.{length}
 use Rattle.kinds.specs.Numbers.{file_blocks}
@@ -10,7 +10,4 @@ use Rattle.fsck_objects.specs.Objects.{MarkedBy}
 use Rattle.fsck_blocks.proofs.objects.objects_pass.Given as goal
 
 abbrev pub invariant-loop-o : goal.invariant-loop-o
-invariant-loop-o l = (l.o ≤ l.count) × (l.total ≡ sum l.o (λ i. length (held l.store i))) × (l.total ≤ file_blocks * l.o) × MarkedBy l.store l.o l.used × (every l.o (good_object l.store) ≡ true)
-
-abbrev pub decreases-loop-o : goal.decreases-loop-o
-decreases-loop-o l = l.count - l.o
+invariant-loop-o l = (l.total ≡ sum l.o (λ i. length (held l.store i))) × (l.total ≤ file_blocks * l.o) × MarkedBy l.store l.o l.used × (every l.o (good_object l.store) ≡ true)

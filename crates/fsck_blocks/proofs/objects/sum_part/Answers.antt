@@ -1,23 +1,35 @@
 use native.Mathlib.Omega.{arith}
 use mathlib.Core.Path.{◌≡◌, refl}
-use Prim.Native.Nat.{◌+◌, zero-le}
+use Prim.Native.Nat.{◌+◌, ◌-◌, ◌<◌, zero-le}
 use lib.ListN.{get_or}
+use Rattle.spec.specs.Bytes.{part}
 use Rattle.spec.specs.Count.{sum}
+use Rattle.laws.proofs.Bytes.{get_d_part, part_length}
 use Rattle.laws.proofs.Count.{sum_more}
 use Rattle.fsck_blocks.proofs.objects.sum_part.Goals as goal
 
-pub loop-i-init : goal.loop-i-init
+pub loop-mark-init : goal.loop-mark-init
 unfolding sum
-loop-i-init c = (zero-le, zero-le, refl)
+loop-mark-init c = (zero-le, refl)
 
-pub overflow_add-total-in-loop-i : goal.overflow_add-total-in-loop-i
-overflow_add-total-in-loop-i c = omega (arith, c.requires.are_marks.most c.loop-i.i (omega arith))
+pub overflow_add-total : goal.overflow_add-total
+unfolding part
+overflow_add-total c = let a = c.args in
+    let i = c.loop-mark.mark-index in
+    let within : i < a.from + a.n - a.from = omega (arith, part_length a.used.now a.from (a.from + a.n - a.from) (omega arith)) in
+    omega (arith, get_d_part a.used.now a.from (a.from + a.n - a.from) i within, c.requires.are_marks.most i (omega arith))
 
-pub loop-i-preserved : goal.loop-i-preserved
-loop-i-preserved c = let a = c.args in
-    let m = c.requires.are_marks.most c.loop-i.i (omega arith) in
-    (omega arith, omega arith, omega (arith, c.loop-i.invariant.2, sum_more c.loop-i.i (λ j. get_or a.used.now (a.from + j) 0)))
+pub loop-mark-preserved : goal.loop-mark-preserved
+unfolding part
+loop-mark-preserved c = let a = c.args in
+    let i = c.loop-mark.mark-index in
+    let within : i < a.from + a.n - a.from = omega (arith, part_length a.used.now a.from (a.from + a.n - a.from) (omega arith)) in
+    let e = get_d_part a.used.now a.from (a.from + a.n - a.from) i within in
+    let m = c.requires.are_marks.most i (omega arith) in
+    (omega (arith, e, m), omega (arith, e, c.loop-mark.invariant.1, sum_more i (λ j. get_or a.used.now (a.from + j) 0)))
 
 pub returns : goal.returns
-returns c = let e : c.loop-i.i ≡ c.args.n = omega arith in
-    rw e at c.loop-i.invariant.2
+unfolding part
+returns c = let a = c.args in
+    let e : c.loop-mark.mark-index ≡ a.n = omega (arith, part_length a.used.now a.from (a.from + a.n - a.from) (omega arith)) in
+    rw e at c.loop-mark.invariant.1

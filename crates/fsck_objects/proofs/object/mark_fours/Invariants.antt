@@ -1,9 +1,6 @@
-use Prim.Native.Nat.{◌-◌, ◌*◌, ◌/◌, ◌≤◌}
+use Prim.Native.Nat.{◌*◌}
 use Rattle.fsck_objects.specs.Objects.{MarkedTo}
 use Rattle.fsck_objects.proofs.object.mark_fours.Given as goal
 
 abbrev pub invariant-loop-k : goal.invariant-loop-k
-invariant-loop-k l = (l.k ≤ l.count / 4) × MarkedTo l.store l.o.0 (4 * l.k) l.used
-
-abbrev pub decreases-loop-k : goal.decreases-loop-k
-decreases-loop-k l = l.count / 4 - l.k
+invariant-loop-k l = MarkedTo l.store l.o.0 (4 * l.k) l.used
