@@ -15,6 +15,7 @@ use results::{ObjectChange, Reply};
 use store_attributes::before;
 
 // A failure that shows the attributes of a handle's object, where there is one.
+#[tactic(auto, unfolding(spec::specs::Handles::handle_attributes, spec::specs::Results::fail_showing), using(crate::proofs::Shown::showing_shown))]
 pub fn fail_showing(store: &[u8], call: &[u8], h: Part, status: Status) -> Reply
     requires good_records { GoodRecords store.now }
     requires length_in_bounds { h.start + h.length ≤ length call.now }
@@ -40,6 +41,7 @@ pub fn unchanged(store: &[u8], o: ObjectNumber) -> ObjectChange
 }
 
 // A failure that shows a handle's object as unchanged, where there is one.
+#[tactic(auto, unfolding(spec::specs::Handles::handle_change, spec::specs::Results::fail_changing), using(crate::proofs::Shown::changing_shown))]
 pub fn fail_changing(store: &[u8], call: &[u8], h: Part, status: Status) -> Reply
     requires good_records { GoodRecords store.now }
     requires length_in_bounds { h.start + h.length ≤ length call.now }
@@ -53,6 +55,7 @@ pub fn fail_changing(store: &[u8], call: &[u8], h: Part, status: Status) -> Repl
 }
 
 // A handle's object, where there is one.
+#[tactic(auto, unfolding(spec::specs::Handles::handle_attributes), using(crate::proofs::Shown::shown_object, crate::proofs::Reach::reached_showable))]
 pub fn handle_object(store: &[u8], call: &[u8], h: Part) -> Option<ObjectNumber>
     requires good_records { GoodRecords store.now }
     requires length_in_bounds { h.start + h.length ≤ length call.now }

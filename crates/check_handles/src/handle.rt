@@ -41,6 +41,7 @@ pub fn reach(store: &[u8], call: &[u8], h: Part) -> Result<ObjectNumber, Status>
 }
 
 // The directory of a handle, or NOTDIR where the object is a file.
+#[tactic(auto, unfolding(spec::specs::Handles::reach_directory))]
 pub fn reach_directory(store: &[u8], call: &[u8], h: Part) -> Result<ObjectNumber, Status>
     requires good_records { GoodRecords store.now }
     requires length_in_bounds { h.start + h.length ≤ length call.now }
@@ -54,6 +55,7 @@ pub fn reach_directory(store: &[u8], call: &[u8], h: Part) -> Result<ObjectNumbe
 }
 
 // The file of a handle, or INVAL where the object is a directory.
+#[tactic(auto, unfolding(spec::specs::Procedures::Data::reach_regular))]
 pub fn reach_regular(store: &[u8], call: &[u8], h: Part) -> Result<ObjectNumber, Status>
     requires good_records { GoodRecords store.now }
     requires length_in_bounds { h.start + h.length ≤ length call.now }

@@ -9,6 +9,7 @@ use kinds::call::Part;
 use kinds::numbers::{Limit, Status};
 
 // Neither 0 nor "/".
+#[tactic(auto, unfolding(spec::specs::Names::good_byte))]
 fn good_byte(x: u8) -> bool
     ensures { result ≡ good_byte x }
 {

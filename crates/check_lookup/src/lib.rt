@@ -31,6 +31,7 @@ fn look_in(store: &[u8], d: ObjectNumber, call: &[u8], name: Part) -> Result<Obj
 }
 
 // The name is checked, and then looked for.
+#[tactic(auto, unfolding(spec::specs::Procedures::Names::check_in))]
 pub fn check_in(
     store: &[u8],
     d: ObjectNumber,

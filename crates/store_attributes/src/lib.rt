@@ -20,6 +20,7 @@ use store_search::name::{naming_count, subdirectory_count};
 const DIRECTORY_SIZE: u32 = 512;
 
 // The size that is shown.
+#[tactic(auto, unfolding(spec::specs::Handles::size_attribute))]
 pub fn shown_size(store: &[u8], o: ObjectNumber) -> u32
     requires good_records { GoodRecords store.now }
     requires o_bound { o.0 < objects store.now }
@@ -32,6 +33,7 @@ pub fn shown_size(store: &[u8], o: ObjectNumber) -> u32
 }
 
 // The bytes of an object's blocks.
+#[tactic(auto, unfolding(spec::specs::Handles::used_bytes))]
 pub fn used_bytes(store: &[u8], o: ObjectNumber) -> u32
     requires good_records { GoodRecords store.now }
     requires o_bound { o.0 < objects store.now }
@@ -41,6 +43,7 @@ pub fn used_bytes(store: &[u8], o: ObjectNumber) -> u32
 }
 
 // The links to an object: the names of a file, 2 and its subdirectories to a directory.
+#[tactic(auto, unfolding(spec::specs::Handles::link_count))]
 pub fn link_count(store: &[u8], o: ObjectNumber) -> u32
     requires good_records { GoodRecords store.now }
     requires o_bound { o.0 < objects store.now }
@@ -53,6 +56,7 @@ pub fn link_count(store: &[u8], o: ObjectNumber) -> u32
 }
 
 // The attributes of an object.
+#[tactic(auto, unfolding(spec::specs::Handles::attributes))]
 pub fn attributes(store: &[u8], o: ObjectNumber) -> Attributes
     requires good_records { GoodRecords store.now }
     requires o_bound { o.0 < objects store.now }
@@ -82,6 +86,7 @@ pub fn attributes(store: &[u8], o: ObjectNumber) -> Attributes
 }
 
 // The attributes that are shown of an object before a call.
+#[tactic(auto, unfolding(spec::specs::Handles::before))]
 pub fn before(store: &[u8], o: ObjectNumber) -> Before
     requires good_records { GoodRecords store.now }
     requires o_bound { o.0 < objects store.now }

@@ -4,7 +4,6 @@ use Rattle.std.proofs.Common.{rules}
 use Rattle.spec.specs.Procedures.{cut}
 use Rattle.spec.specs.Procedures.Names.{look_in}
 use Rattle.store_search.proofs.Entry.{name_found, found_ok, nothing_err}
-use Rattle.store_records.proofs.Good.{good_shaped, good_names_sound}
 use Rattle.check_lookup.proofs.look_in.Goals as goal
 
 pub returns-then-is_dot : goal.returns-then-is_dot
@@ -20,15 +19,6 @@ returns-then-is_dot_dot c = rw (
   c.if-is_dot_dot.true,
   c.parent_of.ensures,
 )
-
-pub find_name-requires-clause-shaped : goal.find_name-requires-clause-shaped
-find_name-requires-clause-shaped c = good_shaped c.args.store.now c.requires.good_records
-
-pub find_name-requires-clause-sound_names : goal.find_name-requires-clause-sound_names
-find_name-requires-clause-sound_names c = good_names_sound c.args.store.now c.requires.good_records
-
-pub find_name-requires-clause-length_in_bounds : goal.find_name-requires-clause-length_in_bounds
-find_name-requires-clause-length_in_bounds c = c.requires.length_in_bounds
 
 pub returns-in_err-n : goal.returns-in_err-n
 unfolding look_in

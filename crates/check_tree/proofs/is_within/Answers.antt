@@ -2,7 +2,7 @@ use mathlib.Core.Path.{◌≡◌, refl, sym, ap, ◌∙◌}
 use native.Mathlib.Omega.{arith}
 use borrow.Author.Tests.{eq-eqb, ne_eqb}
 use lib.Dec.{eqb}
-use Rattle.store_records.proofs.Good.{good_shaped, good_names_sound}
+use Rattle.store_records.proofs.Good.{good_shaped}
 use Rattle.store_search.proofs.Entry.{parent_below}
 use Rattle.laws.proofs.Count.{some_more, some_hit}
 use Rattle.spec.specs.Room.{parent, above}
@@ -15,9 +15,6 @@ use Rattle.check_tree.proofs.is_within.Goals as goal
 pub returns-then-not-is_directory : goal.returns-then-not-is_directory
 unfolding is_within
 returns-then-not-is_directory c = rw (← c.is_directory.ensures, c.if-not-is_directory.true)
-
-pub parent_table-parents-requires : goal.parent_table-parents-requires
-parent_table-parents-requires c = let g = c.requires.good_records in record { shaped = good_shaped _ g; sound_names = good_names_sound _ g }
 
 pub loop-init : goal.loop-init
 unfolding above iterate some_below
@@ -32,10 +29,6 @@ returns-then-at-o c = let a = c.args in
     )
     (sym (some_hit (λ k. eqb (above a.store.now k a.directory.0) a.o.0) c.loop.counter (objects a.store.now)
     (eq-eqb _ _ (sym c.loop.invariant.1 ∙ c.if-at-o.true)) (omega arith)))
-
-pub bounds-parents-at : goal.bounds-parents-at
-bounds-parents-at c = let h = good_shaped _ c.requires.good_records in
-    omega (arith, h.few_objects)
 
 pub returns-then-parent-at : goal.returns-then-parent-at
 unfolding is_within

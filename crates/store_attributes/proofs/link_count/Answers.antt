@@ -1,13 +1,7 @@
 use native.Mathlib.Omega.{arith}
 use Rattle.spec.specs.Handles.{link_count}
-use Rattle.store_records.proofs.Good.{good_shaped, good_names_sound, namings_few, subdirectories_few}
+use Rattle.store_records.proofs.Good.{namings_few, subdirectories_few}
 use Rattle.store_attributes.proofs.link_count.Goals as goal
-
-pub subdirectory_count-requires-clause-shaped : goal.subdirectory_count-requires-clause-shaped
-subdirectory_count-requires-clause-shaped c = good_shaped c.args.store.now c.requires.good_records
-
-pub subdirectory_count-requires-clause-sound_names : goal.subdirectory_count-requires-clause-sound_names
-subdirectory_count-requires-clause-sound_names c = good_names_sound c.args.store.now c.requires.good_records
 
 pub overflow_add-result : goal.overflow_add-result
 overflow_add-result c = let h = c.requires.good_records.sound.shaped in
