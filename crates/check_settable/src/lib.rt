@@ -52,7 +52,7 @@ pub fn bad_attributes(a: Settable) -> bool
         || Limit::MOST_FILE_BYTES < size_set(a.size, 0)
 }
 
-// Whether two times are the same.
+// Whether two times are the same: by field, as the definition of `differs` compares them.
 fn same_time(t: Time, u: Time) -> bool
     ensures { result ≡ eqb t.seconds u.seconds && eqb t.nanoseconds u.nanoseconds }
 {
