@@ -29,6 +29,7 @@ fn check_entry(
     requires length_in_bounds { name.start + name.length ≤ length call.now }
     ensures { entry_checked_of result ≡ check_entry store.now d.0 (cut call.now name) dots.0 }
 {
+    // check_new and check_added test "." and ".." so too: a function for it, with a contract, would be no shorter than the test.
     check_name(call, name)?;
     if is_dots(call, name) {
         return Err(dots);
@@ -36,7 +37,7 @@ fn check_entry(
     find_name(store, d, call, name).ok_or(Status::NOENT)
 }
 
-// REMOVE: "." or "..", ACCES; a directory, ACCES.
+// REMOVE: "." or "..", ACCES; a directory, ACCES. RMDIR has its first two calls too, and no more: a function for both is no plainer.
 #[tactic(auto, unfolding(spec::specs::Procedures::Removal::check_remove))]
 pub fn check_remove(
     store: &[u8],
