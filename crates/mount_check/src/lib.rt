@@ -56,14 +56,12 @@ fn sum_words(table: &[u8], at: usize, k: usize) -> usize
     let mut b = 0;
     let mut c = 0;
     let mut d = 0;
-    let mut i = 0;
-    while i < k {
+    for i in 0..k {
         let from = at + 32 * i;
         a = std::num::wrapping_add_usize(a, word_at(table, from));
         b = std::num::wrapping_add_usize(b, word_at(table, from + 8));
         c = std::num::wrapping_add_usize(c, word_at(table, from + 16));
         d = std::num::wrapping_add_usize(d, word_at(table, from + 24));
-        i += 1;
     }
     join(join(join(a, b), c), d)
 }
@@ -104,14 +102,10 @@ fn is_new_pair(table: &[u8], r: RowNumber, own: usize, digests: &[usize; Row::CO
     requires rows_pass { RowsPass table.now r.0 digests.now }
     ensures { Tells result table.now (IsNew table.now r.0) }
 {
-    let mut i = 0;
-    while i < r.0 {
-        if digests[i] == own {
-            if same_pair(table, RowNumber(i), r) {
-                return false;
-            }
+    for i in 0..r.0 {
+        if digests[i] == own && same_pair(table, RowNumber(i), r) {
+            return false;
         }
-        i += 1;
     }
     true
 }
@@ -147,12 +141,10 @@ pub fn check_table(table: &[u8]) -> bool
         return false;
     }
     let mut digests = [0usize; Row::COUNT];
-    let mut i = 0;
-    while i < Row::COUNT {
+    for i in 0..Row::COUNT {
         if !row_passes(table, RowNumber(i), &mut digests) {
             return false;
         }
-        i += 1;
     }
     true
 }
