@@ -12,7 +12,7 @@ ghost use Rattle.mount_act.specs.Acts.{Acts, Mountable};
 use check_handles::handle::Reached;
 use kinds::call::Part;
 use kinds::mount::MountArguments;
-use mount_edit::{Added, add_pair, remove_host, remove_pair};
+use mount_edit::{add_pair, remove_host, remove_pair};
 use mount_path::mount_point;
 use mount_results::MountReply;
 
@@ -30,10 +30,9 @@ fn mount(store: &[u8], table: &mut [u8], host: u32, call: &[u8], path: Part) -> 
         Reached::At(o) => o,
         Reached::Refused(status) => return MountReply::Failed(status),
     };
-    let added = add_pair(table, host, call, path);
-    match added {
-        Added::Done => MountReply::Mounted(o),
-        Added::Refused(status) => MountReply::Failed(status),
+    match add_pair(table, host, call, path) {
+        Ok(()) => MountReply::Mounted(o),
+        Err(status) => MountReply::Failed(status),
     }
 }
 

@@ -1,5 +1,4 @@
 use mathlib.Core.Path.{◌≡◌, refl, ap, ◌∙◌}
-use Prim.Native.Nat.{◌-◌, zero-le}
 use native.Mathlib.Omega.{arith}
 use native.Mathlib.Numerals.{add-one}
 use Rattle.kinds.specs.Mount.{rows}
@@ -9,14 +8,14 @@ use Rattle.mount_edit.proofs.remove_host.Goals as goal
 
 pub loop-i-init : goal.loop-i-init
 unfolding strike_rows
-loop-i-init c = (zero-le, refl, c.requires)
+loop-i-init c = (refl, c.requires)
 
 pub loop-i-preserved : goal.loop-i-preserved
 unfolding strike_rows
 loop-i-preserved c = let a = c.args in
-    (omega arith, rw add-one (c.strike_row.ensures ∙ ap (λ (t : Table). strike_row t a.host c.loop-i.i) c.loop-i.invariant.1), search rules)
+    (rw add-one (c.strike_row.ensures ∙ ap (λ (t : Table). strike_row t a.host c.loop-i.i) c.loop-i.invariant.0), search rules)
 
 pub returns : goal.returns
 unfolding remove_host
 returns c = let e : c.loop-i.i ≡ rows = omega arith in
-    rw e at c.loop-i.invariant.1
+    rw e at c.loop-i.invariant.0

@@ -8,16 +8,16 @@ use Rattle.mount_edit.proofs.remove_pair.Goals as goal
 
 pub returns-in_default : goal.returns-in_default
 unfolding remove_pair
-returns-in_default c = rw (← c.find_pair-found.ensures, c.in_default.is)
+returns-in_default c = rw (← c.find_pair.ensures, c.in_default.is)
 
 pub clear_row-requires : goal.clear_row-requires
 unfolding find_pair
 clear_row-requires c = let a = c.args in
     let p = lowest_passes (has_pair a.table.now a.host (cut a.call.now a.path)) rows _
-    (sym c.find_pair-found.ensures ∙ ap found_row c.in-At.is) in
+    (sym c.find_pair.ensures ∙ ap found_row c.in-Some.is) in
     record { table_len = c.requires.table_len; r_lt_rows = p.below }
 
-pub returns : goal.returns
+pub returns-in-Some : goal.returns-in-Some
 unfolding remove_pair
-returns c = rw (← c.find_pair-found.ensures, c.in-At.is)
+returns-in-Some c = rw (← c.find_pair.ensures, c.in-Some.is)
     c.clear_row.ensures
