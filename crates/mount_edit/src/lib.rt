@@ -35,6 +35,7 @@ pub fn available_row(table: &[u8]) -> Option<RowNumber>
 }
 
 // Adds a pair that is not there, or answers SERVERFAULT where no row is free.
+#[tactic(auto, unfolding(mount_spec::specs::Table::add_pair, mount_spec::specs::Table::available_row, mount_spec::specs::Table::find_pair))]
 pub fn add_pair(table: &mut [u8], host: u32, call: &[u8], path: Part) -> Result<(), Status>
     requires table_len { length table.old ≡ table_length }
     requires length_in_bounds { path.start + path.length ≤ length call.now }
@@ -52,6 +53,7 @@ pub fn add_pair(table: &mut [u8], host: u32, call: &[u8], path: Part) -> Result<
 }
 
 // Strikes a pair, where it is there.
+#[tactic(auto, unfolding(mount_spec::specs::Table::remove_pair, mount_spec::specs::Table::find_pair))]
 pub fn remove_pair(table: &mut [u8], host: u32, call: &[u8], path: Part)
     requires table_len { length table.old ≡ table_length }
     requires length_in_bounds { path.start + path.length ≤ length call.now }
@@ -64,6 +66,7 @@ pub fn remove_pair(table: &mut [u8], host: u32, call: &[u8], path: Part)
 }
 
 // Makes row r free where it is of a host.
+#[tactic(auto, unfolding(mount_spec::specs::Table::strike_row))]
 fn strike_row(table: &mut [u8], host: u32, r: RowNumber)
     requires table_len { length table.old ≡ table_length }
     requires r_lt_rows { r.0 < rows }
@@ -75,6 +78,7 @@ fn strike_row(table: &mut [u8], host: u32, r: RowNumber)
 }
 
 // Strikes all pairs of a host.
+#[tactic(auto, unfolding(mount_spec::specs::Table::strike_rows, mount_spec::specs::Table::remove_host))]
 pub fn remove_host(table: &mut [u8], host: u32)
     requires { length table.old ≡ table_length }
     ensures { table.new ≡ remove_host table.old host }

@@ -69,6 +69,7 @@ fn walk_path(store: &[u8], call: &[u8], path: Part) -> Result<ObjectNumber, Stat
 }
 
 // Whether a path starts with a slash.
+#[tactic(auto, unfolding(mount_spec::specs::Path::starts_with_slash, spec::specs::Bytes::part))]
 fn starts_with_slash(call: &[u8], path: Part) -> bool
     requires { path.start + path.length ≤ length call.now }
     ensures { result ≡ starts_with_slash (cut call.now path) }

@@ -1,14 +1,9 @@
 use mathlib.Core.Path.{◌≡◌}
 use Prim.Native.Nat.{suc, ◌-◌}
 use native.Mathlib.Omega.{arith}
-use Rattle.spec.specs.Bytes.{part}
 use Rattle.laws.proofs.Bytes.{part_cons}
 use Rattle.mount_spec.specs.Path.{starts_with_slash}
 use Rattle.mount_path.proofs.starts_with_slash.Goals as goal
-
-pub returns-else-path-ne0 : goal.returns-else-path-ne0
-unfolding starts_with_slash part
-returns-else-path-ne0 c = rw c.if-path-ne0.false
 
 pub returns-then-path-ne0 : goal.returns-then-path-ne0
 unfolding starts_with_slash
