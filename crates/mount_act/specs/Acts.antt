@@ -1,12 +1,18 @@
 -- What a procedure of MOUNT leaves.
-use Rattle.std.specs.Prelude.{◌≡◌}
+use Rattle.std.specs.Prelude.{◌≡◌, Result, Ok, Err}
+use Rattle.kinds.specs.declared.numbers.ObjectNumber.{ObjectNumber}
+use Rattle.kinds.specs.declared.numbers.Status.{Status}
 use Rattle.spec.specs.Image.{Store}
 use Rattle.results.specs.Writable.{Showable}
 use Rattle.mount_spec.specs.Procedures.{MountDone}
 use Rattle.mount_spec.specs.Table.{Table}
 use Rattle.mount_results.specs.Meaning.{result_of}
 use Rattle.mount_results.specs.declared.MountReply.{MountReply}
-use Rattle.mount_results.specs.declared.MountReply.TheVariants as MountReply
+
+-- the answer to MNT
+abbrev pub reply_of : Result ObjectNumber Status → MountReply
+reply_of (Ok o) = MountReply.Mounted o
+reply_of (Err status) = MountReply.Failed status
 
 -- an answer and a table are what a procedure gives
 pub record Acts (d : MountDone) (r : MountReply) (t : Table) : Type 0 where

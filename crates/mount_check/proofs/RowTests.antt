@@ -1,7 +1,5 @@
 -- A row as the code finds it: whether it is used, its digest, and whether it passes by itself, test by test. Assumes nothing.
-use Rattle.std.proofs.Common.{◌≡◌, ℕ, zero, suc, ◌+◌, ◌-◌, ◌<◌, ◌≤◌, true, false, ◌&&◌, eqb, leb, List, length, get_or, arith, eq-eqb, ne_eqb, le-leb}
-use mathlib.Core.Bool.{and-false}
-use borrow.Author.Tests.{lt-leb}
+use Rattle.std.proofs.Common.{◌≡◌, ℕ, zero, suc, ◌+◌, ◌-◌, ◌<◌, ◌≤◌, true, false, ◌&&◌, eqb, leb, List, length, get_or, arith, eq-eqb, ne_eqb}
 use Rattle.kinds.specs.Mount.{most_path_bytes, path_offset}
 use Rattle.spec.specs.Bytes.{part}
 use Rattle.spec.specs.Check.{is_zero}
@@ -41,19 +39,8 @@ module _ (t : Table) (r n : ℕ) (m : n ≡ path_length t r) where
   unfolding good_row
   free_zero place p u = rw (u, ← p) (zero_add t place path_offset most_path_bytes)
 
-  pub long_path : most_path_bytes < n → good_used_row t r ≡ false
-  unfolding good_used_row
-  long_path h = rw (← m, lt-leb n most_path_bytes h)
-
-  module _ (place : ℕ) (p : place ≡ row_start r) (l : place + path_offset < length t) (some : 1 ≤ n) where
-    pub no_slash : (get_or t (place + path_offset) 0 ≡ slash → ⊥) → good_used_row t r ≡ false
-    unfolding good_used_row row_at
-    no_slash d =
-        rw (← m, ← p, starts t (place + path_offset) n some l, ne_eqb (get_or t (place + path_offset) 0) slash d, and-false (leb n most_path_bytes))
-
-    -- else the bytes after the path decide
-    pub padding_decides : n ≤ most_path_bytes → get_or t (place + path_offset) 0 ≡ slash
-        → is_zero (part t (place + path_offset + n) (most_path_bytes - n)) ≡ good_used_row t r
-    unfolding good_used_row row_at
-    padding_decides h e =
-        rw (← m, ← p, starts t (place + path_offset) n some l, eq-eqb (get_or t (place + path_offset) 0) slash e, le-leb n most_path_bytes h)
+  -- a used row passes by three tests
+  pub used_tests : (place : ℕ) → place ≡ row_start r → place + path_offset < length t → 1 ≤ n
+      → good_used_row t r ≡ leb n most_path_bytes && eqb (get_or t (place + path_offset) 0) slash && is_zero (part t (place + path_offset + n) (most_path_bytes - n))
+  unfolding good_used_row row_at
+  used_tests place p l some = rw (← m, ← p, starts t (place + path_offset) n some l)

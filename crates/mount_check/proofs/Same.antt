@@ -1,15 +1,13 @@
 -- Rows with one host and one path: how they are found, and that they have one digest. Assumes nothing.
-use Rattle.std.proofs.Common.{◌≡◌, ℕ, zero, suc, ◌+◌, ◌-◌, ◌*◌, ◌%◌, ◌^◌, ◌<◌, ◌≤◌, Bool, true, false, List, ◌++◌, length, sym, refl, ap, ◌∙◌, ap₂, arith, eq-eqb, ne_eqb}
-use mathlib.Core.Bool.{and-false}
+use Rattle.std.proofs.Common.{◌≡◌, ℕ, zero, suc, ◌+◌, ◌-◌, ◌*◌, ◌%◌, ◌^◌, ◌<◌, ◌≤◌, true, List, ◌++◌, length, sym, refl, ap, ◌∙◌, ap₂, arith}
 use Rattle.kinds.specs.Mount.{rows, most_path_bytes, path_offset, table_length}
-use Rattle.spec.specs.Bytes.{part, zeros, same_bytes}
+use Rattle.spec.specs.Bytes.{part, zeros}
 use Rattle.laws.proofs.Bytes.{part_part}
 use Rattle.wire.specs.LowFirst.{low_first}
 use Rattle.wire.specs.Hash.{word_at, joined}
-use Rattle.mount_spec.specs.Table.{Table, row_start, path_length, row_at, is_used_row, is_of_host, good_row}
+use Rattle.mount_spec.specs.Table.{Table, row_start, path_length, row_at, is_used_row, good_row}
 use Rattle.mount_laws.proofs.Good.{row_short, row_exact, row_padded}
 use Rattle.mount_laws.proofs.Pairs.{pair_has, has_pair_lem}
-use Rattle.mount_rows.proofs.Pairs.{other_host, other_length, by_bytes}
 use Rattle.mount_check.specs.Digest.{lane, summed, groups_of, digest}
 use Rattle.mount_check.specs.Rows.{is_same_pair}
 
@@ -33,24 +31,6 @@ module _ (t : Table) where
   same_back r q w e =
       let a = pair_has t _ _ q e in
       has_pair_lem t _ _ r (record { used = w.used; host = sym a.host; long = sym (ap length a.path ∙ w.exact); path = sym a.path })
-
--- ---- whether row q has the pair of row r, test by test
-module _ (t : Table) (r q : ℕ) where
-  pub hosts_differ : ((row_at t q).host ≡ (row_at t r).host → ⊥) → is_same_pair t r q ≡ false
-  unfolding is_of_host
-  hosts_differ d = other_host t _ _ q (rw (ne_eqb (row_at t q).host (row_at t r).host d) (and-false (is_used_row t q)))
-
-  pub lengths_differ : UsedRow t r → (path_length t q ≡ path_length t r → ⊥) → is_same_pair t r q ≡ false
-  lengths_differ w d = other_length t _ _ q (λ e. d (e ∙ w.exact))
-
-  -- else the bytes decide
-  pub bytes_decide : UsedRow t r → (at from n : ℕ) (same : Bool) → at ≡ row_start q → from ≡ row_start r → (row_at t q).host ≡ (row_at t r).host
-      → n ≡ path_length t r → path_length t q ≡ n → same ≡ same_bytes (part t (at + path_offset) n) (part t (from + path_offset) n) → same ≡ is_same_pair t r q
-  unfolding is_of_host is_used_row row_at
-  bytes_decide w at from n same a b h m k e =
-      (rw (a, b, m) at e)
-      ∙ by_bytes t (row_at t r).host (row_at t r).path q (path_length t r)
-      (rw (k ∙ m, w.used) (eq-eqb (row_at t q).host (row_at t r).host h)) (k ∙ m) w.exact
 
 -- ---- equal bytes have equal sums of words
 module _ (b : List ℕ) (at from n : ℕ) (e : part b at n ≡ part b from n) where

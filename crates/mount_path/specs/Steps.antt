@@ -1,10 +1,10 @@
 -- The steps of a walk, as the code takes them.
-use Rattle.std.specs.Prelude.{ℕ, ◌+◌, ◌-◌, ◌≤◌, ◌<◌, ◌≡◌, List, [], ◌∷◌}
+use Rattle.std.specs.Prelude.{ℕ, ◌+◌, ◌-◌, ◌≤◌, ◌<◌, ◌≡◌, List, [], ◌∷◌, Result, Ok, Err}
 use Rattle.spec.specs.Bytes.{part}
 use Rattle.spec.specs.Checked.{Checked, passed}
 use Rattle.spec.specs.Image.{Store, objects}
-use Rattle.check_handles.specs.declared.handle.Reached.{Reached}
-use Rattle.check_handles.specs.declared.handle.Reached.TheVariants as Reached
+use Rattle.kinds.specs.declared.numbers.ObjectNumber.{ObjectNumber}
+use Rattle.kinds.specs.declared.numbers.Status.{Status}
 use Rattle.mount_spec.specs.Path.{before, components, enter}
 
 -- the object of a component in object o; an empty component is skipped
@@ -13,9 +13,9 @@ entered s o [] = passed o
 entered s o (x ∷ xs) = enter s o (x ∷ xs)
 
 -- what was reached is an object of the store
-abbrev pub InStore : Store → Reached → Type 0
-InStore s (Reached.At o) = o.0 < objects s
-InStore s (Reached.Refused status) = Unit {0}
+abbrev pub InStore : Store → Result ObjectNumber Status → Type 0
+InStore s (Ok o) = o.0 < objects s
+InStore s (Err status) = Unit {0}
 
 -- the component from `from` ends at `at`: a path that ends at `end` goes on behind that, where it goes on
 pub record Component (call : List ℕ) (from end at : ℕ) : Type 0 where

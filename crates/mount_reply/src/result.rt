@@ -55,10 +55,8 @@ fn put_mounts(reply: &mut [u8], at: usize, table: &[u8]) -> usize
     ensures { Wrote (length (mounts_bytes table.now rows ++ words (0 ∷ []))) reply.old reply.new at result (mounts_bytes table.now rows ++ words (0 ∷ [])) }
 {
     let mut next = at;
-    let mut i = 0;
-    while i < Row::COUNT {
+    for i in 0..Row::COUNT {
         next = put_used(reply, next, table, RowNumber(i));
-        i += 1;
     }
     put_word(reply, next, 0)
 }

@@ -18,6 +18,7 @@ pub fn row_place(r: RowNumber) -> usize
 }
 
 // The host of row r.
+#[tactic(auto, unfolding(mount_spec::specs::Table::row_at))]
 pub fn host_of(table: &[u8], r: RowNumber) -> u32
     requires table_len { length table.now ≡ table_length }
     requires r_lt_rows { r.0 < rows }
@@ -27,6 +28,7 @@ pub fn host_of(table: &[u8], r: RowNumber) -> u32
 }
 
 // The path length that row r states; 0 where it is free.
+#[tactic(auto, unfolding(mount_spec::specs::Table::path_length))]
 pub fn path_length(table: &[u8], r: RowNumber) -> usize
     requires table_len { length table.now ≡ table_length }
     requires r_lt_rows { r.0 < rows }
@@ -36,6 +38,7 @@ pub fn path_length(table: &[u8], r: RowNumber) -> usize
 }
 
 // Whether row r is used.
+#[tactic(auto, unfolding(mount_spec::specs::Table::is_used_row))]
 pub fn is_used(table: &[u8], r: RowNumber) -> bool
     requires table_len { length table.now ≡ table_length }
     requires r_lt_rows { r.0 < rows }
@@ -45,15 +48,13 @@ pub fn is_used(table: &[u8], r: RowNumber) -> bool
 }
 
 // Whether row r is used by a host.
+#[tactic(auto, unfolding(mount_spec::specs::Table::is_of_host))]
 pub fn is_of_host(table: &[u8], r: RowNumber, host: u32) -> bool
     requires table_len { length table.now ≡ table_length }
     requires r_lt_rows { r.0 < rows }
     ensures { result ≡ is_of_host table.now host r.0 }
 {
-    if !is_used(table, r) {
-        return false;
-    }
-    host_of(table, r) == host
+    is_used(table, r) && host_of(table, r) == host
 }
 
 // Whether row r has a host and the path in a part of the call.
@@ -64,20 +65,16 @@ pub fn has_pair(table: &[u8], r: RowNumber, host: u32, call: &[u8], path: Part) 
     requires length_le_most_path_bytes { path.length ≤ most_path_bytes }
     ensures { result ≡ has_pair table.now host (cut call.now path) r.0 }
 {
-    if !is_of_host(table, r, host) {
-        return false;
-    }
-    if path_length(table, r) != path.length {
-        return false;
-    }
-    let compared = wire::compare_bytes(
-        table,
-        row_place(r) + Row::PATH,
-        call,
-        path.start,
-        path.length,
-    );
-    compared.same
+    is_of_host(table, r, host)
+        && path_length(table, r) == path.length
+        && wire::compare_bytes(
+            table,
+            row_place(r) + Row::PATH,
+            call,
+            path.start,
+            path.length,
+        )
+        .same
 }
 
 // Writes a host and the path in a part of the call into row r.

@@ -3,19 +3,19 @@ use Rattle.mount_spec.specs.Table.{good_row}
 use Rattle.mount_check.proofs.RowTests.{free_by, used_by, free_zero}
 use Rattle.mount_check.proofs.good_row.Goals as goal
 
-pub returns-then-not-is_zero : goal.returns-then-not-is_zero
-returns-then-not-is_zero c = let m = c.requires.n_value in
+pub returns-else-is_zero : goal.returns-else-is_zero
+returns-else-is_zero c = let m = c.requires.n_value in
     rw (
       free_zero _ _ _ m _ c.row_place-at.ensures.0 (free_by _ _ _ m c.if-n-eq0.true),
-      sym c.is_zero.ensures ∙ c.if-not-is_zero.true,
-    )
+      sym c.is_zero.ensures ∙ c.if-is_zero.false,
+    ) c.if-is_zero.false
 
-pub returns-then-n-eq0 : goal.returns-then-n-eq0
-returns-then-n-eq0 c = let m = c.requires.n_value in
+pub returns-then-is_zero : goal.returns-then-is_zero
+returns-then-is_zero c = let m = c.requires.n_value in
     rw (
       free_zero _ _ _ m _ c.row_place-at.ensures.0 (free_by _ _ _ m c.if-n-eq0.true),
-      sym c.is_zero.ensures ∙ c.if-not-is_zero.false,
-    ) c.is_zero-then-n-eq0.ensures
+      sym c.is_zero.ensures ∙ c.if-is_zero.true,
+    ) c.is_zero-then-is_zero.ensures
 
 pub returns : goal.returns
 unfolding good_row

@@ -1,27 +1,9 @@
-use Rattle.std.proofs.Common.{◌≡◌, ◌-◌, false, sym, ◌∙◌, arith}
+use Rattle.std.proofs.Common.{◌≡◌, false, sym, ◌∙◌, arith}
 use Rattle.mount_check.specs.Rows.{is_same_pair}
 use Rattle.mount_check.proofs.Same.{used_row}
-use Rattle.mount_check.proofs.Whole.{tells_true, tells_false, fails_twice, one_more, other_digest}
+use Rattle.mount_check.proofs.Whole.{tells_false, fails_twice, one_more, other_digest}
 use Rattle.mount_check.proofs.is_new_pair.Goals as goal
-use Rattle.mount_check.proofs.is_new_pair.Goals.{then-digests-i+else-same_pair, else-digests-i}
-
-pub loop-i-init : goal.loop-i-init
-loop-i-init c = (omega arith, λ q h. absurd (omega arith))
-
-pub same_pair-requires-clause-table_len : goal.same_pair-requires-clause-table_len
-same_pair-requires-clause-table_len c = c.requires.table_len
-
-pub same_pair-requires-clause-q_lt_rows : goal.same_pair-requires-clause-q_lt_rows
-same_pair-requires-clause-q_lt_rows c = omega (arith, c.requires.r_lt_rows, c.loop-i-test.true)
-
-pub same_pair-requires-clause-r_lt_rows : goal.same_pair-requires-clause-r_lt_rows
-same_pair-requires-clause-r_lt_rows c = c.requires.r_lt_rows
-
-pub same_pair-requires-clause-r_value : goal.same_pair-requires-clause-r_value
-same_pair-requires-clause-r_value c = c.requires.r_value
-
-pub same_pair-requires-clause-r_value_2 : goal.same_pair-requires-clause-r_value_2
-same_pair-requires-clause-r_value_2 c = c.requires.r_value_2
+use Rattle.mount_check.proofs.is_new_pair.Goals.{else-digests-i-via-then-digests-i+else-same_pair, else-digests-i-via-else-digests-i}
 
 pub returns-then-same_pair : goal.returns-then-same_pair
 returns-then-same_pair c = let a = c.args in
@@ -36,11 +18,8 @@ loop-i-preserved c = let a = c.args in
     let below = c.loop-i-test.true in
     let w = used_row t r c.requires.table_len c.requires.r_lt_rows c.requires.r_value c.requires.r_value_2 in
     let here : is_same_pair t r c.loop-i.i ≡ false =
-    elim c.if-digests-i.branch [
-      | then-digests-i+else-same_pair v ↦ sym v.same_pair.ensures ∙ v.if-same_pair.false
-      | else-digests-i v ↦ other_digest t r a.digests.now c.requires.rows_pass c.requires.table_len c.requires.r_lt_rows w a.own c.loop-i.i c.requires.own_value below v.if-digests-i.false
+    elim c.else-digests-i.branch [
+      | else-digests-i-via-then-digests-i+else-same_pair v ↦ sym v.same_pair.ensures ∙ v.if-same_pair.false
+      | else-digests-i-via-else-digests-i v ↦ other_digest t r a.digests.now c.requires.rows_pass c.requires.table_len c.requires.r_lt_rows w a.own c.loop-i.i c.requires.own_value below v.if-digests-i.false
     ] in
-    (omega arith, one_more (λ q. is_same_pair t r q ≡ false) c.loop-i.i c.loop-i.invariant.1 here)
-
-pub returns : goal.returns
-returns c = tells_true (λ q h. c.loop-i.invariant.1 q (omega (arith, c.loop-i-test.false)))
+    one_more (λ q. is_same_pair t r q ≡ false) c.loop-i.i c.loop-i.invariant here

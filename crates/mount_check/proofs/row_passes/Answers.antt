@@ -21,14 +21,11 @@ sum_words-own-requires c = let short = short_by _ _ _ c.path_length-n.ensures
     (sym c.good_row.ensures ∙ c.if-not-good_row.false) in
     omega (arith, short, c.requires.table_len, c.row_place.ensures.1)
 
-pub is_new_pair-requires : goal.is_new_pair-requires
-is_new_pair-requires c = let used = used_by _ _ _ c.path_length-n.ensures c.if-n-eq0.false in
-    let good = sym c.good_row.ensures ∙ c.if-not-good_row.false in
-    let own = digest_by _ _ _ c.path_length-n.ensures _ _ c.row_place.ensures.0 c.sum_words-own.ensures in
-    record { table_len = c.requires.table_len; r_lt_rows = c.requires.r_lt_rows; r_value = used; r_value_2 = good; own_value = own; rows_pass = c.requires.rows_pass }
+pub is_new_pair-requires-clause-r_value : goal.is_new_pair-requires-clause-r_value
+is_new_pair-requires-clause-r_value c = used_by _ _ _ c.path_length-n.ensures c.if-n-eq0.false
 
-pub returns-then-not-is_new_pair : goal.returns-then-not-is_new_pair
-returns-then-not-is_new_pair c = tells_false (c.is_new_pair.ensures.fails (c.if-not-is_new_pair.true))
+pub is_new_pair-requires-clause-own_value : goal.is_new_pair-requires-clause-own_value
+is_new_pair-requires-clause-own_value c = digest_by _ _ _ c.path_length-n.ensures _ _ c.row_place.ensures.0 c.sum_words-own.ensures
 
 pub returns : goal.returns
 returns c = tells_true (rows_used c.args.table.now c.args.r.0 c.sum_words-own.result c.args.digests.now c.requires.r_lt_rows c.requires.rows_pass

@@ -1,26 +1,13 @@
-use mathlib.Core.Path.{◌≡◌, refl, sym, ap, ◌∙◌}
-use Prim.Native.Nat.{◌-◌, zero-le}
-use native.Mathlib.Omega.{arith}
-use mathlib.Core.Bool.{not}
+use Rattle.std.proofs.Common.{◌≡◌, ℕ, true, false, rules, tests}
+use Rattle.std.proofs.Math.Bool.{not}
+use Rattle.std.proofs.lemmas.Iterator.{first_from_Range}
 use Rattle.kinds.specs.Mount.{rows}
-use Rattle.spec.specs.Count.{lowest, passing}
-use Rattle.laws.proofs.Count.{lowest_more, lowest_hit}
 use Rattle.mount_spec.specs.Table.{is_used_row, available_row}
+use Rattle.mount_edit.proofs.Lowest.{found_lowest}
 use Rattle.mount_edit.proofs.available_row.Goals as goal
-
-pub loop-i-init : goal.loop-i-init
-unfolding lowest passing
-loop-i-init c = (zero-le, refl)
-
-pub returns-then-not-is_used : goal.returns-then-not-is_used
-unfolding available_row
-returns-then-not-is_used c = let a = c.args in
-    sym (lowest_hit (λ r. not (is_used_row a.table.now r)) c.loop-i.i rows c.loop-i.invariant.1 (ap not (sym c.is_used.ensures ∙ c.if-not-is_used.true)) (omega arith))
-
-pub loop-i-preserved : goal.loop-i-preserved
-loop-i-preserved c = (omega arith, lowest_more _ c.loop-i.i c.loop-i.invariant.1 (ap not (sym c.is_used.ensures ∙ c.if-not-is_used.false)))
 
 pub returns : goal.returns
 unfolding available_row
-returns c = let e : c.loop-i.i ≡ rows = omega arith in
-    sym (rw e at c.loop-i.invariant.1)
+returns c =
+    let p = λ (r : ℕ). not (is_used_row c.args.table.now r) in
+    found_lowest p rows c.find.result c.map.result (first_from_Range _ _ _ _ (λ k. p k ≡ true) (λ k. p k ≡ false) c.find.ensures.ran (λ x q k. search (rules, tests)) (λ x q k. search (rules, tests))) (search rules)

@@ -6,8 +6,8 @@ use Rattle.mount_spec.specs.Path.{root, components, walk}
 use Rattle.mount_path.proofs.walk_path.Given as goal
 
 abbrev pub invariant-loop-from : goal.invariant-loop-from
-invariant-loop-from l = (l.o < objects l.store) × (l.from ≤ l.end + 1)
-    × (walk l.store root (components (part l.call l.initial.from (l.end - l.initial.from))) ≡ walk l.store l.o (components (part l.call l.from (l.end - l.from))))
+invariant-loop-from l = (l.o.0 < objects l.store) × (l.from ≤ l.end + 1)
+    × (walk l.store root (components (part l.call l.initial.from (l.end - l.initial.from))) ≡ walk l.store l.o.0 (components (part l.call l.from (l.end - l.from))))
 
 abbrev pub decreases-loop-from : goal.decreases-loop-from
 decreases-loop-from l = l.end - l.from

@@ -9,12 +9,12 @@ use Rattle.mount_reply.proofs.result.put_mounts.Goals as goal
 
 pub loop-i-init : goal.loop-i-init
 unfolding mounts_bytes
-loop-i-init c = (omega arith, wrote_none _ _ (omega arith), omega arith, refl)
+loop-i-init c = (wrote_none _ _ (omega arith), omega arith, refl)
 
 pub loop-i-preserved : goal.loop-i-preserved
 unfolding mounts_bytes
-loop-i-preserved c = (omega arith, rw (add-one c.loop-i.i) (sized _ (and_then c.loop-i.invariant.1 c.put_used-next.ensures.wrote)), omega arith, omega arith)
+loop-i-preserved c = (rw (add-one c.loop-i.i) (sized _ (and_then c.loop-i.invariant.0 c.put_used-next.ensures.wrote)), omega arith, omega arith)
 
 pub returns : goal.returns
 returns c = let e : c.loop-i.i ≡ rows = omega arith in
-    sized _ (and_then (rw e at c.loop-i.invariant.1) c.put_word.ensures)
+    sized _ (and_then (rw e at c.loop-i.invariant.0) c.put_word.ensures)

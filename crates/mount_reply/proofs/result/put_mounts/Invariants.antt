@@ -8,8 +8,5 @@ use Rattle.mount_reply.specs.Fits.{most_mount_bytes}
 use Rattle.mount_reply.proofs.result.put_mounts.Given as goal
 
 abbrev pub invariant-loop-i : goal.invariant-loop-i
-invariant-loop-i l = (l.i ≤ rows) × Wrote (length (mounts_bytes l.table l.i)) l.initial.reply l.reply l.at l.next (mounts_bytes l.table l.i) × (l.next ≤ l.at + most_mount_bytes * l.i)
+invariant-loop-i l = Wrote (length (mounts_bytes l.table l.i)) l.initial.reply l.reply l.at l.next (mounts_bytes l.table l.i) × (l.next ≤ l.at + most_mount_bytes * l.i)
     × (length l.reply ≡ length l.initial.reply)
-
-abbrev pub decreases-loop-i : goal.decreases-loop-i
-decreases-loop-i l = rows - l.i
