@@ -88,6 +88,7 @@ fn becomes_good(old: &[u8], p: usize, q: usize, r: usize, room: &mut [u8]) -> bo
 }
 
 // Converts an old image: 1 for one that fails the check of document 01, then 6 for a target of another length, then 0; 1 and 6 change nothing.
+// C reads the number.
 // `room` is room to work in.
 pub fn convert_store(old: &[u8], store: &mut [u8], room: &mut [u8; MOST_RECORDS]) -> u32
     ensures { Leaves (convert old.now store.old) result store.new }

@@ -10,7 +10,7 @@ use kinds::layout::{Block, Image, NameRecord, ObjectRecord};
 use kinds::numbers::{Answer, Limit, ObjectNumber};
 use kinds::object::{Object, Time};
 
-// Format's answer for these counts, this clock and a buffer of that length.
+// Format's answer, a number that C reads, for these counts, this clock and a buffer of that length.
 fn answer_for(length: usize, p: usize, q: usize, r: usize, nanoseconds: u32) -> u32
     ensures { result ≡ answer_for length p q r nanoseconds }
 {
@@ -70,7 +70,7 @@ fn write_store(store: &mut [u8], stamp: u32, p: u32, q: u32, r: u32, clock: Time
     wire::put_u32(store, blocks, r);
 }
 
-// Formats a store: 3 for a clock, then 6 for a count out of range or another length, then 0; 3 and 6 change nothing.
+// Formats a store: 3 for a clock, then 6 for a count out of range or another length, then 0; 3 and 6 change nothing. C reads the number.
 pub fn format_store(
     store: &mut [u8],
     stamp: u32,

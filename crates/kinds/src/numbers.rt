@@ -341,7 +341,8 @@ impl Limit {
     }
 }
 
-// The answer of an entry: its number, the length of the reply, and the byte of the call at which a field starts that cannot be read.
+// The answer of an entry: its number, the length of the reply, and the byte of the call at which a field starts that cannot be read. The number is
+// one that C reads: the constants below are those of include/nfs3.h, and an enum would have to become them again.
 #[repr(C)]
 #[derive(Clone, Copy)]
 pub struct Answer {
@@ -393,7 +394,7 @@ impl Answer {
     }
 }
 
-// Why the header of a call is refused: the number of the answer, and its offset.
+// Why the header of a call is refused: the number of the answer, as C reads it, and its offset.
 #[derive(Clone, Copy)]
 pub struct Fault {
     pub number: u32,

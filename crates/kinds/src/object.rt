@@ -11,7 +11,7 @@ pub struct Time {
 }
 
 // An object record of the store. The verifier is that of the EXCLUSIVE CREATE that made the file, and is kept where the flag `exclusive` is 1; else
-// both are 0.
+// both are 0. The type and the flag are numbers: `object_at` gives the record of any bytes, which may hold every number until the store is checked.
 #[derive(Clone, Copy)]
 pub struct Object {
     pub kind: u32,
@@ -50,7 +50,8 @@ impl Object {
     }
 }
 
-// The attributes of a live object as replies show them (fattr3); numbers of 64 bits have 0 as their high word.
+// The attributes of a live object as replies show them (fattr3), the type as the number that the reply holds; numbers of 64 bits have 0 as their
+// high word.
 #[derive(Clone, Copy)]
 pub struct Attributes {
     pub kind: u32,

@@ -8,7 +8,7 @@ use kinds::call::CallHeader;
 use kinds::numbers::{Message, Procedure};
 use xdr::write::put_words;
 
-// A program: its number, its lowest and highest version, and its last procedure.
+// A program: its number, its lowest and highest version, and its last procedure, as a call may hold any number in their places.
 #[derive(Clone, Copy)]
 pub struct Program {
     pub number: u32,

@@ -116,7 +116,8 @@ pub fn is_zero(s: &[u8], at: usize, n: usize) -> bool
     !other
 }
 
-// What a comparison of bytes says: how many pairs were compared, and whether all bytes are the same.
+// What a comparison of bytes says: how many pairs were compared, and whether all bytes are the same. Every answer has both, so that neither an Option nor
+// a Result fits.
 #[derive(Clone, Copy)]
 pub struct Compared {
     pub pairs: usize,
