@@ -38,13 +38,11 @@ fn lengthen(old: &[u8], p: usize, store: &mut [u8])
 {
     let length = store.len();
     wire::copy_bytes(store, 0, old, 0, Image::OBJECTS_HEAD);
-    let mut o = 0;
-    while o < p {
+    for o in 0..p {
         let at = Image::OBJECTS_HEAD + ObjectRecord::BYTES * o;
         let from = Image::OBJECTS_HEAD + ObjectRecord::OLD_BYTES * o;
         wire::copy_bytes(store, at, old, from, ObjectRecord::OLD_BYTES);
         wire::clear_bytes(store, at + ObjectRecord::OLD_BYTES, ADDED);
-        o += 1;
     }
     let behind = Image::OBJECTS_HEAD + ObjectRecord::BYTES * p;
     let from = Image::OBJECTS_HEAD + ObjectRecord::OLD_BYTES * p;
@@ -56,12 +54,10 @@ fn named_once(p: usize, links: &[u8; Limit::MOST_OBJECTS]) -> bool
     requires { p ≤ most_objects }
     ensures { result ≡ every p (has_one_name links.now) }
 {
-    let mut o = 0;
-    while o < p {
+    for o in 0..p {
         if links[o] > 1 {
             return false;
         }
-        o += 1;
     }
     true
 }

@@ -25,9 +25,7 @@ use store_records::object::{blocks_of, generation_of, save_object, size_of};
 fn with_generation(generation: u32, v: Object) -> Object
     ensures { result ≡ with_generation generation v }
 {
-    let mut w = v;
-    w.generation = generation;
-    w
+    Object { generation, ..v }
 }
 
 // Object v in the free record o, named by a part of the call in a directory, by the free name record n.

@@ -29,14 +29,12 @@ fn resized_blocks(
     ensures { numbers_of result ≡ block_numbers (take after (take before (numbers_of own)) ++ take (after - before) (numbers_of added)) }
 {
     let mut list = [BlockNumber(Limit::UNUSED_BLOCK); 16];
-    let mut k = 0;
-    while k < after {
+    for k in 0..after {
         if k < before {
             list[k] = own[k];
         } else {
             list[k] = added[k - before];
         }
-        k += 1;
     }
     list
 }

@@ -24,6 +24,7 @@ fn run_length(store: &[u8], o: ObjectNumber, i: usize, left: usize) -> usize
     ensures upper_bound { result ≤ left }
     ensures together { Together store.now o.0 i result }
 {
+    // Ends at the first gap, which its steps look for: as a search through `step_by` it would need the same sums, in a closure.
     let mut k = i / Block::BYTES;
     let mut run = Block::BYTES - i % Block::BYTES;
     while run < left {
@@ -51,6 +52,7 @@ fn put_runs(
     requires n_in_bounds { at + n ≤ length reply.old }
     ensures { Wrote n reply.old reply.new at result (read_file store.now o.0 offset n) }
 {
+    // A step is as long as its run, so that no range has these steps.
     let mut done = 0;
     let mut next = at;
     while done < n {

@@ -65,6 +65,7 @@ pub fn free_blocks(store: &[u8], map: &[u8; Limit::MOST_BLOCKS], wanted: usize) 
     let total = block_count(store);
     let mut list = [BlockNumber(Limit::UNUSED_BLOCK); 16];
     let mut k = 0;
+    // A step is one block or a group of them, so that no range has these steps.
     let mut i = 0;
     while i < total {
         if k == wanted {

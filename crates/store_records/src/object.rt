@@ -96,7 +96,8 @@ pub fn save_object(store: &mut [u8], o: ObjectNumber, v: Object)
     save_verifier(store, at + ObjectRecord::VERIFIER, v.verifier, v.exclusive);
 }
 
-// Single fields of a record.
+// Single fields of a record. One getter for all, with the offset as a parameter, would save one of the two lines of each, and would need clauses of its own
+// that tie the offset to the record.
 pub fn kind_of(store: &[u8], o: ObjectNumber) -> u32
     requires { object_start o.0 + object_length ≤ length store.now }
     ensures { result ≡ (object_at store.now o.0).kind }

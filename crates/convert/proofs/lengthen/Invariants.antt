@@ -4,6 +4,3 @@ use Rattle.convert.proofs.lengthen.Given as goal
 
 abbrev pub invariant-loop-o : goal.invariant-loop-o
 invariant-loop-o l = Begun l.old l.length l.p l.store l.o
-
-abbrev pub decreases-loop-o : goal.decreases-loop-o
-decreases-loop-o l = l.p - l.o

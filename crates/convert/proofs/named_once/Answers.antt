@@ -11,7 +11,7 @@ use Rattle.convert.proofs.named_once.Goals as goal
 
 pub loop-o-init : goal.loop-o-init
 unfolding every
-loop-o-init c = (zero-le, refl)
+loop-o-init c = refl
 
 pub returns-then-links-o-gt1 : goal.returns-then-links-o-gt1
 returns-then-links-o-gt1 c = let a = c.args in
@@ -21,8 +21,8 @@ returns-then-links-o-gt1 c = let a = c.args in
 pub loop-o-preserved : goal.loop-o-preserved
 loop-o-preserved c = let a = c.args in
     let o = c.loop-o.o in
-    (omega arith, every_more (has_one_name a.links.now) o c.loop-o.invariant.1 (le-leb (get_or a.links.now o 0) 1 c.if-links-o-gt1.false))
+    every_more (has_one_name a.links.now) o c.loop-o.invariant (le-leb (get_or a.links.now o 0) 1 c.if-links-o-gt1.false)
 
 pub returns : goal.returns
 returns c = let e : c.loop-o.o ≡ c.args.p = omega arith in
-    sym (rw e at c.loop-o.invariant.1)
+    sym (rw e at c.loop-o.invariant)

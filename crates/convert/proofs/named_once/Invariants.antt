@@ -6,7 +6,4 @@ use Rattle.convert.specs.Links.{has_one_name}
 use Rattle.convert.proofs.named_once.Given as goal
 
 abbrev pub invariant-loop-o : goal.invariant-loop-o
-invariant-loop-o l = (l.o ≤ l.p) × (every l.o (has_one_name l.links) ≡ true)
-
-abbrev pub decreases-loop-o : goal.decreases-loop-o
-decreases-loop-o l = l.p - l.o
+invariant-loop-o l = every l.o (has_one_name l.links) ≡ true

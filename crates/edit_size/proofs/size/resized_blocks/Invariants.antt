@@ -7,8 +7,5 @@ use Rattle.edit_size.proofs.ResizedNumbers.{numbers_to}
 use Rattle.edit_size.proofs.size.resized_blocks.Given as goal
 
 abbrev pub invariant-loop-k : goal.invariant-loop-k
-invariant-loop-k l = (l.k ≤ l.after) × (length l.own ≡ file_blocks) × (length l.added ≡ file_blocks) × (length l.list ≡ file_blocks)
+invariant-loop-k l = (length l.own ≡ file_blocks) × (length l.added ≡ file_blocks) × (length l.list ≡ file_blocks)
     × (numbers_of l.list ≡ numbers_to (numbers_of l.own) (numbers_of l.added) l.before l.after l.k)
-
-abbrev pub decreases-loop-k : goal.decreases-loop-k
-decreases-loop-k l = l.after - l.k
