@@ -5,7 +5,6 @@ use Rattle.spec.specs.Image.{Store}
 use Rattle.results.specs.Writable.{Showable}
 use Rattle.mount_spec.specs.Table.{Table, path_length}
 use Rattle.mount_results.specs.declared.MountReply.{MountReply}
-use Rattle.mount_results.specs.declared.MountReply.TheVariants as MountReply
 
 -- the most bytes of one row in the list of mounts: the word 1, a host of at most 15 bytes, a path of at most 1,024
 abbrev pub most_mount_bytes : ℕ

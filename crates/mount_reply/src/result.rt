@@ -62,6 +62,7 @@ fn put_mounts(reply: &mut [u8], at: usize, table: &[u8]) -> usize
 }
 
 // The list of exports: "/" without groups.
+#[tactic(auto, unfolding(spec::specs::Bytes::bytes_of, spec::specs::Bytes::words, spec::specs::Bytes::opaque_bytes))]
 fn put_exports(reply: &mut [u8], at: usize) -> usize
     requires { at + 20 ≤ length reply.old }
     ensures { Wrote 20 reply.old reply.new at result exports_bytes }
@@ -76,8 +77,7 @@ fn put_mounted(reply: &mut [u8], at: usize, store: &[u8], o: ObjectNumber) -> us
     requires showable { Showable store.now o.0 }
     ensures { Wrote 32 reply.old reply.new at result (mount_result_bytes store.now [] (mounted o.0)) }
 {
-    let status = Status::OK;
-    let handle = put_word(reply, at, status.0);
+    let handle = put_word(reply, at, Status::OK.0);
     let flavors = put_nfs_fh3(reply, handle, store, o);
     let ws = [2, Mount::AUTH_NONE, Mount::AUTH_UNIX];
     put_words(reply, flavors, &ws)

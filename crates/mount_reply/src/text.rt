@@ -30,7 +30,7 @@ fn digit(n: u32) -> u8
     requires { n < 10 }
     ensures { result ≡ 0x30 + n }
 {
-    (48 + n) as u8
+    b'0' + n as u8
 }
 
 // How many digits a number below 256 has.
@@ -85,6 +85,7 @@ fn dotted_length(host: u32) -> usize
 }
 
 // A host as dotted decimal.
+#[tactic(auto, unfolding(mount_spec::specs::Replies::dotted))]
 fn put_dotted(reply: &mut [u8], at: usize, host: u32) -> usize
     requires { at + length (dotted host) ≤ length reply.old }
     ensures { Wrote (length (dotted host)) reply.old reply.new at result (dotted host) }

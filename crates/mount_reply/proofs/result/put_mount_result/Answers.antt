@@ -4,18 +4,6 @@ use Rattle.mount_spec.specs.Replies.{mount_result_bytes}
 use Rattle.xdr.proofs.Wrote.{wrote_none, and_then, sized}
 use Rattle.mount_reply.proofs.result.put_mount_result.Goals as goal
 
-pub put_mounted-requires-clause-at_in_bounds : goal.put_mounted-requires-clause-at_in_bounds
-put_mounted-requires-clause-at_in_bounds c = omega arith
-
-pub put_mounted-requires-clause-showable : goal.put_mounted-requires-clause-showable
-put_mounted-requires-clause-showable c = rw c.in-Mounted.is at c.requires.writable_mount
-
-pub put_mounts-requires-clause-fits : goal.put_mounts-requires-clause-fits
-put_mounts-requires-clause-fits c = rw c.in-Mounts.is at c.requires.writable_mount
-
-pub put_mounts-requires-clause-least_mount_reply_bytes_in_bounds : goal.put_mounts-requires-clause-least_mount_reply_bytes_in_bounds
-put_mounts-requires-clause-least_mount_reply_bytes_in_bounds c = omega arith
-
 pub returns-in-Nothing : goal.returns-in-Nothing
 unfolding accepted mount_result_bytes
 returns-in-Nothing c = rw c.in-Nothing.is (sized _ (and_then c.put_head-at.ensures (wrote_none _ c.put_head-at.result (omega arith))))

@@ -1,7 +1,6 @@
-use Prim.Native.Nat.{◌+◌, ◌-◌, ◌*◌, ◌≤◌}
+use Prim.Native.Nat.{◌+◌, ◌*◌, ◌≤◌}
 use mathlib.Core.Path.{◌≡◌}
 use lib.ListN.{length}
-use Rattle.kinds.specs.Mount.{rows}
 use Rattle.mount_spec.specs.Replies.{mounts_bytes}
 use Rattle.xdr.specs.Wrote.{Wrote}
 use Rattle.mount_reply.specs.Fits.{most_mount_bytes}

@@ -1,5 +1,4 @@
 use mathlib.Core.Path.{sym}
-use native.Mathlib.Omega.{arith}
 use Rattle.xdr.proofs.Wrote.{sized}
 use Rattle.mount_reply.proofs.Opaque.{wrote_opaque}
 use Rattle.mount_reply.proofs.text.put_host.Goals as goal
@@ -7,6 +6,3 @@ use Rattle.mount_reply.proofs.text.put_host.Goals as goal
 pub returns-clause-wrote : goal.returns-clause-wrote
 returns-clause-wrote c = sized _ (wrote_opaque _ (sym c.dotted_length-n.ensures.0) c.padding.ensures c.put_word-text.ensures
     c.put_dotted-end.ensures c.put_zeros.ensures)
-
-pub returns-clause-upper_bound : goal.returns-clause-upper_bound
-returns-clause-upper_bound c = omega arith
