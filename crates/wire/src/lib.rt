@@ -124,8 +124,38 @@ pub struct Compared {
     pub same: bool,
 }
 
-// Compares the len bytes of a from `at` with those of b from `from`, pair by pair, up to the first difference. Eight that are equal are passed at once: with
-// the loop over single bytes alone, a LOOKUP of the last name of a full store takes 17 % more instructions.
+// Compares the four bytes of a from `at` with those of b from `from`, pair by pair, up to the first difference.
+fn compare_four(a: &[u8], at: usize, b: &[u8], from: usize) -> Compared
+    requires at_in_bounds { at + 4 ≤ length a.now }
+    requires from_in_bounds { from + 4 ≤ length b.now }
+    ensures same_value { result.same ≡ same_bytes (part a.now at 4) (part b.now from 4) }
+    ensures pairs_value { result.pairs ≡ pairs (part a.now at 4) (part b.now from 4) }
+{
+    if a[at] != b[from] {
+        return Compared {
+            pairs: 1,
+            same: false,
+        };
+    }
+    if a[at + 1] != b[from + 1] {
+        return Compared {
+            pairs: 2,
+            same: false,
+        };
+    }
+    if a[at + 2] != b[from + 2] {
+        return Compared {
+            pairs: 3,
+            same: false,
+        };
+    }
+    let same = a[at + 3] == b[from + 3];
+    Compared { pairs: 4, same }
+}
+
+// Compares the len bytes of a from `at` with those of b from `from`, pair by pair, up to the first difference. No byte behind it is
+// read (document 02, E4), so that whole words are not compared. Four in a row are written out, and the loop goes on by four: with a loop over single bytes
+// alone, a LOOKUP of the last name of a full store takes 17 % more instructions.
 pub fn compare_bytes(a: &[u8], at: usize, b: &[u8], from: usize, len: usize) -> Compared
     requires len_in_bounds { at + len ≤ length a.now }
     requires len_in_bounds_2 { from + len ≤ length b.now }
@@ -133,8 +163,15 @@ pub fn compare_bytes(a: &[u8], at: usize, b: &[u8], from: usize, len: usize) -> 
     ensures pairs_value { result.pairs ≡ pairs (part a.now at len) (part b.now from len) }
 {
     let mut i = 0;
-    while len - i >= 8 && get_u64(a, at + i) == get_u64(b, from + i) {
-        i += 8;
+    while len - i >= 4 {
+        let four = compare_four(a, at + i, b, from + i);
+        i += four.pairs;
+        if !four.same {
+            return Compared {
+                pairs: i,
+                same: false,
+            };
+        }
     }
     for k in i..len {
         if a[at + k] != b[from + k] {
