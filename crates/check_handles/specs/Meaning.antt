@@ -1,17 +1,18 @@
 -- What each answer of the code stands for.
-use Rattle.std.specs.Prelude.{ℕ}
+use Rattle.std.specs.Prelude.{ℕ, Result, Ok, Err}
+use Rattle.kinds.specs.declared.numbers.ObjectNumber.{ObjectNumber}
+use Rattle.kinds.specs.declared.numbers.Status.{Status}
 use Rattle.spec.specs.Checked.{Checked, refused, passed}
-use Rattle.check_handles.specs.declared.handle.Reached.{Reached}
-use Rattle.check_handles.specs.declared.handle.Reached.TheVariants as Reached
-use Rattle.check_handles.specs.declared.text.TextChecked.{TextChecked}
-use Rattle.check_handles.specs.declared.text.TextChecked.TheVariants as TextChecked
+
+-- what the value stands for, or the status
+abbrev pub checked_of : {A B : Type 0} → (A → B) → Result A Status → Checked B
+checked_of f (Ok x) = passed (f x)
+checked_of f (Err status) = refused status.0
 
 -- the object, or the status
-abbrev pub reached_of : Reached → Checked ℕ
-reached_of (Reached.At o) = passed o.0
-reached_of (Reached.Refused status) = refused status.0
+abbrev pub reached_of : Result ObjectNumber Status → Checked ℕ
+reached_of r = checked_of (λ (o : ObjectNumber). o.0) r
 
 -- a good name, or the status
-abbrev pub text_checked_of : TextChecked → Checked (Unit {0})
-text_checked_of TextChecked.Good = passed tt
-text_checked_of (TextChecked.Refused status) = refused status.0
+abbrev pub text_checked_of : Result (Unit {0}) Status → Checked (Unit {0})
+text_checked_of r = checked_of (λ (u : Unit {0}). u) r

@@ -8,10 +8,10 @@ ghost use Rattle.laws.proofs.GoodRecords.{GoodRecords};
 ghost use Rattle.results.specs.Meaning.{result_of, handle_attributes_in, handle_change_in, as_it_is};
 ghost use Rattle.results.specs.Writable.{Writable, ShowableObject, ShowableChange};
 
-use crate::handle::{Reached, reach};
+use crate::handle::reach;
 use kinds::call::Part;
 use kinds::numbers::{ObjectNumber, Status};
-use results::{HandleChange, HandleObject, ObjectChange, Reply};
+use results::{ObjectChange, Reply};
 use store_attributes::before;
 
 // A failure that shows the attributes of a handle's object, where there is one.
@@ -21,11 +21,10 @@ pub fn fail_showing(store: &[u8], call: &[u8], h: Part, status: Status) -> Reply
     ensures result_value { result_of store.now result ≡ fail_showing store.now (cut call.now h) status.0 }
     ensures writable { Writable store.now result }
 {
-    let answer = reach(store, call, h);
-    let Reached::At(o) = answer else {
-        return Reply::Dead(status);
-    };
-    Reply::Failed(status, o)
+    match handle_object(store, call, h) {
+        Some(o) => Reply::Failed(status, o),
+        None => Reply::Dead(status),
+    }
 }
 
 // An object that a call has not changed: the same before and after.
@@ -47,39 +46,29 @@ pub fn fail_changing(store: &[u8], call: &[u8], h: Part, status: Status) -> Repl
     ensures result_value { result_of store.now result ≡ fail_changing store.now (cut call.now h) status.0 }
     ensures writable { Writable store.now result }
 {
-    let answer = reach(store, call, h);
-    let Reached::At(o) = answer else {
-        return Reply::Dead(status);
-    };
-    let shown = unchanged(store, o);
-    Reply::Changed(status, shown)
+    match handle_change(store, call, h) {
+        Some(shown) => Reply::Changed(status, shown),
+        None => Reply::Dead(status),
+    }
 }
 
 // A handle's object, where there is one.
-pub fn handle_object(store: &[u8], call: &[u8], h: Part) -> HandleObject
+pub fn handle_object(store: &[u8], call: &[u8], h: Part) -> Option<ObjectNumber>
     requires good_records { GoodRecords store.now }
     requires length_in_bounds { h.start + h.length ≤ length call.now }
     ensures result_value { handle_attributes_in store.now result ≡ handle_attributes store.now (cut call.now h) }
     ensures showable_object { ShowableObject store.now result }
 {
-    let answer = reach(store, call, h);
-    let Reached::At(o) = answer else {
-        return HandleObject::Absent;
-    };
-    HandleObject::Present(o)
+    reach(store, call, h).ok()
 }
 
 // A handle's object as unchanged, where there is one.
-pub fn handle_change(store: &[u8], call: &[u8], h: Part) -> HandleChange
+pub fn handle_change(store: &[u8], call: &[u8], h: Part) -> Option<ObjectChange>
     requires good_records { GoodRecords store.now }
     requires length_in_bounds { h.start + h.length ≤ length call.now }
     ensures result_value { handle_change_in store.now result ≡ handle_change store.now store.now (cut call.now h) }
     ensures showable_change { ShowableChange store.now result }
 {
-    let answer = reach(store, call, h);
-    let Reached::At(o) = answer else {
-        return HandleChange::Absent;
-    };
-    let shown = unchanged(store, o);
-    HandleChange::Present(shown)
+    let o = reach(store, call, h).ok()?;
+    Some(unchanged(store, o))
 }

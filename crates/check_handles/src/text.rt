@@ -9,20 +9,11 @@ ghost use Rattle.check_handles.specs.Meaning.{text_checked_of};
 use kinds::call::Part;
 use kinds::numbers::{Limit, Status};
 
-#[derive(Clone, Copy)]
-pub enum TextChecked {
-    Good,
-    Refused(Status),
-}
-
 // Neither 0 nor "/".
 fn good_byte(x: u8) -> bool
     ensures { result ≡ good_byte x }
 {
-    if x == 0 {
-        return false;
-    }
-    x != b'/'
+    x != 0 && x != b'/'
 }
 
 // Whether no byte of a part of the call is 0 or "/".
@@ -30,33 +21,31 @@ fn good_bytes(call: &[u8], at: usize, n: usize) -> bool
     requires { at + n ≤ length call.now }
     ensures { result ≡ good_bytes (part call.now at n) }
 {
-    let mut i = 0;
-    while i < n {
+    for i in 0..n {
         if !good_byte(call[at + i]) {
             return false;
         }
-        i += 1;
     }
     true
 }
 
 // An empty name ACCES, over 32 bytes NAMETOOLONG, with a byte 0 or "/" ACCES.
-pub fn check_name(call: &[u8], name: Part) -> TextChecked
+pub fn check_name(call: &[u8], name: Part) -> Result<(), Status>
     requires { name.start + name.length ≤ length call.now }
     ensures { text_checked_of result ≡ check_name (cut call.now name) }
 {
     let start = name.start;
     let n = name.length;
     if n == 0 {
-        return TextChecked::Refused(Status::ACCES);
+        return Err(Status::ACCES);
     }
     if Limit::MOST_NAME_BYTES < n {
-        return TextChecked::Refused(Status::NAMETOOLONG);
+        return Err(Status::NAMETOOLONG);
     }
     if !good_bytes(call, start, n) {
-        return TextChecked::Refused(Status::ACCES);
+        return Err(Status::ACCES);
     }
-    TextChecked::Good
+    Ok(())
 }
 
 // Whether the name is ".".

@@ -1,6 +1,7 @@
 -- What each reply value stands for, by the store that it is written from.
 use Rattle.std.proofs.Math.Option.{Option, some, none}
-use Rattle.std.specs.Prelude.{take}
+use Rattle.std.specs.Prelude as Code
+use Rattle.std.specs.Prelude.{take, Some, None}
 use Rattle.kinds.specs.declared.object.Attributes.{Attributes}
 use Rattle.kinds.specs.declared.object.Change.{Change}
 use Rattle.kinds.specs.declared.numbers.ObjectNumber.{ObjectNumber}
@@ -11,24 +12,19 @@ use Rattle.spec.specs.Procedures.Listing.{entries, entries_above}
 use Rattle.spec.specs.Results.{Result, null, dead, failed, changed, renamed, linked, got_attributes, found, granted, got_bytes, wrote, created, listed, got_room}
 use Rattle.spec.specs.Results.{got_limits, got_naming, committed}
 use Rattle.results.specs.declared.ObjectChange.{ObjectChange}
-use Rattle.results.specs.declared.HandleChange.{HandleChange}
-use Rattle.results.specs.declared.HandleChange.TheVariants as HandleChange
-use Rattle.results.specs.declared.HandleObject.{HandleObject}
-use Rattle.results.specs.declared.HandleObject.TheVariants as HandleObject
 use Rattle.results.specs.declared.Reply.{Reply}
-use Rattle.results.specs.declared.Reply.TheVariants as Reply
 
 -- an object's attributes before a call, and after it, in t
 abbrev pub change_in : Store → ObjectChange → Change
 change_in t c = record { before = c.before; after = attributes t c.object.0 }
 
-abbrev pub handle_change_in : Store → HandleChange → Option Change
-handle_change_in t HandleChange.Absent = none
-handle_change_in t (HandleChange.Present c) = some (change_in t c)
+abbrev pub handle_change_in : Store → Code.Option ObjectChange → Option Change
+handle_change_in t None = none
+handle_change_in t (Some c) = some (change_in t c)
 
-abbrev pub handle_attributes_in : Store → HandleObject → Option Attributes
-handle_attributes_in t HandleObject.Absent = none
-handle_attributes_in t (HandleObject.Present o) = some (attributes t o.0)
+abbrev pub handle_attributes_in : Store → Code.Option ObjectNumber → Option Attributes
+handle_attributes_in t None = none
+handle_attributes_in t (Some o) = some (attributes t o.0)
 
 -- an object that a call has not changed
 abbrev pub as_it_is : Store → ObjectNumber → ObjectChange

@@ -1,30 +1,27 @@
 -- What must hold of a store and a reply value so that the reply can be written from them.
-use Rattle.std.specs.Prelude.{ℕ, ◌+◌, ◌-◌, ◌≤◌, ◌<◌, length, take}
+use Rattle.std.specs.Prelude.{ℕ, ◌+◌, ◌-◌, ◌≤◌, ◌<◌, length, take, Option, Some, None}
 use Rattle.kinds.specs.Numbers.{most_transfer_bytes, listing_cost}
+use Rattle.kinds.specs.declared.numbers.ObjectNumber.{ObjectNumber}
 use Rattle.spec.specs.Image.{Store, objects}
 use Rattle.spec.specs.Room.{size_of}
 use Rattle.spec.specs.Replies.{entries_bytes}
 use Rattle.spec.specs.Procedures.Listing.{entries, entries_above}
 use Rattle.laws.proofs.GoodRecords.{GoodRecords}
-use Rattle.results.specs.declared.HandleChange.{HandleChange}
-use Rattle.results.specs.declared.HandleChange.TheVariants as HandleChange
-use Rattle.results.specs.declared.HandleObject.{HandleObject}
-use Rattle.results.specs.declared.HandleObject.TheVariants as HandleObject
+use Rattle.results.specs.declared.ObjectChange.{ObjectChange}
 use Rattle.results.specs.declared.Reply.{Reply}
-use Rattle.results.specs.declared.Reply.TheVariants as Reply
 
 -- an object whose attributes, and whose handle, the store has
 pub record Showable (s : Store) (o : ℕ) : Type 0 where
   pub good : GoodRecords s
   pub object : o < objects s
 
-abbrev pub ShowableObject : Store → HandleObject → Type 0
-ShowableObject s HandleObject.Absent = Unit {0}
-ShowableObject s (HandleObject.Present o) = Showable s o.0
+abbrev pub ShowableObject : Store → Option ObjectNumber → Type 0
+ShowableObject s None = Unit {0}
+ShowableObject s (Some o) = Showable s o.0
 
-abbrev pub ShowableChange : Store → HandleChange → Type 0
-ShowableChange s HandleChange.Absent = Unit {0}
-ShowableChange s (HandleChange.Present c) = Showable s c.object.0
+abbrev pub ShowableChange : Store → Option ObjectChange → Type 0
+ShowableChange s None = Unit {0}
+ShowableChange s (Some c) = Showable s c.object.0
 
 -- n bytes of object o's file from an offset: at most as many as one READ moves, and at most as many as are left
 pub record Readable (s : Store) (o offset n : ℕ) : Type 0 where

@@ -11,20 +11,6 @@ pub struct ObjectChange {
     pub object: ObjectNumber,
 }
 
-// wcc_data: present exactly where its handle is live.
-#[derive(Clone, Copy)]
-pub enum HandleChange {
-    Absent,
-    Present(ObjectChange),
-}
-
-// post_op_attr: present exactly where its handle is live.
-#[derive(Clone, Copy)]
-pub enum HandleObject {
-    Absent,
-    Present(ObjectNumber),
-}
-
 // An object number stands for the attributes of the object in the store.
 #[derive(Clone, Copy)]
 pub enum Reply {
@@ -35,9 +21,10 @@ pub enum Reply {
     Failed(Status, ObjectNumber),
     // SETATTR, REMOVE and RMDIR, and every failure that shows a change.
     Changed(Status, ObjectChange),
-    Renamed(Status, HandleChange, HandleChange),
-    // The file, and the change of the directory.
-    Linked(Status, HandleObject, HandleChange),
+    // The changes of the two directories, each where its handle is live.
+    Renamed(Status, Option<ObjectChange>, Option<ObjectChange>),
+    // The file, and the change of the directory, each where its handle is live.
+    Linked(Status, Option<ObjectNumber>, Option<ObjectChange>),
     GotAttributes(ObjectNumber),
     // The object, whose handle is given too, and its directory.
     Found(ObjectNumber, ObjectNumber),

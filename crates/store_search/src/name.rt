@@ -8,7 +8,7 @@ ghost use Rattle.store_records.specs.Shaped.{Shaped, SoundNames};
 ghost use Rattle.store_search.specs.Found.{found_name};
 ghost use Rattle.store_search.specs.Parents.{ParentTable};
 
-use crate::found::{FoundName, one_if};
+use crate::found::one_if;
 use kinds::layout::NameRecord;
 use kinds::numbers::{Limit, NameNumber, ObjectNumber};
 use store_records::counts::{name_count, names_start};
@@ -23,19 +23,16 @@ fn is_free_name(store: &[u8], n: NameNumber) -> bool
 }
 
 // The lowest-numbered free record.
-pub fn find_free_name(store: &[u8]) -> FoundName
+pub fn find_free_name(store: &[u8]) -> Option<NameNumber>
     requires { Shaped store.now }
     ensures { found_name result ≡ available_name store.now }
 {
-    let total = name_count(store);
-    let mut n = 0;
-    while n < total {
+    for n in 0..name_count(store) {
         if is_free_name(store, NameNumber(n)) {
-            return FoundName::At(NameNumber(n));
+            return Some(NameNumber(n));
         }
-        n += 1;
     }
-    FoundName::Nothing
+    None
 }
 
 // Whether the record n, which starts at `at`, is used, and names an object.
@@ -52,21 +49,18 @@ fn is_naming(store: &[u8], n: NameNumber, at: usize, o: ObjectNumber) -> bool
 }
 
 // The lowest-numbered record that names an object.
-pub fn find_naming(store: &[u8], o: ObjectNumber) -> FoundName
+pub fn find_naming(store: &[u8], o: ObjectNumber) -> Option<NameNumber>
     requires { Shaped store.now }
     ensures { found_name result ≡ lowest (names store.now) (is_naming store.now o.0) }
 {
-    let total = name_count(store);
     let mut at = names_start(store);
-    let mut i = 0;
-    while i < total {
+    for i in 0..name_count(store) {
         if is_naming(store, NameNumber(i), at, o) {
-            return FoundName::At(NameNumber(i));
+            return Some(NameNumber(i));
         }
         at += NameRecord::BYTES;
-        i += 1;
     }
-    FoundName::Nothing
+    None
 }
 
 // The names of an object.
@@ -74,14 +68,11 @@ pub fn naming_count(store: &[u8], o: ObjectNumber) -> usize
     requires { Shaped store.now }
     ensures { result ≡ namings store.now o.0 }
 {
-    let total = name_count(store);
     let mut at = names_start(store);
     let mut found = 0;
-    let mut i = 0;
-    while i < total {
+    for i in 0..name_count(store) {
         found += one_if(is_naming(store, NameNumber(i), at, o));
         at += NameRecord::BYTES;
-        i += 1;
     }
     found
 }
@@ -91,10 +82,9 @@ pub fn parent_of(store: &[u8], o: ObjectNumber) -> ObjectNumber
     requires { Shaped store.now }
     ensures { result.0 ≡ parent store.now o.0 }
 {
-    let found = find_naming(store, o);
-    match found {
-        FoundName::At(n) => name_directory(store, n),
-        FoundName::Nothing => ObjectNumber(0),
+    match find_naming(store, o) {
+        Some(n) => name_directory(store, n),
+        None => ObjectNumber(0),
     }
 }
 
@@ -106,9 +96,7 @@ pub fn parent_table(store: &[u8]) -> [u8; Limit::MOST_OBJECTS]
     ensures { ParentTable store.now result }
 {
     let mut table = [0u8; Limit::MOST_OBJECTS];
-    let mut n = name_count(store);
-    while n > 0 {
-        n -= 1;
+    for n in (0..name_count(store)).rev() {
         if is_used_name(store, NameNumber(n)) {
             let child = name_child(store, NameNumber(n));
             let directory = name_directory(store, NameNumber(n));
@@ -155,14 +143,11 @@ pub fn subdirectory_count(store: &[u8], directory: ObjectNumber) -> usize
     requires sound_names { SoundNames store.now }
     ensures { result ≡ subdirectories store.now directory.0 }
 {
-    let total = name_count(store);
     let mut at = names_start(store);
     let mut found = 0;
-    let mut i = 0;
-    while i < total {
+    for i in 0..name_count(store) {
         found += one_if(is_subdirectory(store, NameNumber(i), at, directory));
         at += NameRecord::BYTES;
-        i += 1;
     }
     found
 }

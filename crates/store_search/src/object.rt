@@ -6,7 +6,7 @@ ghost use Rattle.spec.specs.Room.{is_available, available_object, available_coun
 ghost use Rattle.store_records.specs.Shaped.{Shaped};
 ghost use Rattle.store_search.specs.Found.{found_object};
 
-use crate::found::{FoundObject, one_if};
+use crate::found::one_if;
 use kinds::numbers::{Kind, Limit, ObjectNumber};
 use store_records::counts::object_count;
 use store_records::object::{generation_of, kind_of};
@@ -22,31 +22,25 @@ pub fn is_available(store: &[u8], o: ObjectNumber) -> bool
 }
 
 // The lowest-numbered available object.
-pub fn find_available(store: &[u8]) -> FoundObject
+pub fn find_available(store: &[u8]) -> Option<ObjectNumber>
     requires { Shaped store.now }
     ensures { found_object result ≡ available_object store.now }
 {
-    let total = object_count(store);
-    let mut i = 0;
-    while i < total {
+    for i in 0..object_count(store) {
         if is_available(store, ObjectNumber(i)) {
-            return FoundObject::At(ObjectNumber(i));
+            return Some(ObjectNumber(i));
         }
-        i += 1;
     }
-    FoundObject::Nothing
+    None
 }
 
 pub fn available_count(store: &[u8]) -> usize
     requires { Shaped store.now }
     ensures { result ≡ available_count store.now }
 {
-    let total = object_count(store);
     let mut found = 0;
-    let mut i = 0;
-    while i < total {
+    for i in 0..object_count(store) {
         found += one_if(is_available(store, ObjectNumber(i)));
-        i += 1;
     }
     found
 }

@@ -8,7 +8,6 @@ ghost use Rattle.store_records.specs.Shaped.{Shaped, SoundNames};
 ghost use Rattle.store_records.specs.Text.{text_of};
 ghost use Rattle.store_search.specs.Found.{found_name};
 
-use crate::found::FoundName;
 use kinds::call::Part;
 use kinds::layout::NameRecord;
 use kinds::numbers::{NameNumber, ObjectNumber};
@@ -18,7 +17,7 @@ use wire::Compared;
 // What a search found, and how many byte pairs it compared.
 #[derive(Clone, Copy)]
 pub struct Search {
-    pub found: FoundName,
+    pub found: Option<NameNumber>,
     pub compared: usize,
 }
 
@@ -67,34 +66,36 @@ pub fn search_name(store: &[u8], directory: ObjectNumber, call: &[u8], name: Par
 {
     if name.length == 0 {
         return Search {
-            found: FoundName::Nothing,
+            found: None,
             compared: 0,
         };
     }
-    let total = name_count(store);
     let mut at = names_start(store);
     let mut compared = 0;
-    let mut i = 0;
-    while i < total {
+    for i in 0..name_count(store) {
         let record = compare_name(store, NameNumber(i), at, directory, call, name);
         compared += record.pairs;
         if record.same {
             return Search {
-                found: FoundName::At(NameNumber(i)),
+                found: Some(NameNumber(i)),
                 compared,
             };
         }
         at += NameRecord::BYTES;
-        i += 1;
     }
     Search {
-        found: FoundName::Nothing,
+        found: None,
         compared,
     }
 }
 
 // The record of a name in a directory.
-pub fn find_name(store: &[u8], directory: ObjectNumber, call: &[u8], name: Part) -> FoundName
+pub fn find_name(
+    store: &[u8],
+    directory: ObjectNumber,
+    call: &[u8],
+    name: Part,
+) -> Option<NameNumber>
     requires shaped { Shaped store.now }
     requires sound_names { SoundNames store.now }
     requires length_in_bounds { name.start + name.length ≤ length call.now }

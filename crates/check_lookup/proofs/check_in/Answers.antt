@@ -1,10 +1,11 @@
+use Rattle.std.proofs.Common.{rules}
 use Rattle.spec.specs.Procedures.Names.{check_in}
 use Rattle.check_lookup.proofs.check_in.Goals as goal
 
-pub returns-in-Refused : goal.returns-in-Refused
+pub returns-in_err-check_name : goal.returns-in_err-check_name
 unfolding check_in
-returns-in-Refused c = rw (← c.check_name-checked.ensures, c.in-Refused.is)
+returns-in_err-check_name c = search rules
 
 pub returns : goal.returns
 unfolding check_in
-returns c = rw (← c.check_name-checked.ensures, c.in_default.is) c.look_in.ensures
+returns c = search rules

@@ -1,7 +1,9 @@
+use mathlib.Core.Path.{sym, ◌∙◌}
 use native.Mathlib.Omega.{arith}
+use Rattle.std.proofs.Common.{rules}
 use Rattle.spec.specs.Procedures.{cut}
 use Rattle.spec.specs.Procedures.Names.{look_in}
-use Rattle.store_search.proofs.Entry.{name_found}
+use Rattle.store_search.proofs.Entry.{name_found, found_ok, nothing_err}
 use Rattle.store_records.proofs.Good.{good_shaped, good_names_sound}
 use Rattle.check_lookup.proofs.look_in.Goals as goal
 
@@ -16,36 +18,28 @@ returns-then-is_dot_dot c = rw (
   c.if-is_dot.false,
   ← c.is_dot_dot.ensures,
   c.if-is_dot_dot.true,
-  c.parent_of-above.ensures,
+  c.parent_of.ensures,
 )
 
-pub find_name-found-requires-clause-shaped : goal.find_name-found-requires-clause-shaped
-find_name-found-requires-clause-shaped c = good_shaped c.args.store.now c.requires.good_records
+pub find_name-requires-clause-shaped : goal.find_name-requires-clause-shaped
+find_name-requires-clause-shaped c = good_shaped c.args.store.now c.requires.good_records
 
-pub find_name-found-requires-clause-sound_names : goal.find_name-found-requires-clause-sound_names
-find_name-found-requires-clause-sound_names c = good_names_sound c.args.store.now c.requires.good_records
+pub find_name-requires-clause-sound_names : goal.find_name-requires-clause-sound_names
+find_name-requires-clause-sound_names c = good_names_sound c.args.store.now c.requires.good_records
 
-pub find_name-found-requires-clause-length_in_bounds : goal.find_name-found-requires-clause-length_in_bounds
-find_name-found-requires-clause-length_in_bounds c = c.requires.length_in_bounds
+pub find_name-requires-clause-length_in_bounds : goal.find_name-requires-clause-length_in_bounds
+find_name-requires-clause-length_in_bounds c = c.requires.length_in_bounds
 
-pub returns-in_default : goal.returns-in_default
+pub returns-in_err-n : goal.returns-in_err-n
 unfolding look_in
-returns-in_default c = rw (
-  ← c.is_dot.ensures,
-  c.if-is_dot.false,
-  ← c.is_dot_dot.ensures,
-  c.if-is_dot_dot.false,
-  ← c.find_name-found.ensures,
-  c.in_default.is,
-)
+returns-in_err-n c =
+    let n = nothing_err _ _ _ (sym c.ok_or.ensures.value ∙ c.in_err-n.was) in
+    rw (← c.is_dot.ensures, c.if-is_dot.false, ← c.is_dot_dot.ensures, c.if-is_dot_dot.false, ← c.find_name.ensures, n.0) (search rules)
 
-pub name_child-child-requires : goal.name_child-child-requires
-name_child-child-requires c = let a = c.args in
-    omega (
-      arith,
-      (name_found a.store.now c.requires.good_records a.d.0 (cut a.call.now a.name) _ _ c.in-At.is
-          c.find_name-found.ensures).record_below,
-    )
+pub name_child-requires : goal.name_child-requires
+name_child-requires c = let a = c.args in
+    let n = found_ok _ _ _ (sym c.ok_or.ensures.value ∙ c.in_ok-n.was) in
+    omega (arith, (name_found a.store.now c.requires.good_records a.d.0 (cut a.call.now a.name) _ _ n c.find_name.ensures).record_below)
 
 pub returns : goal.returns
 unfolding look_in
@@ -54,7 +48,7 @@ returns c = rw (
   c.if-is_dot.false,
   ← c.is_dot_dot.ensures,
   c.if-is_dot_dot.false,
-  ← c.find_name-found.ensures,
-  c.in-At.is,
-  c.name_child-child.ensures,
+  ← c.find_name.ensures,
+  found_ok _ _ _ (sym c.ok_or.ensures.value ∙ c.in_ok-n.was),
+  c.name_child.ensures,
 )

@@ -1,27 +1,12 @@
-use Rattle.spec.specs.Handles.{change}
 use Rattle.spec.specs.Results.{fail_changing}
-use Rattle.check_handles.proofs.Reach.{object_reached, object_showable}
+use Rattle.spec.specs.Handles.{handle_change}
+use Rattle.check_handles.proofs.Shown.{changing_shown}
 use Rattle.check_handles.proofs.failure.fail_changing.Goals as goal
 
-pub returns-in_default-clause-result_value : goal.returns-in_default-clause-result_value
-unfolding fail_changing change
-returns-in_default-clause-result_value c = rw (← c.reach-answer.ensures, c.in_default.is)
+pub returns-in-Some-clause-result_value : goal.returns-in-Some-clause-result_value
+unfolding fail_changing handle_change
+returns-in-Some-clause-result_value c = rw (changing_shown, ← c.handle_change.ensures.result_value, c.in-Some.is)
 
-pub returns-in_default-clause-writable : goal.returns-in_default-clause-writable
-unfolding fail_changing change
-returns-in_default-clause-writable c = tt
-
-pub unchanged-shown-requires-clause-good_records : goal.unchanged-shown-requires-clause-good_records
-unchanged-shown-requires-clause-good_records c = c.requires.good_records
-
-pub unchanged-shown-requires-clause-o_bound : goal.unchanged-shown-requires-clause-o_bound
-unchanged-shown-requires-clause-o_bound c = (object_reached _ _ _ _ c.in-At.is c.reach-answer.ensures).below
-
-pub returns-clause-result_value : goal.returns-clause-result_value
-unfolding fail_changing change
-returns-clause-result_value c = rw (c.unchanged-shown.ensures, ← c.reach-answer.ensures, c.in-At.is)
-
-pub returns-clause-writable : goal.returns-clause-writable
-unfolding fail_changing change
-returns-clause-writable c = rw c.unchanged-shown.ensures (object_showable _ _ _ _ c.in-At.is c.requires.good_records
-    c.reach-answer.ensures)
+pub returns-in-None-clause-result_value : goal.returns-in-None-clause-result_value
+unfolding fail_changing handle_change
+returns-in-None-clause-result_value c = rw (changing_shown, ← c.handle_change.ensures.result_value, c.in-None.is)

@@ -1,19 +1,11 @@
 use Rattle.spec.specs.Handles.{handle_attributes}
-use Rattle.check_handles.proofs.Reach.{object_showable}
+use Rattle.check_handles.proofs.Reach.{reached_showable}
+use Rattle.check_handles.proofs.Shown.{shown_object}
 use Rattle.check_handles.proofs.failure.handle_object.Goals as goal
-
-pub returns-in_default-clause-result_value : goal.returns-in_default-clause-result_value
-unfolding handle_attributes
-returns-in_default-clause-result_value c = rw (← c.reach-answer.ensures, c.in_default.is)
-
-pub returns-in_default-clause-showable_object : goal.returns-in_default-clause-showable_object
-unfolding handle_attributes
-returns-in_default-clause-showable_object c = tt
 
 pub returns-clause-result_value : goal.returns-clause-result_value
 unfolding handle_attributes
-returns-clause-result_value c = rw (← c.reach-answer.ensures, c.in-At.is)
+returns-clause-result_value c = rw (c.ok.ensures.value, ← c.reach.ensures) (shown_object _ _)
 
 pub returns-clause-showable_object : goal.returns-clause-showable_object
-unfolding handle_attributes
-returns-clause-showable_object c = object_showable _ _ _ _ c.in-At.is c.requires.good_records c.reach-answer.ensures
+returns-clause-showable_object c = rw c.ok.ensures.value (reached_showable _ _ _ c.requires.good_records c.reach.ensures)

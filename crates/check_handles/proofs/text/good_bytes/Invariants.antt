@@ -1,4 +1,3 @@
-use Prim.Native.Nat.{◌-◌, ◌≤◌}
 use mathlib.Core.Path.{◌≡◌}
 use mathlib.Core.Bool.{true}
 use Rattle.spec.specs.Bytes.{part}
@@ -6,7 +5,4 @@ use Rattle.spec.specs.Names.{good_bytes}
 use Rattle.check_handles.proofs.text.good_bytes.Given as goal
 
 abbrev pub invariant-loop-i : goal.invariant-loop-i
-invariant-loop-i l = (l.i ≤ l.n) × (good_bytes (part l.call l.at l.i) ≡ true)
-
-abbrev pub decreases-loop-i : goal.decreases-loop-i
-decreases-loop-i l = l.n - l.i
+invariant-loop-i l = good_bytes (part l.call l.at l.i) ≡ true

@@ -4,24 +4,23 @@ use Rattle.spec.specs.Room.{is_naming, namings}
 use Rattle.laws.proofs.Count.{count_more}
 use native.Mathlib.Omega.{arith}
 use mathlib.Core.Path.{◌≡◌, refl}
-use Prim.Native.Nat.{◌-◌, zero-le}
+use Prim.Native.Nat.{zero-le}
 use Rattle.store_search.proofs.name.naming_count.Goals as goal
 
 pub loop-i-init : goal.loop-i-init
 unfolding sum
-loop-i-init c = (zero-le, c.names_start-at.ensures, zero-le, refl)
+loop-i-init c = (c.names_start-at.ensures, zero-le, refl)
 
 pub loop-i-preserved : goal.loop-i-preserved
 loop-i-preserved c = let s = c.args.store.now in
     let o = c.args.o.0 in (
       omega arith,
       omega arith,
-      omega arith,
-      count_more (is_naming s o) c.loop-i.i c.loop-i.found _ _ c.loop-i.invariant.3 c.one_if-found.ensures.0
+      count_more (is_naming s o) c.loop-i.i c.loop-i.found _ _ c.loop-i.invariant.2 c.one_if-found.ensures.0
           c.is_naming.ensures,
     )
 
 pub returns : goal.returns
 unfolding namings
 returns c = let e : c.loop-i.i ≡ names c.args.store.now = omega arith in
-    rw e at c.loop-i.invariant.3
+    rw e at c.loop-i.invariant.2

@@ -8,14 +8,14 @@ use Rattle.store_search.proofs.name.parent_of.Goals as goal
 
 pub name_directory-requires : goal.name_directory-requires
 name_directory-requires c = let a = c.args in
-    let e = sym c.find_naming-found.ensures ∙ ap found_name c.in-At.is in
-    let p = lowest_passes (is_naming a.store.now a.o.0) (names a.store.now) c.in-At.n.0 e in
+    let e = sym c.find_naming.ensures ∙ ap found_name c.in-Some.is in
+    let p = lowest_passes (is_naming a.store.now a.o.0) (names a.store.now) c.in-Some.n.0 e in
     omega arith
 
-pub returns-in-At : goal.returns-in-At
+pub returns-in-Some : goal.returns-in-Some
 unfolding parent
-returns-in-At c = rw (sym c.find_naming-found.ensures ∙ ap found_name c.in-At.is) c.name_directory.ensures
+returns-in-Some c = rw (sym c.find_naming.ensures ∙ ap found_name c.in-Some.is) c.name_directory.ensures
 
-pub returns-in-Nothing : goal.returns-in-Nothing
+pub returns-in-None : goal.returns-in-None
 unfolding parent
-returns-in-Nothing c = rw (sym c.find_naming-found.ensures ∙ ap found_name c.in-Nothing.is)
+returns-in-None c = rw (sym c.find_naming.ensures ∙ ap found_name c.in-None.is)

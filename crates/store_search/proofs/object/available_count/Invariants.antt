@@ -1,11 +1,8 @@
 use Rattle.spec.specs.Count.{count}
 use Rattle.spec.specs.Room.{is_available}
 use mathlib.Core.Path.{◌≡◌}
-use Prim.Native.Nat.{◌-◌, ◌≤◌}
+use Prim.Native.Nat.{◌≤◌}
 use Rattle.store_search.proofs.object.available_count.Given as goal
 
 abbrev pub invariant-loop-i : goal.invariant-loop-i
-invariant-loop-i l = (l.i ≤ l.total) × (l.found ≤ l.i) × (l.found ≡ count l.i (is_available l.store))
-
-abbrev pub decreases-loop-i : goal.decreases-loop-i
-decreases-loop-i l = l.total - l.i
+invariant-loop-i l = (l.found ≤ l.i) × (l.found ≡ count l.i (is_available l.store))

@@ -1,5 +1,5 @@
 use mathlib.Core.Path.{◌≡◌, refl, sym, ◌∙◌}
-use Prim.Native.Nat.{◌-◌, zero-le}
+use Prim.Native.Nat.{zero-le}
 use native.Mathlib.Omega.{arith}
 use Rattle.spec.specs.Count.{sum, lowest, passing}
 use Rattle.spec.specs.Image.{names}
@@ -20,10 +20,10 @@ returns-then-name-eq0 c = let a = c.args in
 
 pub loop-i-init : goal.loop-i-init
 unfolding sum lowest passing
-loop-i-init c = (zero-le, c.names_start-at.ensures, zero-le, refl, refl)
+loop-i-init c = (c.names_start-at.ensures, zero-le, refl, refl)
 
 pub compare_name-record-requires-clause-at_value : goal.compare_name-record-requires-clause-at_value
-compare_name-record-requires-clause-at_value c = c.loop-i.invariant.1
+compare_name-record-requires-clause-at_value c = c.loop-i.invariant.0
 
 pub compare_name-record-requires-clause-n_bound : goal.compare_name-record-requires-clause-n_bound
 compare_name-record-requires-clause-n_bound c = c.requires.sound_names.short c.loop-i.i (omega arith)
@@ -48,9 +48,9 @@ returns-then-record c = let a = c.args in
     let s = a.store.now in
     let d = a.directory.0 in
     let text = text_of a.call.now a.name in
-    let found = lowest_hit (is_named s d text) c.loop-i.i (names s) c.loop-i.invariant.3 (sym c.compare_name-record.ensures.same_value ∙ c.if-record.true) (omega arith) in
+    let found = lowest_hit (is_named s d text) c.loop-i.i (names s) c.loop-i.invariant.2 (sym c.compare_name-record.ensures.same_value ∙ c.if-record.true) (omega arith) in
     let next = sum_more c.loop-i.i (compared_at s d text) in
-    record { found_value = sym found; compared_value = rw found (omega (arith, c.compare_name-record.ensures.pairs_value, c.loop-i.invariant.4, next)) }
+    record { found_value = sym found; compared_value = rw found (omega (arith, c.compare_name-record.ensures.pairs_value, c.loop-i.invariant.3, next)) }
 
 pub loop-i-preserved : goal.loop-i-preserved
 loop-i-preserved c = let a = c.args in
@@ -62,13 +62,12 @@ loop-i-preserved c = let a = c.args in
     let next = sum_more c.loop-i.i (compared_at s d text) in (
       omega arith,
       omega arith,
-      omega arith,
-      lowest_more _ c.loop-i.i c.loop-i.invariant.3 (sym c.compare_name-record.ensures.same_value ∙ c.if-record.false),
+      lowest_more _ c.loop-i.i c.loop-i.invariant.2 (sym c.compare_name-record.ensures.same_value ∙ c.if-record.false),
       omega arith,
     )
 
 pub returns : goal.returns
 unfolding find_name compared
 returns c = let e : c.loop-i.i ≡ names c.args.store.now = omega arith in
-    let None-found = rw e at c.loop-i.invariant.3 in
-    record { found_value = sym None-found; compared_value = rw None-found (rw e at c.loop-i.invariant.4) }
+    let None-found = rw e at c.loop-i.invariant.2 in
+    record { found_value = sym None-found; compared_value = rw None-found (rw e at c.loop-i.invariant.3) }
