@@ -13,7 +13,7 @@ ghost use Rattle.results.specs.Writable.{Writable};
 ghost use Rattle.act_list.specs.Run.{cost, open_run, length_in, extended, run_of, listing_of};
 
 use check_handles::failure::fail_showing;
-use check_handles::handle::{Reached, reach_directory};
+use check_handles::handle::reach_directory;
 use kinds::call::Part;
 use kinds::layout::NameRecord;
 use kinds::numbers::{Limit, ObjectNumber, Status};
@@ -37,6 +37,7 @@ fn entry_cost(long: usize) -> usize
 }
 
 // Adds an entry above the given cookie to a run, by the length of its name; the first that does not fit ends the run.
+#[tactic(auto, unfolding(crate::specs::Run::extended, crate::specs::Run::fitted))]
 fn extend(run: Run, given: u64, cookie: u64, long: usize) -> Run
     requires long_le_most_name_bytes { long ≤ most_name_bytes }
     requires count_bound { run.count ≤ 200 }
@@ -149,6 +150,7 @@ fn check_listing(
 }
 
 // How many entries READDIR sends of a directory and whether nothing remains, or BAD_COOKIE or TOOSMALL.
+#[tactic(auto, unfolding(spec::specs::Procedures::Listing::check_readdir_in))]
 fn check_readdir_in(
     store: &[u8],
     d: ObjectNumber,
@@ -166,16 +168,16 @@ fn check_readdir_in(
     check_listing(store, d, cookie, limit)
 }
 
+#[tactic(auto, unfolding(spec::specs::Procedures::Listing::check_readdir, spec::specs::Procedures::Listing::readdir))]
 pub fn readdir(store: &[u8], call: &[u8], h: Part, cookie: u64, verifier: u64, count: u32) -> Reply
     requires good_records { GoodRecords store.now }
     requires length_in_bounds { h.start + h.length ≤ length call.now }
     ensures result_value { result_of store.now result ≡ (readdir store.now (cut call.now h) cookie verifier count).result }
     ensures writable { Writable store.now result }
 {
-    let answer = reach_directory(store, call, h);
-    let d = match answer {
-        Reached::At(d) => d,
-        Reached::Refused(status) => return fail_showing(store, call, h, status),
+    let d = match reach_directory(store, call, h) {
+        Ok(d) => d,
+        Err(status) => return fail_showing(store, call, h, status),
     };
     match check_readdir_in(store, d, cookie, verifier, count) {
         Ok((n, all)) => Reply::Listed(d, all, cookie, n),

@@ -18,9 +18,10 @@ use Rattle.laws.proofs.GoodRecords.{GoodRecords}
 use Rattle.laws.proofs.Range.{Below}
 use Rattle.laws.proofs.RecordRange.{below_zeros}
 use Rattle.laws.proofs.Valid.{Padded, GoodNameRecord}
+use Rattle.laws.proofs.Words.{words_append}
 use Rattle.laws.proofs.Zeros.{zero_within}
 use Rattle.xdr.specs.Wrote.{Wrote}
-use Rattle.xdr.proofs.Wrote.{and_then, and_words}
+use Rattle.xdr.proofs.Wrote.{and_then}
 use Rattle.reply_entries.specs.Entries.{PaddedName, entry}
 use Rattle.reply_entries.proofs.Hyper.{hyper_small}
 
@@ -71,19 +72,21 @@ pub padded_dots : PaddedName dot_text 0 2
 unfolding part
 padded_dots = record { bytes = dot_bytes; short = omega arith; inside = omega arith; padded = refl }
 
--- ---- an entry, word by word
+-- ---- an entry: the words before the name, the name, and the words after it
 padded_opaque : (name : List ℕ) (len : ℕ) → length name ≡ len → words (len ∷ []) ++ (name ++ zeros (padding len)) ≡ opaque_bytes name
 unfolding opaque_bytes
 padded_opaque name len e = rw e (sym (append_assoc (words (len ∷ [])) name (zeros (padding len))))
 
-pub wrote_entry : (fileid number len : ℕ) (name : List ℕ) {r r₁ r₂ r₃ r₄ r₅ r₆ r₇ : List ℕ} {at p₁ p₂ p₃ p₄ p₅ p₆ p₇ : ℕ}
+pub wrote_entry : (fileid number len : ℕ) (name : List ℕ) {r r₁ r₂ r₃ : List ℕ} {at p₁ p₂ p₃ : ℕ}
     → fileid < 4294967296 → number < 4294967296 → length name ≡ len
-    → Wrote 4 r r₁ at p₁ (words (1 ∷ [])) → Wrote 4 r₁ r₂ p₁ p₂ (words (0 ∷ [])) → Wrote 4 r₂ r₃ p₂ p₃ (words (fileid ∷ []))
-    → Wrote 4 r₃ r₄ p₃ p₄ (words (len ∷ [])) → Wrote (len + padding len) r₄ r₅ p₄ p₅ (name ++ zeros (padding len))
-    → Wrote 4 r₅ r₆ p₅ p₆ (words (0 ∷ [])) → Wrote 4 r₆ r₇ p₆ p₇ (words (number ∷ []))
-    → Wrote (entry_fixed_cost + (len + padding len)) r r₇ at p₇ (entry_bytes (entry fileid name number))
+    → Wrote 16 r r₁ at p₁ (words (1 ∷ 0 ∷ fileid ∷ len ∷ [])) → Wrote (len + padding len) r₁ r₂ p₁ p₂ (name ++ zeros (padding len))
+    → Wrote 8 r₂ r₃ p₂ p₃ (words (0 ∷ number ∷ []))
+    → Wrote (entry_fixed_cost + (len + padding len)) r r₃ at p₃ (entry_bytes (entry fileid name number))
 unfolding entry_bytes
-wrote_entry fileid number len name f n l a b c d t y z =
-    let e : entry_fixed_cost + (len + padding len) ≡ 12 + (4 + (len + padding len)) + 8 = omega arith in
-    rw (e, hyper_small fileid f, hyper_small number n, ← padded_opaque name len l)
-    (and_then (and_then (and_words (1 ∷ 0 ∷ []) (fileid ∷ []) (and_words (1 ∷ []) (0 ∷ []) a b) c) (and_then d t)) (and_words (0 ∷ []) (number ∷ []) y z))
+wrote_entry fileid number len name f n l a b c =
+    let e : entry_fixed_cost + (len + padding len) ≡ 16 + (len + padding len) + 8 = omega arith in
+    let text : words (1 ∷ 0 ∷ fileid ∷ len ∷ []) ++ (name ++ zeros (padding len)) ≡ words (1 ∷ 0 ∷ fileid ∷ []) ++ opaque_bytes name =
+    ap (λ (x : List ℕ). x ++ (name ++ zeros (padding len))) (words_append (1 ∷ 0 ∷ fileid ∷ []) (len ∷ []))
+    ∙ append_assoc (words (1 ∷ 0 ∷ fileid ∷ [])) (words (len ∷ [])) (name ++ zeros (padding len))
+    ∙ ap (λ (x : List ℕ). words (1 ∷ 0 ∷ fileid ∷ []) ++ x) (padded_opaque name len l) in
+    rw (e, hyper_small fileid f, hyper_small number n, ← text) (and_then (and_then a b) c)

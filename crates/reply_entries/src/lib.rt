@@ -17,7 +17,7 @@ use kinds::layout::NameRecord;
 use kinds::numbers::{NameNumber, ObjectNumber};
 use store_records::counts::{name_count, names_start};
 use store_search::name::parent_of;
-use xdr::write::put_word;
+use xdr::write::put_words;
 
 // Where the next entry is written, and how many more are sent.
 #[derive(Clone, Copy)]
@@ -52,13 +52,9 @@ fn put_entry(
     requires len_in_bounds { at + (entry_fixed_cost + (len + padding len)) ≤ length reply.old }
     ensures { Wrote (entry_fixed_cost + (len + padding len)) reply.old reply.new at result (entry_bytes (entry fileid (part src.now from len) number)) }
 {
-    let high = put_word(reply, at, 1);
-    let low = put_word(reply, high, 0);
-    let size = put_word(reply, low, fileid);
-    let text = put_word(reply, size, len as u32);
+    let text = put_words(reply, at, &[1, 0, fileid, len as u32]);
     let end = put_padded(reply, text, src, from, len);
-    let cookie = put_word(reply, end, 0);
-    put_word(reply, cookie, number)
+    put_words(reply, end, &[0, number])
 }
 
 // One entry, if its number is above the cookie of the call and one more is sent.
@@ -99,7 +95,7 @@ fn put_dots(
     requires parent_in_bounds { p.at + length (entries_bytes (take p.left (entries_above cookie (dots directory.0 parent.0)))) ≤ length reply.old }
     ensures { WroteEntries (entries_above cookie (dots directory.0 parent.0)) reply.old reply.new p result }
 {
-    let text = [0x2Eu8, 0x2E, 0, 0, 0];
+    let text = [b'.', b'.', 0, 0, 0];
     let q = put_above(reply, p, directory.0 as u32 + 1, &text, 1, 1, 1, cookie);
     put_above(reply, q, parent.0 as u32 + 1, &text, 0, 2, 2, cookie)
 }

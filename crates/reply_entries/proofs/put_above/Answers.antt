@@ -9,7 +9,7 @@ use Rattle.reply_entries.proofs.put_above.Goals as goal
 pub returns-then-cookie-number : goal.returns-then-cookie-number
 returns-then-cookie-number c = let a = c.args in
     elim c.then-cookie-number.branch [
-      then-cookie-number-via-then-cookie-number w ↦ rw (above_low a.cookie (entry a.fileid (part a.src.now a.from a.len) a.number) w.if-cookie-number.true)
+      | then-cookie-number-via-then-cookie-number w ↦ rw (above_low a.cookie (entry a.fileid (part a.src.now a.from a.len) a.number) w.if-cookie-number.true)
           (entries_none a.reply.now a.p (omega arith))
       | then-cookie-number-via-else-cookie-number+then-p-eq0 w ↦ entries_full _ a.reply.now a.p w.if-p-eq0.true (omega arith)
     ]
