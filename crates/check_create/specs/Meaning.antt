@@ -1,12 +1,13 @@
 -- What each answer of the code stands for.
-use Rattle.std.specs.Prelude.{ℕ}
+use Rattle.std.specs.Prelude.{ℕ, Result, Ok, Err}
 use Rattle.spec.specs.Checked.{Checked, refused, passed}
 use Rattle.spec.specs.Procedures.Names as names
+use Rattle.kinds.specs.declared.numbers.ObjectNumber.{ObjectNumber}
+use Rattle.kinds.specs.declared.numbers.Status.{Status}
+use Rattle.check_make.specs.declared.checks.Target.{Target}
 use Rattle.check_make.specs.Meaning.{made_of}
-use Rattle.check_create.specs.declared.CreateChecked.{CreateChecked}
-use Rattle.check_create.specs.declared.CreateChecked.TheVariants as CreateChecked
 
 -- the directory and the target, or the status
-abbrev pub create_checked_of : CreateChecked → Checked (ℕ × names.Target)
-create_checked_of (CreateChecked.At d t) = passed (d.0, made_of t)
-create_checked_of (CreateChecked.Refused status) = refused status.0
+abbrev pub create_checked_of : Result (ObjectNumber × Target) Status → Checked (ℕ × names.Target)
+create_checked_of (Ok p) = passed (p.0.0, made_of p.1)
+create_checked_of (Err status) = refused status.0

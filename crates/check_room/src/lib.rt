@@ -18,19 +18,12 @@ use kinds::numbers::{Limit, NameNumber, ObjectNumber, Status};
 use store_blocks::free_block_count;
 use store_places::need;
 use store_records::object::size_of;
-use store_search::found::{FoundName, FoundObject};
 use store_search::name::find_free_name;
 use store_search::object::find_available;
 
-// A free object record and a free name record, or the status.
-#[derive(Clone, Copy)]
-pub enum RoomChecked {
-    At(ObjectNumber, NameNumber),
-    Refused(Status),
-}
-
 // Whether growth from one size to another takes more blocks than are free. The map says which blocks are used; they
 // are counted only where more are needed.
+#[tactic(auto, unfolding(spec::specs::Procedures::Attributes::lacks_room))]
 fn lacks_room(store: &[u8], used: &[u8; Limit::MOST_BLOCKS], old: usize, size: usize) -> bool
     requires good_records { GoodRecords store.now }
     requires used_map { UsedMap store.now used.now }
@@ -40,13 +33,11 @@ fn lacks_room(store: &[u8], used: &[u8; Limit::MOST_BLOCKS], old: usize, size: u
 {
     let held = need(old);
     let wanted = need(size);
-    if wanted <= held {
-        return false;
-    }
-    free_block_count(store, used) < wanted - held
+    held < wanted && free_block_count(store, used) < wanted - held
 }
 
 // Whether a file grows past the free blocks where it gets the size that is given.
+#[tactic(auto, using(store_records::proofs::Good::size_few))]
 pub fn lacks_room_for_size(
     store: &[u8],
     used: &[u8; Limit::MOST_BLOCKS],
@@ -69,13 +60,11 @@ pub fn is_past_end(offset: u64, n: usize) -> bool
     requires { n ≤ most_transfer_bytes }
     ensures { result ≡ ltb most_file_bytes (offset + n) }
 {
-    if Limit::MOST_FILE_BYTES < offset {
-        return true;
-    }
-    Limit::MOST_FILE_BYTES < offset + n as u64
+    Limit::MOST_FILE_BYTES < offset || Limit::MOST_FILE_BYTES < offset + n as u64
 }
 
 // Whether a file grows past the free blocks where bytes are written at an offset.
+#[tactic(auto, using(store_records::proofs::Good::size_few))]
 pub fn lacks_room_for_bytes(
     store: &[u8],
     used: &[u8; Limit::MOST_BLOCKS],
@@ -94,22 +83,21 @@ pub fn lacks_room_for_bytes(
 }
 
 // A record for a new object, one for its name, and blocks for its size; else NOSPC.
-pub fn room_for_new(store: &[u8], used: &[u8; Limit::MOST_BLOCKS], size: usize) -> RoomChecked
+#[tactic(auto, unfolding(spec::specs::Procedures::Names::room_for_new))]
+pub fn room_for_new(
+    store: &[u8],
+    used: &[u8; Limit::MOST_BLOCKS],
+    size: usize,
+) -> Result<(ObjectNumber, NameNumber), Status>
     requires good_records { GoodRecords store.now }
     requires used_map { UsedMap store.now used.now }
     requires size_le_most_file_bytes { size ≤ most_file_bytes }
     ensures { room_checked_of result ≡ room_for_new store.now size }
 {
-    let object = find_available(store);
-    let FoundObject::At(o) = object else {
-        return RoomChecked::Refused(Status::NOSPC);
-    };
-    let record = find_free_name(store);
-    let FoundName::At(n) = record else {
-        return RoomChecked::Refused(Status::NOSPC);
-    };
+    let o = find_available(store).ok_or(Status::NOSPC)?;
+    let n = find_free_name(store).ok_or(Status::NOSPC)?;
     if lacks_room(store, used, 0, size) {
-        return RoomChecked::Refused(Status::NOSPC);
+        return Err(Status::NOSPC);
     }
-    RoomChecked::At(o, n)
+    Ok((o, n))
 }

@@ -14,10 +14,7 @@ use kinds::object::Time;
 pub fn is_given(size: SetSize) -> bool
     ensures { result ≡ is_given size }
 {
-    match size {
-        SetSize::Keep => false,
-        SetSize::To(_) => true,
-    }
+    matches!(size, SetSize::To(_))
 }
 
 // The size that is given, or the old one.
@@ -34,61 +31,39 @@ pub fn size_set(size: SetSize, old: u64) -> u64
 fn number_over(most: u32, number: SetNumber) -> bool
     ensures { result ≡ number_over most number }
 {
-    match number {
-        SetNumber::Keep => false,
-        SetNumber::To(n) => most < n,
-    }
+    matches!(number, SetNumber::To(n) if most < n)
 }
 
 // Whether a time of the client is given whose nanoseconds make a second or more.
 fn bad_time(time: SetTime) -> bool
     ensures { result ≡ bad_time time }
 {
-    match time {
-        SetTime::Keep => false,
-        SetTime::ToServer => false,
-        SetTime::ToClient(t) => Limit::NANOSECONDS_END <= t.nanoseconds,
-    }
+    matches!(time, SetTime::ToClient(t) if Limit::NANOSECONDS_END <= t.nanoseconds)
 }
 
 // Whether an attribute is given that no object may have.
+#[tactic(auto, unfolding(spec::specs::Procedures::Attributes::bad_attributes))]
 pub fn bad_attributes(a: Settable) -> bool
     ensures { result ≡ bad_attributes a }
 {
-    let mode = a.mode;
-    if number_over(Limit::MOST_MODE, mode) {
-        return true;
-    }
-    let atime = a.atime;
-    if bad_time(atime) {
-        return true;
-    }
-    let mtime = a.mtime;
-    if bad_time(mtime) {
-        return true;
-    }
-    let size = a.size;
-    Limit::MOST_FILE_BYTES < size_set(size, 0)
+    number_over(Limit::MOST_MODE, a.mode)
+        || bad_time(a.atime)
+        || bad_time(a.mtime)
+        || Limit::MOST_FILE_BYTES < size_set(a.size, 0)
 }
 
-// Whether two times are the same.
+// Whether two times are the same: by field, as the definition of `differs` compares them.
 fn same_time(t: Time, u: Time) -> bool
     ensures { result ≡ eqb t.seconds u.seconds && eqb t.nanoseconds u.nanoseconds }
 {
-    if t.seconds != u.seconds {
-        return false;
-    }
-    t.nanoseconds == u.nanoseconds
+    t.seconds == u.seconds && t.nanoseconds == u.nanoseconds
 }
 
 // Whether the guard's ctime is not the object's.
 pub fn differs(guard: Guard, ctime: Time) -> bool
     ensures { result ≡ differs guard ctime }
 {
-    match guard {
-        Guard::Absent => false,
-        Guard::Ctime(t) => !same_time(t, ctime),
-    }
+    matches!(guard, Guard::Ctime(t) if !same_time(t, ctime))
 }
 
 // Sets ctime alone.
@@ -110,8 +85,7 @@ pub fn settable_in(manner: How) -> Settable
     ensures { result ≡ settable_in manner }
 {
     match manner {
-        How::Unchecked(a) => a,
-        How::Guarded(a) => a,
+        How::Unchecked(a) | How::Guarded(a) => a,
         How::Exclusive(_) => only_ctime(),
     }
 }
