@@ -9,7 +9,6 @@ use Rattle.kinds.specs.Numbers.{most_transfer_bytes}
 use Rattle.kinds.specs.declared.object.Context.{Context}
 use Rattle.kinds.specs.declared.call.Part.{Part}
 use Rattle.kinds.specs.declared.call.SetSize.{SetSize}
-use Rattle.kinds.specs.declared.call.SetSize.TheVariants as SetSize
 use Rattle.kinds.specs.declared.call.Settable.{Settable}
 use Rattle.kinds.specs.declared.call.Guard.{Guard}
 use Rattle.kinds.specs.declared.call.Arguments.TheVariants as Arguments

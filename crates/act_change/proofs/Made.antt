@@ -7,7 +7,6 @@ use Rattle.kinds.specs.Numbers.{DIRECTORY}
 use Rattle.kinds.specs.declared.object.Object.{Object}
 use Rattle.kinds.specs.declared.object.Context.{Context}
 use Rattle.kinds.specs.declared.call.SetSize.{SetSize}
-use Rattle.kinds.specs.declared.call.SetSize.TheVariants as SetSize
 use Rattle.spec.specs.Edits.{mtime_and_ctime, resize, with_generation, create_object}
 use Rattle.spec.specs.Image.{Store, blocks, object_at}
 use Rattle.spec.specs.Procedures.Attributes.{resize_to}

@@ -22,7 +22,6 @@ use Rattle.laws.proofs.SetAttributes.{FitsSettable}
 use Rattle.check_make.specs.Meaning.{made_of}
 use Rattle.act_change.specs.Makable.{Sizable, Makable}
 use Rattle.check_make.specs.declared.checks.Target.{Target}
-use Rattle.check_make.specs.declared.checks.Target.TheVariants as Target
 
 pub mkdir_makable : (s : Store) (c : Context) (h text : List ℕ) (a : Settable) (d o n : ℕ) (v : Object) → v ≡ new_object c.clock DIRECTORY a
     → GoodClock c.clock → FitsSettable a → MkdirPassed s h text a d o n → Makable s c v a.size o n d text

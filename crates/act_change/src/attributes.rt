@@ -11,7 +11,6 @@ ghost use Rattle.act_change.specs.Makable.{Sizable};
 
 use crate::setting::check_setattr;
 use check_handles::failure::fail_changing;
-use check_handles::handle::Reached;
 use check_settable::is_given;
 use edit_attributes::{forget_verifier, set_attributes};
 use edit_size::size::resize;
@@ -27,8 +26,7 @@ fn or_server(time: SetTime) -> SetTime
 {
     match time {
         SetTime::Keep => SetTime::ToServer,
-        SetTime::ToServer => SetTime::ToServer,
-        SetTime::ToClient(t) => SetTime::ToClient(t),
+        given => given,
     }
 }
 
@@ -37,28 +35,20 @@ fn touched(size: SetSize, mtime: SetTime) -> SetTime
     ensures { result ≡ cond (is_given size) (or_server mtime) mtime }
 {
     if is_given(size) {
-        return or_server(mtime);
+        or_server(mtime)
+    } else {
+        mtime
     }
-    mtime
 }
 
 // The attributes that SETATTR sets: a size sets mtime too.
+#[tactic(auto, unfolding(spec::specs::Procedures::Attributes::size_touches))]
 fn size_touches(a: Settable) -> Settable
     ensures { result ≡ size_touches a }
 {
-    let mode = a.mode;
-    let uid = a.uid;
-    let gid = a.gid;
-    let size = a.size;
-    let atime = a.atime;
-    let mtime = a.mtime;
     Settable {
-        mode,
-        uid,
-        gid,
-        size,
-        atime,
-        mtime: touched(size, mtime),
+        mtime: touched(a.size, a.mtime),
+        ..a
     }
 }
 
@@ -76,6 +66,7 @@ pub fn resize_to(store: &mut [u8], used: &[u8; Limit::MOST_BLOCKS], o: ObjectNum
 }
 
 // What SETATTR does to the store.
+#[tactic(auto, unfolding(spec::specs::Procedures::Attributes::setattr_edit))]
 fn setattr_edit(
     store: &mut [u8],
     used: &[u8; Limit::MOST_BLOCKS],
@@ -88,10 +79,8 @@ fn setattr_edit(
     requires sizable { Sizable store.old o.0 a.size }
     ensures { store.new ≡ setattr_edit store.old context o.0 a }
 {
-    let size = a.size;
-    resize_to(store, used, o, size);
-    let clock = context.clock;
-    set_attributes(store, clock, o, size_touches(a));
+    resize_to(store, used, o, a.size);
+    set_attributes(store, context.clock, o, size_touches(a));
     forget_verifier(store, o);
 }
 
@@ -110,10 +99,9 @@ pub fn setattr(
     requires length_in_bounds { h.start + h.length ≤ length call.now }
     ensures { Does (setattr store.old context (cut call.now h) a g) result store.new }
 {
-    let answer = check_setattr(store, used, call, h, a, g);
-    let o = match answer {
-        Reached::At(o) => o,
-        Reached::Refused(status) => return fail_changing(store, call, h, status),
+    let o = match check_setattr(store, used, call, h, a, g) {
+        Ok(o) => o,
+        Err(status) => return fail_changing(store, call, h, status),
     };
     let earlier = before(store, o);
     setattr_edit(store, used, context, o, a);

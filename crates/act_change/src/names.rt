@@ -13,9 +13,9 @@ ghost use Rattle.results.specs.Does.{Does};
 ghost use Rattle.act_change.specs.Makable.{Sizable, Makable};
 
 use crate::attributes::resize_to;
-use check_create::{CreateChecked, check_create};
+use check_create::check_create;
 use check_handles::failure::fail_changing;
-use check_make::checks::{MkdirChecked, Target, check_mkdir};
+use check_make::checks::{Target, check_mkdir};
 use check_settable::{only_ctime, settable_in};
 use edit_attributes::{touch, with_attributes};
 use edit_names::create_object;
@@ -27,6 +27,7 @@ use results::{ObjectChange, Reply};
 use store_attributes::before;
 
 // A new object: attributes that are not given are 0, times that are not given the clock.
+#[tactic(auto, unfolding(spec::specs::Procedures::Names::new_object))]
 fn new_object(clock: Time, kind: u32, a: Settable) -> Object
     ensures { result ≡ new_object clock kind a }
 {
@@ -48,13 +49,15 @@ fn new_object(clock: Time, kind: u32, a: Settable) -> Object
 }
 
 // An object with another verifier and flag.
+#[tactic(auto, unfolding(spec::specs::Edits::with_verifier))]
 fn with_verifier(verifier: u64, flag: u32, v: Object) -> Object
     ensures { result ≡ with_verifier verifier flag v }
 {
-    let mut w = v;
-    w.verifier = verifier;
-    w.exclusive = flag;
-    w
+    Object {
+        verifier,
+        exclusive: flag,
+        ..v
+    }
 }
 
 // A new file; one made EXCLUSIVE keeps the verifier.
@@ -62,8 +65,7 @@ fn new_file(clock: Time, manner: How) -> Object
     ensures { result ≡ new_file clock manner }
 {
     match manner {
-        How::Unchecked(a) => new_object(clock, Kind::REGULAR, a),
-        How::Guarded(a) => new_object(clock, Kind::REGULAR, a),
+        How::Unchecked(a) | How::Guarded(a) => new_object(clock, Kind::REGULAR, a),
         How::Exclusive(verifier) => {
             let v = new_object(clock, Kind::REGULAR, only_ctime());
             with_verifier(verifier, Limit::KEPT_FLAG, v)
@@ -72,6 +74,7 @@ fn new_file(clock: Time, manner: How) -> Object
 }
 
 // What CREATE and MKDIR do to the store for a new object.
+#[tactic(auto, unfolding(spec::specs::Procedures::Names::new_edit))]
 fn new_edit(
     store: &mut [u8],
     used: &[u8; Limit::MOST_BLOCKS],
@@ -90,10 +93,9 @@ fn new_edit(
     requires makable { Makable store.old context v size o.0 n.0 d.0 (cut call.now name) }
     ensures { store.new ≡ new_edit store.old context v size o.0 n.0 d.0 (cut call.now name) }
 {
-    let clock = context.clock;
     create_object(store, o, n, v, d, call, name);
     resize_to(store, used, o, size);
-    touch(store, clock, d);
+    touch(store, context.clock, d);
 }
 
 // What CREATE does to the store for a file that has the name: it obeys the size.
@@ -113,8 +115,7 @@ fn existing_edit(
         return;
     };
     resize(store, used, o, n as usize);
-    let clock = context.clock;
-    touch(store, clock, o);
+    touch(store, context.clock, o);
 }
 
 // Makes a new object in a directory, and shows it.
@@ -146,6 +147,7 @@ fn make_new(
 }
 
 // MKDIR: the new directory and the change of the one that it is in, or the status of the check that failed.
+#[tactic(auto, unfolding(spec::specs::Procedures::Names::mkdir))]
 pub fn mkdir(
     store: &mut [u8],
     used: &[u8; Limit::MOST_BLOCKS],
@@ -160,25 +162,20 @@ pub fn mkdir(
     requires length_in_bounds_2 { place.name.start + place.name.length ≤ length call.now }
     ensures { Does (mkdir store.old context (cut call.now place.directory) (cut call.now place.name) a) result store.new }
 {
-    let directory = place.directory;
-    let name = place.name;
-    let answer = check_mkdir(store, used, call, place, a);
-    let clock = context.clock;
-    let size = a.size;
-    match answer {
-        MkdirChecked::At(d, o, n) => make_new(
+    match check_mkdir(store, used, call, place, a) {
+        Ok(at) => make_new(
             store,
             used,
             context,
-            new_object(clock, Kind::DIRECTORY, a),
-            size,
-            o,
-            n,
-            d,
+            new_object(context.clock, Kind::DIRECTORY, a),
+            a.size,
+            at.object,
+            at.name,
+            at.directory,
             call,
-            name,
+            place.name,
         ),
-        MkdirChecked::Refused(status) => fail_changing(store, call, directory, status),
+        Err(status) => fail_changing(store, call, place.directory, status),
     }
 }
 
@@ -208,6 +205,7 @@ fn obey_size(
 }
 
 // CREATE: the file and the change of its directory, or the status of the check that failed.
+#[tactic(auto, unfolding(spec::specs::Procedures::Names::create))]
 pub fn create(
     store: &mut [u8],
     used: &[u8; Limit::MOST_BLOCKS],
@@ -222,20 +220,13 @@ pub fn create(
     requires length_in_bounds_2 { place.name.start + place.name.length ≤ length call.now }
     ensures { Does (create store.old context (cut call.now place.directory) (cut call.now place.name) manner) result store.new }
 {
-    let directory = place.directory;
-    let answer = check_create(store, used, call, place, manner);
-    let clock = context.clock;
-    let name = place.name;
-    let a = settable_in(manner);
-    let size = a.size;
-    match answer {
-        CreateChecked::At(d, t) => match t {
-            Target::New(o, n) => {
-                let v = new_file(clock, manner);
-                make_new(store, used, context, v, size, o, n, d, call, name)
-            }
-            Target::Existing(o) => obey_size(store, used, context, d, o, size),
-        },
-        CreateChecked::Refused(status) => fail_changing(store, call, directory, status),
+    let size = settable_in(manner).size;
+    match check_create(store, used, call, place, manner) {
+        Ok((d, Target::New(o, n))) => {
+            let v = new_file(context.clock, manner);
+            make_new(store, used, context, v, size, o, n, d, call, place.name)
+        }
+        Ok((d, Target::Existing(o))) => obey_size(store, used, context, d, o, size),
+        Err(status) => fail_changing(store, call, place.directory, status),
     }
 }

@@ -9,7 +9,7 @@ ghost use Rattle.laws.proofs.GoodRecords.{GoodRecords};
 ghost use Rattle.store_blocks.specs.Blocks.{UsedMap};
 ghost use Rattle.check_handles.specs.Meaning.{reached_of};
 
-use check_handles::handle::{Reached, reach, reach_regular};
+use check_handles::handle::{reach, reach_regular};
 use check_room::{is_past_end, lacks_room_for_bytes, lacks_room_for_size};
 use check_settable::{bad_attributes, differs, is_given};
 use kinds::call::{Guard, Part, SetSize, Settable};
@@ -22,13 +22,11 @@ fn sizes_directory(store: &[u8], o: ObjectNumber, size: SetSize) -> bool
     requires o_bound { o.0 < objects store.now }
     ensures { result ≡ is_given size && is_directory store.now o.0 }
 {
-    if is_given(size) {
-        return is_directory(store, o);
-    }
-    false
+    is_given(size) && is_directory(store, o)
 }
 
 // The object that SETATTR may change, or the status.
+#[tactic(auto, unfolding(spec::specs::Procedures::Attributes::check_setattr))]
 pub fn check_setattr(
     store: &[u8],
     used: &[u8; Limit::MOST_BLOCKS],
@@ -36,34 +34,27 @@ pub fn check_setattr(
     h: Part,
     a: Settable,
     g: Guard,
-) -> Reached
+) -> Result<ObjectNumber, Status>
     requires good_records { GoodRecords store.now }
     requires used_map { UsedMap store.now used.now }
     requires length_in_bounds { h.start + h.length ≤ length call.now }
     ensures { reached_of result ≡ check_setattr store.now (cut call.now h) a g }
 {
-    let answer = reach(store, call, h);
-    let Reached::At(o) = answer else {
-        return answer;
-    };
-    let ctime = ctime_of(store, o);
-    if differs(g, ctime) {
-        return Reached::Refused(Status::NOT_SYNC);
+    let o = reach(store, call, h)?;
+    if differs(g, ctime_of(store, o)) {
+        return Err(Status::NOT_SYNC);
     }
-    if bad_attributes(a) {
-        return Reached::Refused(Status::INVAL);
+    if bad_attributes(a) || sizes_directory(store, o, a.size) {
+        return Err(Status::INVAL);
     }
-    let size = a.size;
-    if sizes_directory(store, o, size) {
-        return Reached::Refused(Status::INVAL);
+    if lacks_room_for_size(store, used, o, a.size) {
+        return Err(Status::NOSPC);
     }
-    if lacks_room_for_size(store, used, o, size) {
-        return Reached::Refused(Status::NOSPC);
-    }
-    Reached::At(o)
+    Ok(o)
 }
 
 // The file that WRITE may change, or the status. The map says which blocks are used.
+#[tactic(auto, unfolding(spec::specs::Procedures::Data::check_write))]
 pub fn check_write(
     store: &[u8],
     used: &[u8; Limit::MOST_BLOCKS],
@@ -72,30 +63,27 @@ pub fn check_write(
     offset: u64,
     count: u32,
     bytes: Part,
-) -> Reached
+) -> Result<ObjectNumber, Status>
     requires good_records { GoodRecords store.now }
     requires used_map { UsedMap store.now used.now }
     requires length_in_bounds { h.start + h.length ≤ length call.now }
     requires length_in_bounds_2 { bytes.start + bytes.length ≤ length call.now }
     ensures { reached_of result ≡ check_write store.now (cut call.now h) offset count (cut call.now bytes) }
 {
-    let answer = reach_regular(store, call, h);
-    let Reached::At(o) = answer else {
-        return answer;
-    };
+    let o = reach_regular(store, call, h)?;
     let wanted = count as usize;
     if wanted != bytes.length {
-        return Reached::Refused(Status::INVAL);
+        return Err(Status::INVAL);
     }
     if wanted == 0 {
-        return Reached::At(o);
+        return Ok(o);
     }
     let n = wire::smaller(wanted, Limit::MOST_TRANSFER_BYTES);
     if is_past_end(offset, n) {
-        return Reached::Refused(Status::FBIG);
+        return Err(Status::FBIG);
     }
     if lacks_room_for_bytes(store, used, o, offset as usize, n) {
-        return Reached::Refused(Status::NOSPC);
+        return Err(Status::NOSPC);
     }
-    Reached::At(o)
+    Ok(o)
 }

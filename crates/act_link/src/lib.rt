@@ -13,12 +13,12 @@ ghost use Rattle.results.specs.Does.{Does};
 ghost use Rattle.edit_entries.specs.Records.{LinkableAt};
 
 use check_handles::failure::{handle_change, handle_object};
-use check_link::{Linkable, check_link};
+use check_link::check_link;
 use edit_entries::link_edit;
 use kinds::call::{NameIn, Part};
 use kinds::numbers::{NameNumber, ObjectNumber, Status};
 use kinds::object::Context;
-use results::{HandleChange, HandleObject, ObjectChange, Reply};
+use results::{ObjectChange, Reply};
 use store_attributes::before;
 
 // A failure shows the file and the directory, each where its handle is live.
@@ -31,13 +31,10 @@ fn fail_linking(store: &[u8], call: &[u8], file: Part, directory: Part, status: 
 {
     let object = handle_object(store, call, file);
     let change = handle_change(store, call, directory);
-    if let HandleObject::Present(shown) = object {
-        return Reply::Linked(status, object, change);
+    if object.is_none() && change.is_none() {
+        return Reply::Dead(status);
     }
-    if let HandleChange::Present(shown) = change {
-        return Reply::Linked(status, object, change);
-    }
-    Reply::Dead(status)
+    Reply::Linked(status, object, change)
 }
 
 // The edit, the file and the directory's change.
@@ -63,13 +60,10 @@ fn link_entry(
         before: earlier,
         object: d,
     };
-    Reply::Linked(
-        Status::OK,
-        HandleObject::Present(o),
-        HandleChange::Present(change),
-    )
+    Reply::Linked(Status::OK, Some(o), Some(change))
 }
 
+#[tactic(auto, unfolding(spec::specs::Procedures::Link::link))]
 pub fn link(store: &mut [u8], context: Context, call: &[u8], file: Part, p: NameIn) -> Reply
     requires valid { Valid store.old }
     requires good_records { GoodRecords store.old }
@@ -79,11 +73,8 @@ pub fn link(store: &mut [u8], context: Context, call: &[u8], file: Part, p: Name
     requires length_in_bounds_3 { p.name.start + p.name.length ≤ length call.now }
     ensures { Does (link store.old context (cut call.now file) (cut call.now p.directory) (cut call.now p.name)) result store.new }
 {
-    let directory = p.directory;
-    let name = p.name;
-    let checked = check_link(store, call, file, p);
-    match checked {
-        Linkable::At(o, d, n) => link_entry(store, context, o, d, n, call, name),
-        Linkable::Refused(status) => fail_linking(store, call, file, directory, status),
+    match check_link(store, call, file, p) {
+        Ok(at) => link_entry(store, context, at.file, at.directory, at.name, call, p.name),
+        Err(status) => fail_linking(store, call, file, p.directory, status),
     }
 }

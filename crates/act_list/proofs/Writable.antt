@@ -7,6 +7,8 @@ use native.Mathlib.Omega.{arith}
 use borrow.Author.Tests.{ltb-false}
 use lib.Dec.{eqb, ltb}
 use lib.ListN.{length, take}
+use Rattle.std.specs.Prelude.{Result, Ok}
+use Rattle.kinds.specs.declared.numbers.Status.{Status}
 use Rattle.kinds.specs.Numbers.{BAD_COOKIE, TOOSMALL, most_transfer_bytes, listing_cost, entry_fixed_cost}
 use Rattle.spec.specs.Checked.{passed}
 use Rattle.spec.specs.Image.{Store, objects}
@@ -18,8 +20,6 @@ use Rattle.laws.proofs.Listing.{fitting_bytes}
 use Rattle.laws.proofs.Passed.{refuse_passed}
 use Rattle.results.specs.Writable.{Listable}
 use Rattle.act_list.specs.Run.{listing_of}
-use Rattle.act_list.specs.declared.Listing.{Listing}
-use Rattle.act_list.specs.declared.Listing.TheVariants as Listing
 
 -- "the longest run within min(count, 4096) is sent"
 run_few : (limit : ℕ) (es run : List Entry) (all : Bool) → check_listing listing_cost entry_fixed_cost limit es ≡ passed (run, all)
@@ -33,7 +33,7 @@ run_few limit es run all e =
     let k : length (entries_bytes run) ≤ limit - listing_cost = rw (ap (λ (v : List Entry × Bool). v.0) w) at (fitting_bytes (limit - listing_cost) es) in
     omega (arith, ltb-false limit listing_cost t)))
 
-pub listable : (s : Store) (d cookie verifier count n : ℕ) (all : Bool) (r : Listing) → GoodRecords s → d < objects s → r ≡ Listing.Sent n all
+pub listable : (s : Store) (d cookie verifier count n : ℕ) (all : Bool) (r : Result (ℕ × Bool) Status) → GoodRecords s → d < objects s → r ≡ Ok (n, all)
     → listing_of (entries_above cookie (entries s d)) r ≡ check_readdir_in s d cookie verifier count → Listable s d cookie n
 unfolding check_readdir_in
 listable s d cookie verifier count n all r g l p e =

@@ -1,13 +1,12 @@
 -- The run of a listing that fits, entry by entry.
-use Rattle.std.specs.Prelude.{ℕ, ◌+◌, ◌-◌, eqb, leb, ltb, length, take, Bool, true, false, cond, List, [], ◌∷◌}
+use Rattle.std.specs.Prelude.{Result, Ok, Err, ℕ, ◌+◌, ◌-◌, eqb, leb, ltb, length, take, Bool, true, false, cond, List, [], ◌∷◌}
 use Rattle.kinds.specs.Layout.{length_offset}
 use Rattle.kinds.specs.Numbers.{entry_fixed_cost}
+use Rattle.kinds.specs.declared.numbers.Status.{Status}
 use Rattle.spec.specs.Bytes.{be_at, padding}
 use Rattle.spec.specs.Checked.{Checked, refused, passed}
 use Rattle.spec.specs.Image.{Store}
 use Rattle.spec.specs.Results.{Entry}
-use Rattle.act_list.specs.declared.Listing.{Listing}
-use Rattle.act_list.specs.declared.Listing.TheVariants as Listing
 use Rattle.act_list.specs.declared.Run.{Run}
 
 -- what an entry costs, by the length of its name
@@ -37,6 +36,6 @@ run_of given run [] = run
 run_of given run (e ∷ es) = run_of given (extended given run e.cookie (length e.name)) es
 
 -- what an answer sends of entries, and whether nothing remains
-abbrev pub listing_of : List Entry → Listing → Checked (List Entry × Bool)
-listing_of es (Listing.Sent n all) = passed (take n es, all)
-listing_of es (Listing.Refused status) = refused status.0
+abbrev pub listing_of : List Entry → Result (ℕ × Bool) Status → Checked (List Entry × Bool)
+listing_of es (Ok (n, all)) = passed (take n es, all)
+listing_of es (Err status) = refused status.0

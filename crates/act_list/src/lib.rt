@@ -13,7 +13,7 @@ ghost use Rattle.results.specs.Writable.{Writable};
 ghost use Rattle.act_list.specs.Run.{cost, open_run, length_in, extended, run_of, listing_of};
 
 use check_handles::failure::fail_showing;
-use check_handles::handle::{Reached, reach_directory};
+use check_handles::handle::reach_directory;
 use kinds::call::Part;
 use kinds::layout::NameRecord;
 use kinds::numbers::{Limit, ObjectNumber, Status};
@@ -28,13 +28,6 @@ pub struct Run {
     pub full: bool,
 }
 
-// How many entries are sent, and whether nothing remains.
-#[derive(Clone, Copy)]
-pub enum Listing {
-    Sent(usize, bool),
-    Refused(Status),
-}
-
 // What an entry costs, by the length of its name.
 fn entry_cost(long: usize) -> usize
     requires { long ≤ most_name_bytes }
@@ -44,30 +37,22 @@ fn entry_cost(long: usize) -> usize
 }
 
 // Adds an entry above the given cookie to a run, by the length of its name; the first that does not fit ends the run.
+#[tactic(auto, unfolding(crate::specs::Run::extended, crate::specs::Run::fitted))]
 fn extend(run: Run, given: u64, cookie: u64, long: usize) -> Run
     requires long_le_most_name_bytes { long ≤ most_name_bytes }
     requires count_bound { run.count ≤ 200 }
     ensures { result ≡ extended given run cookie long }
 {
-    let room = run.room;
-    let count = run.count;
-    if cookie <= given {
-        return run;
-    }
-    if run.full {
+    if cookie <= given || run.full {
         return run;
     }
     let price = entry_cost(long);
-    if room < price {
-        return Run {
-            room,
-            count,
-            full: true,
-        };
+    if run.room < price {
+        return Run { full: true, ..run };
     }
     Run {
-        room: room - price,
-        count: count + 1,
+        room: run.room - price,
+        count: run.count + 1,
         full: false,
     }
 }
@@ -89,16 +74,12 @@ fn name_run(store: &[u8], d: ObjectNumber, given: u64, room: usize, count: usize
     requires count_bound { count ≤ 2 }
     ensures { result ≡ run_of given (open_run room count) (named_entries store.now d.0 (names store.now)) }
 {
-    let total = name_count(store);
-    let mut at = names_start(store);
+    let first = names_start(store);
     let mut left = room;
     let mut found = count;
-    let mut i = 0;
-    while i < total {
-        let long = length_in(store, at, d);
+    for i in 0..name_count(store) {
+        let long = length_in(store, first + NameRecord::BYTES * i, d);
         let number = i as u64 + 3;
-        at += NameRecord::BYTES;
-        i += 1;
         if long == 0 {
             continue;
         }
@@ -138,68 +119,68 @@ fn run_of(store: &[u8], d: ObjectNumber, given: u64, room: usize) -> Run
     if dots.full {
         return dots;
     }
-    let left = dots.room;
-    let count = dots.count;
-    name_run(store, d, given, left, count)
+    name_run(store, d, given, dots.room, dots.count)
 }
 
 // Whether something remains, and its first does not fit.
 fn nothing_fits(run: Run) -> bool
     ensures { result ≡ run.full && eqb run.count 0 }
 {
-    if run.full {
-        return run.count == 0;
-    }
-    false
+    run.full && run.count == 0
 }
 
-// The run that is sent, or TOOSMALL.
-fn check_listing(store: &[u8], d: ObjectNumber, given: u64, limit: usize) -> Listing
+// How many entries are sent and whether nothing remains, or TOOSMALL.
+fn check_listing(
+    store: &[u8],
+    d: ObjectNumber,
+    given: u64,
+    limit: usize,
+) -> Result<(usize, bool), Status>
     requires { GoodRecords store.now }
     ensures { listing_of (entries_above given (entries store.now d.0)) result ≡ check_listing listing_cost entry_fixed_cost limit (entries_above given (entries store.now d.0)) }
 {
     if limit < Limit::LISTING_COST {
-        return Listing::Refused(Status::TOOSMALL);
+        return Err(Status::TOOSMALL);
     }
     let run = run_of(store, d, given, limit - Limit::LISTING_COST);
     if nothing_fits(run) {
-        return Listing::Refused(Status::TOOSMALL);
+        return Err(Status::TOOSMALL);
     }
-    Listing::Sent(run.count, !run.full)
+    Ok((run.count, !run.full))
 }
 
-// What READDIR sends of a directory, or BAD_COOKIE or TOOSMALL.
+// How many entries READDIR sends of a directory and whether nothing remains, or BAD_COOKIE or TOOSMALL.
+#[tactic(auto, unfolding(spec::specs::Procedures::Listing::check_readdir_in))]
 fn check_readdir_in(
     store: &[u8],
     d: ObjectNumber,
     cookie: u64,
     verifier: u64,
     count: u32,
-) -> Listing
+) -> Result<(usize, bool), Status>
     requires { GoodRecords store.now }
     ensures { listing_of (entries_above cookie (entries store.now d.0)) result ≡ check_readdir_in store.now d.0 cookie verifier count }
 {
     if verifier != 0 {
-        return Listing::Refused(Status::BAD_COOKIE);
+        return Err(Status::BAD_COOKIE);
     }
     let limit = wire::smaller(count as usize, Limit::MOST_TRANSFER_BYTES);
     check_listing(store, d, cookie, limit)
 }
 
+#[tactic(auto, unfolding(spec::specs::Procedures::Listing::check_readdir, spec::specs::Procedures::Listing::readdir))]
 pub fn readdir(store: &[u8], call: &[u8], h: Part, cookie: u64, verifier: u64, count: u32) -> Reply
     requires good_records { GoodRecords store.now }
     requires length_in_bounds { h.start + h.length ≤ length call.now }
     ensures result_value { result_of store.now result ≡ (readdir store.now (cut call.now h) cookie verifier count).result }
     ensures writable { Writable store.now result }
 {
-    let answer = reach_directory(store, call, h);
-    let d = match answer {
-        Reached::At(d) => d,
-        Reached::Refused(status) => return fail_showing(store, call, h, status),
+    let d = match reach_directory(store, call, h) {
+        Ok(d) => d,
+        Err(status) => return fail_showing(store, call, h, status),
     };
-    let listing = check_readdir_in(store, d, cookie, verifier, count);
-    match listing {
-        Listing::Sent(n, all) => Reply::Listed(d, all, cookie, n),
-        Listing::Refused(status) => fail_showing(store, call, h, status),
+    match check_readdir_in(store, d, cookie, verifier, count) {
+        Ok((n, all)) => Reply::Listed(d, all, cookie, n),
+        Err(status) => fail_showing(store, call, h, status),
     }
 }

@@ -9,7 +9,7 @@ ghost use Rattle.results.specs.Meaning.{result_of};
 ghost use Rattle.results.specs.Writable.{Writable};
 
 use check_handles::failure::fail_showing;
-use check_handles::handle::{Reached, reach};
+use check_handles::handle::reach;
 use kinds::call::Part;
 use kinds::layout::Block;
 use kinds::numbers::{Limit, ObjectNumber};
@@ -19,6 +19,7 @@ use store_records::counts::{block_count, object_count};
 use store_search::object::available_count;
 
 // The room of a store. The map says which blocks are used.
+#[tactic(auto, using(crate::proofs::Few::free_few, crate::proofs::Few::available_few))]
 fn room(store: &[u8], used: &[u8; Limit::MOST_BLOCKS], o: ObjectNumber) -> Reply
     requires good_records { GoodRecords store.now }
     requires o_bound { o.0 < objects store.now }
@@ -33,6 +34,7 @@ fn room(store: &[u8], used: &[u8; Limit::MOST_BLOCKS], o: ObjectNumber) -> Reply
     Reply::GotRoom(o, total as u32, unused as u32, all as u32, available as u32)
 }
 
+#[tactic(auto, unfolding(spec::specs::Procedures::Volume::fsstat))]
 pub fn fsstat(store: &[u8], used: &[u8; Limit::MOST_BLOCKS], call: &[u8], h: Part) -> Reply
     requires good_records { GoodRecords store.now }
     requires length_in_bounds { h.start + h.length ≤ length call.now }
@@ -40,35 +42,34 @@ pub fn fsstat(store: &[u8], used: &[u8; Limit::MOST_BLOCKS], call: &[u8], h: Par
     ensures result_value { result_of store.now result ≡ (fsstat store.now (cut call.now h)).result }
     ensures writable { Writable store.now result }
 {
-    let answer = reach(store, call, h);
-    match answer {
-        Reached::At(o) => room(store, used, o),
-        Reached::Refused(status) => fail_showing(store, call, h, status),
+    match reach(store, call, h) {
+        Ok(o) => room(store, used, o),
+        Err(status) => fail_showing(store, call, h, status),
     }
 }
 
+#[tactic(auto, unfolding(spec::specs::Procedures::Volume::fsinfo))]
 pub fn fsinfo(store: &[u8], call: &[u8], h: Part) -> Reply
     requires good_records { GoodRecords store.now }
     requires length_in_bounds { h.start + h.length ≤ length call.now }
     ensures result_value { result_of store.now result ≡ (fsinfo store.now (cut call.now h)).result }
     ensures writable { Writable store.now result }
 {
-    let answer = reach(store, call, h);
-    match answer {
-        Reached::At(o) => Reply::GotLimits(o),
-        Reached::Refused(status) => fail_showing(store, call, h, status),
+    match reach(store, call, h) {
+        Ok(o) => Reply::GotLimits(o),
+        Err(status) => fail_showing(store, call, h, status),
     }
 }
 
+#[tactic(auto, unfolding(spec::specs::Procedures::Volume::pathconf))]
 pub fn pathconf(store: &[u8], call: &[u8], h: Part) -> Reply
     requires good_records { GoodRecords store.now }
     requires length_in_bounds { h.start + h.length ≤ length call.now }
     ensures result_value { result_of store.now result ≡ (pathconf store.now (cut call.now h)).result }
     ensures writable { Writable store.now result }
 {
-    let answer = reach(store, call, h);
-    match answer {
-        Reached::At(o) => Reply::GotNaming(o),
-        Reached::Refused(status) => fail_showing(store, call, h, status),
+    match reach(store, call, h) {
+        Ok(o) => Reply::GotNaming(o),
+        Err(status) => fail_showing(store, call, h, status),
     }
 }

@@ -1,10 +1,13 @@
--- What passed checks give to the edits. Assumes nothing.
+-- What passed checks give to the edits, and what a failure shows. Assumes nothing.
 use Prim.Native.Nat.{ℕ, ◌+◌, ◌≤◌, ◌<◌}
-use mathlib.Core.Path.{◌≡◌, sym, ap, ◌∙◌}
+use mathlib.Core.Path.{◌≡◌, refl, sym, ap, ◌∙◌}
+use mathlib.Core.Bool.{true, false, not}
 use mathlib.Core.List.{List}
 use native.Mathlib.Omega.{arith}
 use lib.ListN.{length}
+use Rattle.std.specs.Prelude.{Result, Ok, Option, Some, None, is_some}
 use Rattle.kinds.specs.Numbers.{most_name_bytes}
+use Rattle.kinds.specs.declared.numbers.Status.{Status}
 use Rattle.kinds.specs.declared.numbers.NameNumber.{NameNumber}
 use Rattle.kinds.specs.declared.numbers.ObjectNumber.{ObjectNumber}
 use Rattle.kinds.specs.declared.object.Context.{Context}
@@ -16,7 +19,10 @@ use Rattle.spec.specs.Image.{Store, objects}
 use Rattle.spec.specs.Procedures.{cut, act}
 use Rattle.spec.specs.Procedures.Names.{touch_directory}
 use Rattle.spec.specs.Procedures.Removal.{check_remove, check_rmdir, remove_from, remove, rmdir, Onto, new_name, same_object, replacing, check_rename, rename_edit}
-use Rattle.spec.specs.Procedures.Removal.{rename}
+use Rattle.spec.specs.Procedures.Removal.{rename, renamed_or}
+use Rattle.spec.specs.Results.{dead, renamed}
+use Rattle.results.specs.declared.ObjectChange.{ObjectChange}
+use Rattle.results.specs.Meaning.{handle_change_in}
 use Rattle.laws.proofs.ActGood.{movable, replaced, act_good}
 use Rattle.laws.proofs.Bytes.{part_length}
 use Rattle.laws.proofs.GoodRecords.{GoodRecords, StillGood, GoodClock}
@@ -26,11 +32,7 @@ use Rattle.laws.proofs.Valid.{Valid}
 use Rattle.edit_entries.specs.Records.{RemovableAt, RenamableAt}
 use Rattle.check_remove.specs.Meaning.{removable_of}
 use Rattle.check_rename.specs.Meaning.{onto_of, renamable_of}
-use Rattle.check_remove.specs.declared.Removable.{Removable}
-use Rattle.check_remove.specs.declared.Removable.TheVariants as Removable
-use Rattle.check_rename.specs.declared.Onto as check-rename
 use Rattle.check_rename.specs.declared.Renamable.{Renamable}
-use Rattle.check_rename.specs.declared.Renamable.TheVariants as Renamable
 
 -- ---- what the checks give
 pub record Removing (s : Store) (c : Context) (d n : ℕ) : Type 0 where
@@ -89,16 +91,35 @@ module _ (s : Store) (c : Context) (v : Valid s) (g : GoodRecords s) (k : GoodCl
       }
 
   -- the same of the answers of the code
-  pub remove_found : (r : Removable) (d : ObjectNumber) (n : NameNumber) → r ≡ Removable.At d n
+  pub remove_found : (r : Result (ObjectNumber × NameNumber) Status) (d : ObjectNumber) (n : NameNumber) → r ≡ Ok (d, n)
       → removable_of r ≡ check_remove s (cut call p.directory) (cut call p.name) → Removing s c d.0 n.0
   remove_found r d n is e = removing_file d.0 n.0 (sym e ∙ ap removable_of is)
 
-  pub rmdir_found : (r : Removable) (d : ObjectNumber) (n : NameNumber) → r ≡ Removable.At d n
+  pub rmdir_found : (r : Result (ObjectNumber × NameNumber) Status) (d : ObjectNumber) (n : NameNumber) → r ≡ Ok (d, n)
       → removable_of r ≡ check_rmdir s (cut call p.directory) (cut call p.name) → Removing s c d.0 n.0
   rmdir_found r d n is e = removing_directory d.0 n.0 (sym e ∙ ap removable_of is)
 
   pub rename_found : (q : NameIn) → q.name.start + q.name.length ≤ length call
-      → (r : Renamable) (d e : ObjectNumber) (n : NameNumber) (t : check-rename.Onto) → r ≡ Renamable.At d e n t
+      → (r : Result Renamable Status) (at : Renamable) → r ≡ Ok at
       → renamable_of r ≡ check_rename s (cut call p.directory) (cut call p.name) (cut call q.directory) (cut call q.name)
-      → Renaming s c d.0 e.0 n.0 q.name.length (onto_of t) (cut call q.name)
-  rename_found q fits r d e n t is x = renaming q d.0 e.0 n.0 (onto_of t) fits (sym x ∙ ap renamable_of is)
+      → Renaming s c at.source.0 at.target.0 at.name.0 q.name.length (onto_of at.onto) (cut call q.name)
+  rename_found q fits r at is x = renaming q at.source.0 at.target.0 at.name.0 (onto_of at.onto) fits (sym x ∙ ap renamable_of is)
+
+-- ---- what a failure of RENAME shows
+module _ (s : Store) (status : ℕ) where
+  pub neither_shown : (c d : Option ObjectChange) → is_some c ≡ not true → is_some d ≡ not true
+      → renamed_or status (handle_change_in s c) (handle_change_in s d) ≡ dead status
+  neither_shown None None p q = refl
+  neither_shown None (Some d) p q = cc
+  neither_shown (Some c) d p q = cc
+
+  pub source_shown : (c d : Option ObjectChange) → is_some c ≡ not false
+      → renamed_or status (handle_change_in s c) (handle_change_in s d) ≡ renamed status (handle_change_in s c) (handle_change_in s d)
+  source_shown None d p = cc
+  source_shown (Some c) d p = refl
+
+  pub target_shown : (c d : Option ObjectChange) → is_some d ≡ not false
+      → renamed_or status (handle_change_in s c) (handle_change_in s d) ≡ renamed status (handle_change_in s c) (handle_change_in s d)
+  target_shown c None p = cc
+  target_shown None (Some d) p = refl
+  target_shown (Some c) (Some d) p = refl

@@ -16,13 +16,13 @@ ghost use Rattle.check_rename.specs.Meaning.{onto_of};
 ghost use Rattle.edit_entries.specs.Records.{RemovableAt, RenamableAt};
 
 use check_handles::failure::{fail_changing, handle_change};
-use check_remove::{Removable, check_remove, check_rmdir};
-use check_rename::{Onto, Renamable, check_rename};
+use check_remove::{check_remove, check_rmdir};
+use check_rename::{Onto, check_rename};
 use edit_entries::{remove_edit, rename_edit};
 use kinds::call::{NameIn, Part};
 use kinds::numbers::{NameNumber, ObjectNumber, Status};
 use kinds::object::Context;
-use results::{HandleChange, ObjectChange, Reply};
+use results::{ObjectChange, Reply};
 use store_attributes::before;
 
 // The edit, and the directory's change.
@@ -41,6 +41,7 @@ fn remove_entry(store: &mut [u8], context: Context, d: ObjectNumber, n: NameNumb
     Reply::Changed(Status::OK, change)
 }
 
+#[tactic(auto, unfolding(spec::specs::Procedures::Removal::remove, spec::specs::Procedures::Removal::remove_from))]
 pub fn remove(store: &mut [u8], context: Context, call: &[u8], p: NameIn) -> Reply
     requires valid { Valid store.old }
     requires good_records { GoodRecords store.old }
@@ -49,14 +50,13 @@ pub fn remove(store: &mut [u8], context: Context, call: &[u8], p: NameIn) -> Rep
     requires length_in_bounds_2 { p.name.start + p.name.length ≤ length call.now }
     ensures { Does (remove store.old context (cut call.now p.directory) (cut call.now p.name)) result store.new }
 {
-    let directory = p.directory;
-    let checked = check_remove(store, call, p);
-    match checked {
-        Removable::At(d, n) => remove_entry(store, context, d, n),
-        Removable::Refused(status) => fail_changing(store, call, directory, status),
+    match check_remove(store, call, p) {
+        Ok((d, n)) => remove_entry(store, context, d, n),
+        Err(status) => fail_changing(store, call, p.directory, status),
     }
 }
 
+#[tactic(auto, unfolding(spec::specs::Procedures::Removal::rmdir, spec::specs::Procedures::Removal::remove_from))]
 pub fn rmdir(store: &mut [u8], context: Context, call: &[u8], p: NameIn) -> Reply
     requires valid { Valid store.old }
     requires good_records { GoodRecords store.old }
@@ -65,11 +65,9 @@ pub fn rmdir(store: &mut [u8], context: Context, call: &[u8], p: NameIn) -> Repl
     requires length_in_bounds_2 { p.name.start + p.name.length ≤ length call.now }
     ensures { Does (rmdir store.old context (cut call.now p.directory) (cut call.now p.name)) result store.new }
 {
-    let directory = p.directory;
-    let checked = check_rmdir(store, call, p);
-    match checked {
-        Removable::At(d, n) => remove_entry(store, context, d, n),
-        Removable::Refused(status) => fail_changing(store, call, directory, status),
+    match check_rmdir(store, call, p) {
+        Ok((d, n)) => remove_entry(store, context, d, n),
+        Err(status) => fail_changing(store, call, p.directory, status),
     }
 }
 
@@ -83,13 +81,10 @@ fn fail_renaming(store: &[u8], call: &[u8], source: Part, target: Part, status: 
 {
     let from = handle_change(store, call, source);
     let to = handle_change(store, call, target);
-    if let HandleChange::Present(shown) = from {
-        return Reply::Renamed(status, from, to);
+    if from.is_none() && to.is_none() {
+        return Reply::Dead(status);
     }
-    if let HandleChange::Present(shown) = to {
-        return Reply::Renamed(status, from, to);
-    }
-    Reply::Dead(status)
+    Reply::Renamed(status, from, to)
 }
 
 // The edit, and both directories' changes.
@@ -123,13 +118,10 @@ fn rename_entry(
         before: to,
         object: e,
     };
-    Reply::Renamed(
-        Status::OK,
-        HandleChange::Present(source),
-        HandleChange::Present(target),
-    )
+    Reply::Renamed(Status::OK, Some(source), Some(target))
 }
 
+#[tactic(auto, unfolding(spec::specs::Procedures::Removal::rename))]
 pub fn rename(store: &mut [u8], context: Context, call: &[u8], p: NameIn, q: NameIn) -> Reply
     requires valid { Valid store.old }
     requires good_records { GoodRecords store.old }
@@ -140,12 +132,10 @@ pub fn rename(store: &mut [u8], context: Context, call: &[u8], p: NameIn, q: Nam
     requires length_in_bounds_4 { q.name.start + q.name.length ≤ length call.now }
     ensures { Does (rename store.old context (cut call.now p.directory) (cut call.now p.name) (cut call.now q.directory) (cut call.now q.name)) result store.new }
 {
-    let source = p.directory;
-    let target = q.directory;
-    let name = q.name;
-    let checked = check_rename(store, call, p, q);
-    match checked {
-        Renamable::At(d, e, n, onto) => rename_entry(store, context, d, e, n, onto, call, name),
-        Renamable::Refused(status) => fail_renaming(store, call, source, target, status),
+    match check_rename(store, call, p, q) {
+        Ok(at) => rename_entry(
+            store, context, at.source, at.target, at.name, at.onto, call, q.name,
+        ),
+        Err(status) => fail_renaming(store, call, p.directory, q.directory, status),
     }
 }

@@ -43,8 +43,7 @@ fn write_edit(
     let old = size_of(store, o) as usize;
     resize(store, used, o, wire::larger(old, offset + n));
     write_file(store, o, offset, call, start, n);
-    let clock = context.clock;
-    touch(store, clock, o);
+    touch(store, context.clock, o);
 }
 
 // Writes bytes of the call at an offset of a file that the checks passed: the file as it was and as it is, the bytes written and the verifier.

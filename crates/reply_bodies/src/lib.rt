@@ -20,7 +20,7 @@ use reply_fields::attributes::{
     put_fattr3_of, put_nfs_fh3, put_post_op_attr, put_post_op_option, put_wcc_data, put_wcc_option,
 };
 use reply_file::put_file_bytes;
-use results::{HandleChange, HandleObject, ObjectChange};
+use results::ObjectChange;
 use xdr::write::{put_word, put_words};
 
 // Limits as the words of a reply.
@@ -88,8 +88,8 @@ pub fn put_renamed(
     at: usize,
     store: &[u8],
     status: Status,
-    c: HandleChange,
-    d: HandleChange,
+    c: Option<ObjectChange>,
+    d: Option<ObjectChange>,
 ) -> usize
     requires at_in_bounds { at + 236 ≤ length reply.old }
     requires showable_change { ShowableChange store.now c }
@@ -107,8 +107,8 @@ pub fn put_linked(
     at: usize,
     store: &[u8],
     status: Status,
-    o: HandleObject,
-    c: HandleChange,
+    o: Option<ObjectNumber>,
+    c: Option<ObjectChange>,
 ) -> usize
     requires at_in_bounds { at + 208 ≤ length reply.old }
     requires showable_object { ShowableObject store.now o }
@@ -162,8 +162,7 @@ pub fn put_created(
     requires showable_2 { Showable store.now d.object.0 }
     ensures { Wrote 228 reply.old reply.new at result (words (OK ∷ 1 ∷ []) ++ opaque_bytes (handle_of store.now o.0) ++ words (post_op (attributes store.now o.0) ++ wcc_data (change_in store.now d))) }
 {
-    let ws = [0, 1];
-    let handle = put_words(reply, at, &ws);
+    let handle = put_words(reply, at, &[0, 1]);
     let object = put_nfs_fh3(reply, handle, store, o);
     let directory = put_post_op_attr(reply, object, store, o);
     put_wcc_data(reply, directory, store, d)
@@ -183,8 +182,7 @@ pub fn put_read_bytes(
     requires n_in_bounds { at + (8 + (4 + n + padding n)) ≤ length reply.old }
     ensures { Wrote (8 + (4 + n + padding n)) reply.old reply.new at result (words (n ∷ bit eof ∷ []) ++ opaque_bytes (read_file store.now o.0 offset n)) }
 {
-    let ws = [n as u32, flag(eof)];
-    let bytes = put_words(reply, at, &ws);
+    let bytes = put_words(reply, at, &[n as u32, flag(eof)]);
     put_file_bytes(reply, bytes, store, o, offset, n)
 }
 
@@ -202,11 +200,9 @@ pub fn put_listing(
     requires o_in_bounds { at + (8 + length (entries_bytes (take n (entries_above cookie (entries store.now o.0)))) + 8) ≤ length reply.old }
     ensures { Wrote (8 + length (entries_bytes (take n (entries_above cookie (entries store.now o.0)))) + 8) reply.old reply.new at result (words (hyper 0) ++ entries_bytes (take n (entries_above cookie (entries store.now o.0))) ++ words (0 ∷ bit eof ∷ [])) }
 {
-    let zeros = [0u32, 0];
-    let first = put_words(reply, at, &zeros);
+    let first = put_words(reply, at, &[0, 0]);
     let behind = put_entries(reply, first, store, o, cookie, n);
-    let ws = [0, flag(eof)];
-    put_words(reply, behind, &ws)
+    put_words(reply, behind, &[0, flag(eof)])
 }
 
 // COMMIT, after the wcc_data, and the end of WRITE: writeverf3.
@@ -214,8 +210,7 @@ pub fn put_verifier(reply: &mut [u8], at: usize, verifier: u64) -> usize
     requires { at + 8 ≤ length reply.old }
     ensures { Wrote 8 reply.old reply.new at result (words (hyper verifier)) }
 {
-    let ws = [high(verifier), low(verifier)];
-    put_words(reply, at, &ws)
+    put_words(reply, at, &[high(verifier), low(verifier)])
 }
 
 // WRITE, after the wcc_data: the count, FILE_SYNC and the verifier.
@@ -223,8 +218,7 @@ pub fn put_written(reply: &mut [u8], at: usize, count: u32, verifier: u64) -> us
     requires { at + 16 ≤ length reply.old }
     ensures { Wrote 16 reply.old reply.new at result (words (count ∷ file_sync ∷ hyper verifier)) }
 {
-    let ws = [count, Limit::FILE_SYNC];
-    let next = put_words(reply, at, &ws);
+    let next = put_words(reply, at, &[count, Limit::FILE_SYNC]);
     put_verifier(reply, next, verifier)
 }
 
@@ -241,10 +235,13 @@ pub fn put_room(
     requires { at + 52 ≤ length reply.old }
     ensures { Wrote 52 reply.old reply.new at result (words (hyper total ++ hyper free ++ hyper free ++ hyper objects ++ hyper available ++ hyper available ++ (0 ∷ []))) }
 {
-    let ws = [
-        0, total, 0, free, 0, free, 0, objects, 0, available, 0, available, 0,
-    ];
-    put_words(reply, at, &ws)
+    put_words(
+        reply,
+        at,
+        &[
+            0, total, 0, free, 0, free, 0, objects, 0, available, 0, available, 0,
+        ],
+    )
 }
 
 // FSINFO, after the attributes.
@@ -252,21 +249,24 @@ pub fn put_limits(reply: &mut [u8], at: usize) -> usize
     requires { at + 48 ≤ length reply.old }
     ensures { Wrote 48 reply.old reply.new at result (words ((most_transfer_bytes ∷ most_transfer_bytes ∷ 1 ∷ most_transfer_bytes ∷ most_transfer_bytes ∷ 1 ∷ most_transfer_bytes ∷ hyper most_file_bytes) ++ (0 ∷ 1 ∷ file_system_properties ∷ []))) }
 {
-    let ws = [
-        TRANSFER,
-        TRANSFER,
-        1,
-        TRANSFER,
-        TRANSFER,
-        1,
-        TRANSFER,
-        0,
-        LARGEST_FILE,
-        0,
-        1,
-        Limit::PROPERTIES,
-    ];
-    put_words(reply, at, &ws)
+    put_words(
+        reply,
+        at,
+        &[
+            TRANSFER,
+            TRANSFER,
+            1,
+            TRANSFER,
+            TRANSFER,
+            1,
+            TRANSFER,
+            0,
+            LARGEST_FILE,
+            0,
+            1,
+            Limit::PROPERTIES,
+        ],
+    )
 }
 
 // PATHCONF, after the attributes.
@@ -274,6 +274,5 @@ pub fn put_naming(reply: &mut [u8], at: usize) -> usize
     requires { at + 24 ≤ length reply.old }
     ensures { Wrote 24 reply.old reply.new at result (words (most_links ∷ most_name_bytes ∷ 1 ∷ 0 ∷ 0 ∷ 1 ∷ [])) }
 {
-    let ws = [Limit::MOST_LINKS, LONGEST_NAME, 1, 0, 0, 1];
-    put_words(reply, at, &ws)
+    put_words(reply, at, &[Limit::MOST_LINKS, LONGEST_NAME, 1, 0, 0, 1])
 }

@@ -1,41 +1,38 @@
--- Words that are copied one after the other, and names with the zeros that pad them. Assumes nothing.
+-- Bytes that are put in the place of a part, and names with the zeros that pad them. Assumes nothing.
 use mathlib.Core.Logic.{◌⊎◌}
 use mathlib.Core.Path.{◌≡◌, refl, sym, ap, ◌∙◌}
 use mathlib.Core.List.{List, [], ◌∷◌, ◌++◌, append_assoc}
-use Prim.Native.Nat.{ℕ, zero, suc, ◌+◌, ◌*◌, ◌-◌, ◌/◌, ◌≤◌, ◌<◌}
+use Prim.Native.Nat.{ℕ, zero, suc, ◌+◌, ◌*◌, ◌-◌, ◌/◌, ◌<◌}
 use native.Mathlib.Omega.{arith}
+use borrow.Rule.Slice.PartMut.{put_mid}
 use lib.Dec.{lit<}
-use lib.ListN.{length}
+use lib.Seq.{drop-drop}
+use lib.ListN.{length, take, drop}
 use Rattle.kinds.specs.Layout.{text_offset}
 use Rattle.kinds.specs.Numbers.{most_name_bytes, entry_fixed_cost}
-use Rattle.spec.specs.Bytes.{part, overlay, padding, zeros, bytes_of, be_at, words, opaque_bytes}
+use Rattle.spec.specs.Bytes.{part, overlay, padding, zeros, words, opaque_bytes}
 use Rattle.spec.specs.Image.{Store, names, name_start, name_length}
 use Rattle.spec.specs.Replies.{entry_bytes}
 use Rattle.laws.proofs.Bytes.{part_add}
 use Rattle.laws.proofs.GoodRecords.{GoodRecords}
-use Rattle.laws.proofs.Range.{Below, bytes_kept}
+use Rattle.laws.proofs.Range.{Below}
 use Rattle.laws.proofs.RecordRange.{below_zeros}
 use Rattle.laws.proofs.Valid.{Padded, GoodNameRecord}
+use Rattle.laws.proofs.Words.{words_append}
 use Rattle.laws.proofs.Zeros.{zero_within}
-use Rattle.wire.proofs.Copies as copies
 use Rattle.xdr.specs.Wrote.{Wrote}
-use Rattle.xdr.proofs.Wrote.{and_then, and_words}
+use Rattle.xdr.proofs.Wrote.{and_then}
 use Rattle.reply_entries.specs.Entries.{PaddedName, entry}
 use Rattle.reply_entries.proofs.Hyper.{hyper_small}
 
--- one word more
-pub copy_more : (src : List ℕ) (from i : ℕ) (r : List ℕ) (at : ℕ) (r₁ r₂ : List ℕ) (w : ℕ) → Below 256 src → from + 4 * (i + 1) ≤ length src
-    → at + 4 * (i + 1) ≤ length r → r₁ ≡ overlay r at (part src from (4 * i)) → w ≡ be_at src (from + 4 * i) 4
-    → r₂ ≡ overlay r₁ (at + 4 * i) (bytes_of 4 w) → r₂ ≡ overlay r at (part src from (4 * (i + 1)))
-copy_more src from i r at r₁ r₂ w f h k p q o =
-    let e : 4 * (i + 1) ≡ 4 * i + 4 = omega arith in
-    rw e
-    (copies.copy_more r at src from (4 * i) 4 r₁ r₂ (omega arith) (omega arith) p
-    (o ∙ ap (λ (x : List ℕ). overlay r₁ (at + 4 * i) x) (ap (bytes_of 4) q ∙ bytes_kept src f 4 (from + 4 * i) (omega arith))))
+-- bytes that are put in the place of a part are laid over it
+pub put_overlay : (b : List ℕ) (at n : ℕ) (xs ys : List ℕ) → ys ≡ xs → length xs ≡ n → put_mid at n b ys ≡ overlay b at xs
+unfolding overlay
+put_overlay b at n xs ys e l = rw (e, ← l, drop-drop) (sym (append_assoc (take at b) xs (drop (at + length xs) b)))
 
--- the words of a padded name
-pub padded_words : (n : ℕ) → 4 * ((n + 3) / 4) ≡ n + padding n
-padded_words n = omega arith
+-- the bytes of a padded name
+pub padded_size : (n : ℕ) → (n + 3) / 4 * 4 ≡ n + padding n
+padded_size n = omega arith
 
 -- ---- the name of a record is padded there
 record_padded : (s : Store) (n : ℕ) → GoodNameRecord s n → Padded s n
@@ -75,19 +72,21 @@ pub padded_dots : PaddedName dot_text 0 2
 unfolding part
 padded_dots = record { bytes = dot_bytes; short = omega arith; inside = omega arith; padded = refl }
 
--- ---- an entry, word by word
+-- ---- an entry: the words before the name, the name, and the words after it
 padded_opaque : (name : List ℕ) (len : ℕ) → length name ≡ len → words (len ∷ []) ++ (name ++ zeros (padding len)) ≡ opaque_bytes name
 unfolding opaque_bytes
 padded_opaque name len e = rw e (sym (append_assoc (words (len ∷ [])) name (zeros (padding len))))
 
-pub wrote_entry : (fileid number len : ℕ) (name : List ℕ) {r r₁ r₂ r₃ r₄ r₅ r₆ r₇ : List ℕ} {at p₁ p₂ p₃ p₄ p₅ p₆ p₇ : ℕ}
+pub wrote_entry : (fileid number len : ℕ) (name : List ℕ) {r r₁ r₂ r₃ : List ℕ} {at p₁ p₂ p₃ : ℕ}
     → fileid < 4294967296 → number < 4294967296 → length name ≡ len
-    → Wrote 4 r r₁ at p₁ (words (1 ∷ [])) → Wrote 4 r₁ r₂ p₁ p₂ (words (0 ∷ [])) → Wrote 4 r₂ r₃ p₂ p₃ (words (fileid ∷ []))
-    → Wrote 4 r₃ r₄ p₃ p₄ (words (len ∷ [])) → Wrote (len + padding len) r₄ r₅ p₄ p₅ (name ++ zeros (padding len))
-    → Wrote 4 r₅ r₆ p₅ p₆ (words (0 ∷ [])) → Wrote 4 r₆ r₇ p₆ p₇ (words (number ∷ []))
-    → Wrote (entry_fixed_cost + (len + padding len)) r r₇ at p₇ (entry_bytes (entry fileid name number))
+    → Wrote 16 r r₁ at p₁ (words (1 ∷ 0 ∷ fileid ∷ len ∷ [])) → Wrote (len + padding len) r₁ r₂ p₁ p₂ (name ++ zeros (padding len))
+    → Wrote 8 r₂ r₃ p₂ p₃ (words (0 ∷ number ∷ []))
+    → Wrote (entry_fixed_cost + (len + padding len)) r r₃ at p₃ (entry_bytes (entry fileid name number))
 unfolding entry_bytes
-wrote_entry fileid number len name f n l a b c d t y z =
-    let e : entry_fixed_cost + (len + padding len) ≡ 12 + (4 + (len + padding len)) + 8 = omega arith in
-    rw (e, hyper_small fileid f, hyper_small number n, ← padded_opaque name len l)
-    (and_then (and_then (and_words (1 ∷ 0 ∷ []) (fileid ∷ []) (and_words (1 ∷ []) (0 ∷ []) a b) c) (and_then d t)) (and_words (0 ∷ []) (number ∷ []) y z))
+wrote_entry fileid number len name f n l a b c =
+    let e : entry_fixed_cost + (len + padding len) ≡ 16 + (len + padding len) + 8 = omega arith in
+    let text : words (1 ∷ 0 ∷ fileid ∷ len ∷ []) ++ (name ++ zeros (padding len)) ≡ words (1 ∷ 0 ∷ fileid ∷ []) ++ opaque_bytes name =
+    ap (λ (x : List ℕ). x ++ (name ++ zeros (padding len))) (words_append (1 ∷ 0 ∷ fileid ∷ []) (len ∷ []))
+    ∙ append_assoc (words (1 ∷ 0 ∷ fileid ∷ [])) (words (len ∷ [])) (name ++ zeros (padding len))
+    ∙ ap (λ (x : List ℕ). words (1 ∷ 0 ∷ fileid ∷ []) ++ x) (padded_opaque name len l) in
+    rw (e, hyper_small fileid f, hyper_small number n, ← text) (and_then (and_then a b) c)

@@ -17,7 +17,7 @@ use kinds::layout::NameRecord;
 use kinds::numbers::{NameNumber, ObjectNumber};
 use store_records::counts::{name_count, names_start};
 use store_search::name::parent_of;
-use xdr::write::put_word;
+use xdr::write::put_words;
 
 // Where the next entry is written, and how many more are sent.
 #[derive(Clone, Copy)]
@@ -26,30 +26,16 @@ pub struct Place {
     pub left: usize,
 }
 
-// Copies `count` words of src from `from` into reply from `at`.
-fn copy_words(reply: &mut [u8], at: usize, src: &[u8], from: usize, count: usize)
-    requires below { Below 256 src.now }
-    requires count_in_bounds { from + 4 * count ≤ length src.now }
-    requires count_in_bounds_2 { at + 4 * count ≤ length reply.old }
-    ensures { reply.new ≡ overlay reply.old at (part src.now from (4 * count)) }
-{
-    let mut i = 0;
-    while i < count {
-        let word = wire::get_u32(src, from + 4 * i);
-        wire::put_u32(reply, at + 4 * i, word);
-        i += 1;
-    }
-}
-
 // A name of len bytes, and zeros up to a multiple of four: src has both from `from`.
 fn put_padded(reply: &mut [u8], at: usize, src: &[u8], from: usize, len: usize) -> usize
     requires padded_name { PaddedName src.now from len }
     requires len_in_bounds { at + (len + padding len) ≤ length reply.old }
     ensures { Wrote (len + padding len) reply.old reply.new at result (part src.now from len ++ zeros (padding len)) }
 {
-    let count = (len + 3) / 4;
-    copy_words(reply, at, src, from, count);
-    at + 4 * count
+    let size = (len + 3) / 4 * 4;
+    let end = at + size;
+    reply[at..end].copy_from_slice(&src[from..from + size]);
+    end
 }
 
 // An entry: the word 1, fileid, name and cookie. The name is the len bytes of src from `from`; `number` is the entry's cookie.
@@ -66,13 +52,9 @@ fn put_entry(
     requires len_in_bounds { at + (entry_fixed_cost + (len + padding len)) ≤ length reply.old }
     ensures { Wrote (entry_fixed_cost + (len + padding len)) reply.old reply.new at result (entry_bytes (entry fileid (part src.now from len) number)) }
 {
-    let high = put_word(reply, at, 1);
-    let low = put_word(reply, high, 0);
-    let size = put_word(reply, low, fileid);
-    let text = put_word(reply, size, len as u32);
+    let text = put_words(reply, at, &[1, 0, fileid, len as u32]);
     let end = put_padded(reply, text, src, from, len);
-    let cookie = put_word(reply, end, 0);
-    put_word(reply, cookie, number)
+    put_words(reply, end, &[0, number])
 }
 
 // One entry, if its number is above the cookie of the call and one more is sent.
@@ -90,18 +72,13 @@ fn put_above(
     requires number_in_bounds { p.at + length (entries_bytes (take p.left (entries_above cookie (entry fileid (part src.now from len) number ∷ [])))) ≤ length reply.old }
     ensures { WroteEntries (entries_above cookie (entry fileid (part src.now from len) number ∷ [])) reply.old reply.new p result }
 {
-    if cookie >= number as u64 {
+    if cookie >= number as u64 || p.left == 0 {
         return p;
     }
-    let at = p.at;
-    let left = p.left;
-    if left == 0 {
-        return p;
-    }
-    let next = put_entry(reply, at, fileid, src, from, len, number);
+    let at = put_entry(reply, p.at, fileid, src, from, len, number);
     Place {
-        at: next,
-        left: left - 1,
+        at,
+        left: p.left - 1,
     }
 }
 
@@ -118,7 +95,7 @@ fn put_dots(
     requires parent_in_bounds { p.at + length (entries_bytes (take p.left (entries_above cookie (dots directory.0 parent.0)))) ≤ length reply.old }
     ensures { WroteEntries (entries_above cookie (dots directory.0 parent.0)) reply.old reply.new p result }
 {
-    let text = [0x2Eu8, 0x2E, 0, 0, 0];
+    let text = [b'.', b'.', 0, 0, 0];
     let q = put_above(reply, p, directory.0 as u32 + 1, &text, 1, 1, 1, cookie);
     put_above(reply, q, parent.0 as u32 + 1, &text, 0, 2, 2, cookie)
 }
@@ -172,17 +149,14 @@ fn put_names(
     requires store_in_bounds { p.at + length (entries_bytes (take p.left (entries_above cookie (named_entries store.now directory.0 (names store.now))))) ≤ length reply.old }
     ensures { WroteEntries (entries_above cookie (named_entries store.now directory.0 (names store.now))) reply.old reply.new p result }
 {
-    let total = name_count(store);
-    let mut start = names_start(store);
+    let first = names_start(store);
     let mut q = p;
-    let mut n = 0;
-    while n < total {
+    for n in 0..name_count(store) {
         if q.left == 0 {
-            return q;
+            break;
         }
+        let start = first + NameRecord::BYTES * n;
         q = put_name(reply, q, store, start, directory, NameNumber(n), cookie);
-        start += NameRecord::BYTES;
-        n += 1;
     }
     q
 }

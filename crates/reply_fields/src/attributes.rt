@@ -10,7 +10,7 @@ ghost use Rattle.xdr.specs.Wrote.{Wrote};
 
 use kinds::numbers::{Limit, ObjectNumber};
 use kinds::object::{Attributes, Before};
-use results::{HandleChange, HandleObject, ObjectChange};
+use results::ObjectChange;
 use store_attributes::attributes;
 use store_records::counts::stamp_of;
 use store_records::object::generation_of;
@@ -23,30 +23,33 @@ fn put_fattr3(reply: &mut [u8], at: usize, a: Attributes) -> usize
     requires { at + 84 ≤ length reply.old }
     ensures { Wrote 84 reply.old reply.new at result (words (fattr3 a)) }
 {
-    let ws = [
-        a.kind,
-        a.mode,
-        a.nlink,
-        a.uid,
-        a.gid,
-        0,
-        a.size,
-        0,
-        a.used,
-        0,
-        0,
-        0,
-        a.fsid,
-        0,
-        a.fileid,
-        a.atime.seconds,
-        a.atime.nanoseconds,
-        a.mtime.seconds,
-        a.mtime.nanoseconds,
-        a.ctime.seconds,
-        a.ctime.nanoseconds,
-    ];
-    put_words(reply, at, &ws)
+    put_words(
+        reply,
+        at,
+        &[
+            a.kind,
+            a.mode,
+            a.nlink,
+            a.uid,
+            a.gid,
+            0,
+            a.size,
+            0,
+            a.used,
+            0,
+            0,
+            0,
+            a.fsid,
+            0,
+            a.fileid,
+            a.atime.seconds,
+            a.atime.nanoseconds,
+            a.mtime.seconds,
+            a.mtime.nanoseconds,
+            a.ctime.seconds,
+            a.ctime.nanoseconds,
+        ],
+    )
 }
 
 // fattr3, of an object.
@@ -69,14 +72,19 @@ pub fn put_post_op_attr(reply: &mut [u8], at: usize, store: &[u8], o: ObjectNumb
 }
 
 // post_op_attr of a handle: present, or absent.
-pub fn put_post_op_option(reply: &mut [u8], at: usize, store: &[u8], o: HandleObject) -> usize
+pub fn put_post_op_option(
+    reply: &mut [u8],
+    at: usize,
+    store: &[u8],
+    o: Option<ObjectNumber>,
+) -> usize
     requires at_in_bounds { at + 88 ≤ length reply.old }
     requires showable_object { ShowableObject store.now o }
     ensures { Wrote (4 * length (post_op_option (handle_attributes_in store.now o))) reply.old reply.new at result (words (post_op_option (handle_attributes_in store.now o))) }
 {
     match o {
-        HandleObject::Absent => put_word(reply, at, 0),
-        HandleObject::Present(object) => put_post_op_attr(reply, at, store, object),
+        None => put_word(reply, at, 0),
+        Some(object) => put_post_op_attr(reply, at, store, object),
     }
 }
 
@@ -85,16 +93,19 @@ fn put_pre_op_attr(reply: &mut [u8], at: usize, b: Before) -> usize
     requires { at + 28 ≤ length reply.old }
     ensures { Wrote 28 reply.old reply.new at result (words (pre_op b)) }
 {
-    let ws = [
-        1,
-        0,
-        b.size,
-        b.mtime.seconds,
-        b.mtime.nanoseconds,
-        b.ctime.seconds,
-        b.ctime.nanoseconds,
-    ];
-    put_words(reply, at, &ws)
+    put_words(
+        reply,
+        at,
+        &[
+            1,
+            0,
+            b.size,
+            b.mtime.seconds,
+            b.mtime.nanoseconds,
+            b.ctime.seconds,
+            b.ctime.nanoseconds,
+        ],
+    )
 }
 
 // wcc_data, both parts present.
@@ -103,24 +114,19 @@ pub fn put_wcc_data(reply: &mut [u8], at: usize, store: &[u8], c: ObjectChange) 
     requires showable { Showable store.now c.object.0 }
     ensures { Wrote 116 reply.old reply.new at result (words (wcc_data (change_in store.now c))) }
 {
-    let before = c.before;
-    let next = put_pre_op_attr(reply, at, before);
-    let object = c.object;
-    put_post_op_attr(reply, next, store, object)
+    let next = put_pre_op_attr(reply, at, c.before);
+    put_post_op_attr(reply, next, store, c.object)
 }
 
 // wcc_data of a handle: both parts present, or both absent.
-pub fn put_wcc_option(reply: &mut [u8], at: usize, store: &[u8], c: HandleChange) -> usize
+pub fn put_wcc_option(reply: &mut [u8], at: usize, store: &[u8], c: Option<ObjectChange>) -> usize
     requires at_in_bounds { at + 116 ≤ length reply.old }
     requires showable_change { ShowableChange store.now c }
     ensures { Wrote (4 * length (wcc_option (handle_change_in store.now c))) reply.old reply.new at result (words (wcc_option (handle_change_in store.now c))) }
 {
     match c {
-        HandleChange::Absent => {
-            let ws = [0u32, 0];
-            put_words(reply, at, &ws)
-        }
-        HandleChange::Present(both) => put_wcc_data(reply, at, store, both),
+        None => put_words(reply, at, &[0, 0]),
+        Some(both) => put_wcc_data(reply, at, store, both),
     }
 }
 
@@ -130,12 +136,14 @@ pub fn put_nfs_fh3(reply: &mut [u8], at: usize, store: &[u8], o: ObjectNumber) -
     requires showable { Showable store.now o.0 }
     ensures { Wrote (4 + handle_length) reply.old reply.new at result (opaque_bytes (handle_of store.now o.0)) }
 {
-    let number = o.0;
-    let ws = [
-        HANDLE_LENGTH,
-        stamp_of(store),
-        number as u32,
-        generation_of(store, o),
-    ];
-    put_words(reply, at, &ws)
+    put_words(
+        reply,
+        at,
+        &[
+            HANDLE_LENGTH,
+            stamp_of(store),
+            o.0 as u32,
+            generation_of(store, o),
+        ],
+    )
 }

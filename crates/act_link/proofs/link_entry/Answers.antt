@@ -1,6 +1,5 @@
 use mathlib.Core.Path.{ap, ap₂}
 use mathlib.Core.Option.{some}
-use borrow.Author.Rules.{rules}
 use Rattle.kinds.specs.declared.object.Attributes.{Attributes}
 use Rattle.kinds.specs.declared.object.Change.{Change}
 use Rattle.kinds.specs.Numbers.{OK}

@@ -1,32 +1,9 @@
-use Rattle.spec.specs.Procedures.Listing.{check_readdir, readdir}
 use Rattle.check_handles.proofs.Reach.{directory_reached}
 use Rattle.act_list.proofs.Writable.{listable}
 use Rattle.act_list.proofs.readdir.Goals as goal
 
-pub returns-in-Refused-clause-result_value : goal.returns-in-Refused-clause-result_value
-unfolding check_readdir readdir
-returns-in-Refused-clause-result_value c = rw (← c.reach_directory-answer.ensures, c.in-Refused.is) c.fail_showing.ensures.result_value
-
-pub returns-in-Refused-clause-writable : goal.returns-in-Refused-clause-writable
-unfolding check_readdir readdir
-returns-in-Refused-clause-writable c = c.fail_showing.ensures.writable
-
-pub returns-in-Sent : goal.returns-in-Sent
-unfolding check_readdir readdir
-returns-in-Sent c = let a = c.args in
-    let found = c.in-At.is in
-    let is = c.in-Sent.is in record { result_value = rw (← c.reach_directory-answer.ensures, found, ← c.check_readdir_in-listing.ensures, is); writable = listable a.store.now _ a.cookie a.verifier a.count _ _ _ c.requires.good_records (directory_reached _ _ _ _ found c.reach_directory-answer.ensures).0.below is c.check_readdir_in-listing.ensures }
-
-pub returns-in-Refused-listing-clause-result_value : goal.returns-in-Refused-listing-clause-result_value
-unfolding check_readdir readdir
-returns-in-Refused-listing-clause-result_value c = rw (
-  ← c.reach_directory-answer.ensures,
-  c.in-At.is,
-  ← c.check_readdir_in-listing.ensures,
-  c.in-Refused-listing.is,
-)
-    c.fail_showing-in-Refused-listing.ensures.result_value
-
-pub returns-in-Refused-listing-clause-writable : goal.returns-in-Refused-listing-clause-writable
-unfolding check_readdir readdir
-returns-in-Refused-listing-clause-writable c = c.fail_showing-in-Refused-listing.ensures.writable
+pub returns-in-Ok-check_readdir_in-clause-writable : goal.returns-in-Ok-check_readdir_in-clause-writable
+returns-in-Ok-check_readdir_in-clause-writable c = let a = c.args in
+    let directory = (directory_reached _ _ _ _ c.in-Ok.is c.reach_directory.ensures).0 in
+    listable a.store.now _ a.cookie a.verifier a.count _ _ _ c.requires.good_records directory.below c.in-Ok-check_readdir_in.is
+    c.check_readdir_in.ensures

@@ -5,12 +5,6 @@ use Rattle.spec.specs.Handles.{change}
 use Rattle.act_write.proofs.Written.{moved_bytes, no_bytes, some_bytes, none_moved, moved_length, written_left, left_showable}
 use Rattle.act_write.proofs.write_checked.Goals as goal
 
-pub unchanged-requires-clause-good_records : goal.unchanged-requires-clause-good_records
-unchanged-requires-clause-good_records c = c.requires.good_records
-
-pub unchanged-requires-clause-o_bound : goal.unchanged-requires-clause-o_bound
-unchanged-requires-clause-o_bound c = c.requires.o_bound
-
 pub returns-then-n-eq0 : goal.returns-then-n-eq0
 unfolding change
 returns-then-n-eq0 c = let n = c.smaller-n.result in
@@ -24,12 +18,6 @@ returns-then-n-eq0 c = let n = c.smaller-n.result in
       writable =
           rw c.unchanged.ensures (record { good = c.requires.good_records; object = c.requires.o_bound });
     })
-
-pub before-earlier-requires-clause-good_records : goal.before-earlier-requires-clause-good_records
-before-earlier-requires-clause-good_records c = c.requires.good_records
-
-pub before-earlier-requires-clause-o_bound : goal.before-earlier-requires-clause-o_bound
-before-earlier-requires-clause-o_bound c = c.requires.o_bound
 
 pub write_edit-requires : goal.write_edit-requires
 write_edit-requires c = let n = c.smaller-n.result in

@@ -17,8 +17,4 @@ pub returns : goal.returns
 returns c = let a = c.args in
     wrote_entry a.fileid a.number a.len (part a.src.now a.from a.len) (omega arith) (omega arith)
     (part_length a.src.now a.from a.len (omega (arith, c.requires.padded_name.inside)))
-    c.put_word-high.ensures
-    c.put_word-low.ensures
-    c.put_word-size.ensures c.put_word-text.ensures
-    c.put_padded-end.ensures
-    c.put_word-cookie.ensures c.put_word.ensures
+    c.put_words-text.ensures c.put_padded-end.ensures c.put_words.ensures

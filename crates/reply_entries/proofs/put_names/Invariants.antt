@@ -1,14 +1,8 @@
-use Prim.Native.Nat.{◌-◌, ◌≤◌}
 use mathlib.Core.Path.{◌≡◌}
 use lib.ListN.{length}
-use Rattle.spec.specs.Image.{name_start}
 use Rattle.spec.specs.Procedures.Listing.{named_entries, entries_above}
 use Rattle.reply_entries.specs.Entries.{WroteEntries}
 use Rattle.reply_entries.proofs.put_names.Given as goal
 
 abbrev pub invariant-loop-n : goal.invariant-loop-n
-invariant-loop-n l = (l.n ≤ l.total) × WroteEntries (entries_above l.cookie (named_entries l.store l.directory.0 l.n)) l.initial.reply l.reply l.initial.q l.q × (length l.reply ≡ length l.initial.reply)
-    × (l.start ≡ name_start l.store l.n)
-
-abbrev pub decreases-loop-n : goal.decreases-loop-n
-decreases-loop-n l = l.total - l.n
+invariant-loop-n l = WroteEntries (entries_above l.cookie (named_entries l.store l.directory.0 l.n)) l.initial.reply l.reply l.initial.q l.q × (length l.reply ≡ length l.initial.reply)

@@ -1,5 +1,4 @@
 use native.Mathlib.Omega.{arith}
-use Rattle.spec.specs.Procedures.Attributes.{setattr_edit}
 use Rattle.act_write.proofs.Written.{record_inside}
 use Rattle.act_change.proofs.Edited.{sized_still}
 use Rattle.act_change.proofs.attributes.setattr_edit.Goals as goal
@@ -14,12 +13,3 @@ forget_verifier-requires c = let r = sized_still c.args.store.now c.args.o.0 c.a
     let i = record_inside c.args.store.now c.resize_to.new.store c.args.o.0 c.requires.good_records
     (rw c.resize_to.ensures r.shape) c.requires.sizable.below in
     omega (arith, i)
-
-pub returns : goal.returns
-unfolding setattr_edit
-returns c = rw (
-  c.forget_verifier.ensures,
-  c.set_attributes.ensures,
-  c.size_touches.ensures,
-  c.resize_to.ensures,
-)

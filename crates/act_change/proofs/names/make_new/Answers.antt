@@ -6,24 +6,6 @@ use Rattle.act_write.proofs.Written.{left_showable}
 use Rattle.act_change.proofs.Made.{new_still}
 use Rattle.act_change.proofs.names.make_new.Goals as goal
 
-pub before-earlier-requires-clause-good_records : goal.before-earlier-requires-clause-good_records
-before-earlier-requires-clause-good_records c = c.requires.good_records
-
-pub before-earlier-requires-clause-o_bound : goal.before-earlier-requires-clause-o_bound
-before-earlier-requires-clause-o_bound c = c.requires.makable.below
-
-pub new_edit-requires-clause-good_records : goal.new_edit-requires-clause-good_records
-new_edit-requires-clause-good_records c = c.requires.good_records
-
-pub new_edit-requires-clause-used_map : goal.new_edit-requires-clause-used_map
-new_edit-requires-clause-used_map c = c.requires.used_map
-
-pub new_edit-requires-clause-length_in_bounds : goal.new_edit-requires-clause-length_in_bounds
-new_edit-requires-clause-length_in_bounds c = c.requires.length_in_bounds
-
-pub new_edit-requires-clause-makable : goal.new_edit-requires-clause-makable
-new_edit-requires-clause-makable c = c.requires.makable
-
 pub returns : goal.returns
 unfolding change
 returns c = let w = below_part 256 c.args.call.now c.args.name.start c.args.name.length (lit< tt)

@@ -1,5 +1,4 @@
-use mathlib.Core.Path.{refl, sym, ap, ◌∙◌}
-use Rattle.spec.specs.Procedures.Names.{mkdir}
+use mathlib.Core.Path.{sym, ap, ◌∙◌}
 use Rattle.spec.specs.Procedures.{cut}
 use Rattle.store_blocks.proofs.Ready.{ready_records}
 use Rattle.laws.proofs.Passed.{mkdir_passed}
@@ -7,13 +6,13 @@ use Rattle.check_make.specs.Meaning.{mkdir_checked_of}
 use Rattle.act_change.proofs.Makable.{mkdir_makable}
 use Rattle.act_change.proofs.names.mkdir.Goals as goal
 
-pub check_mkdir-answer-requires : goal.check_mkdir-answer-requires
-check_mkdir-answer-requires c = let g = ready_records c.requires.ready in
+pub check_mkdir-requires : goal.check_mkdir-requires
+check_mkdir-requires c = let g = ready_records c.requires.ready in
     record { good_records = g; used_map = c.requires.ready.map; length_in_bounds = c.requires.length_in_bounds; length_in_bounds_2 = c.requires.length_in_bounds_2 }
 
 pub make_new-requires : goal.make_new-requires
 make_new-requires c = let g = ready_records c.requires.ready in
-    let e = sym c.check_mkdir-answer.ensures ∙ ap mkdir_checked_of c.in-At.is in
+    let e = sym c.check_mkdir.ensures ∙ ap mkdir_checked_of c.in-Ok.is in
     let p = mkdir_passed c.args.store.now (cut c.args.call.now c.args.place.directory)
     (cut c.args.call.now c.args.place.name) c.args.a _ e in record {
       good_records = g;
@@ -27,17 +26,3 @@ make_new-requires c = let g = ready_records c.requires.ready in
 pub fail_changing-requires : goal.fail_changing-requires
 fail_changing-requires c = let g = ready_records c.requires.ready in
     record { good_records = g; length_in_bounds = c.requires.length_in_bounds }
-
-pub returns-in-At : goal.returns-in-At
-unfolding mkdir
-returns-in-At c = rw (
-  ← c.check_mkdir-answer.ensures,
-  c.in-At.is,
-  ← c.new_object.ensures,
-)
-    c.make_new.ensures
-
-pub returns-in-Refused : goal.returns-in-Refused
-unfolding mkdir
-returns-in-Refused c = rw (← c.check_mkdir-answer.ensures, c.in-Refused.is)
-    (record { result = c.fail_changing.ensures.result_value; store = refl; writable = c.fail_changing.ensures.writable })

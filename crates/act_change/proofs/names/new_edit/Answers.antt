@@ -1,7 +1,6 @@
 use native.Mathlib.Omega.{arith}
 use lib.Dec.{lit<}
 use Rattle.spec.specs.Procedures.{cut}
-use Rattle.spec.specs.Procedures.Names.{new_edit}
 use Rattle.laws.proofs.Bytes.{part_length}
 use Rattle.laws.proofs.RecordRange.{below_part}
 use Rattle.act_write.proofs.Written.{record_inside}
@@ -43,11 +42,3 @@ touch-requires c = let w = below_part 256 c.args.call.now c.args.name.start c.ar
     record_inside c.args.store.now c.resize_to.new.store c.args.d.0 c.requires.good_records
     (rw (c.resize_to.ensures, c.create_object.ensures) h.shape)
     c.requires.makable.below
-
-pub returns : goal.returns
-unfolding new_edit
-returns c = rw (
-  c.touch.ensures,
-  c.resize_to.ensures,
-  c.create_object.ensures,
-)

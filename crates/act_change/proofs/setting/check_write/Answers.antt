@@ -8,15 +8,11 @@ use Rattle.laws.proofs.Bytes.{part_length}
 use Rattle.check_handles.proofs.Reach.{regular_reached}
 use Rattle.act_change.proofs.setting.check_write.Goals as goal
 
-pub returns-in_default : goal.returns-in_default
-unfolding check_write
-returns-in_default c = rw (← c.reach_regular-answer.ensures, c.in_default.is)
-
 pub returns-then-wanted-bytes : goal.returns-then-wanted-bytes
 unfolding check_write
 returns-then-wanted-bytes c = rw (
-  ← c.reach_regular-answer.ensures,
-  c.in-At.is,
+  ← c.reach_regular.ensures,
+  c.in_ok-o.was,
   part_length _ _ _ c.requires.length_in_bounds_2,
   ne_eqb _ _ c.if-wanted-bytes.true,
 )
@@ -24,8 +20,8 @@ returns-then-wanted-bytes c = rw (
 pub returns-then-wanted-eq0 : goal.returns-then-wanted-eq0
 unfolding check_write
 returns-then-wanted-eq0 c = rw (
-  ← c.reach_regular-answer.ensures,
-  c.in-At.is,
+  ← c.reach_regular.ensures,
+  c.in_ok-o.was,
   part_length _ _ _ c.requires.length_in_bounds_2,
   eq-eqb _ _ c.if-wanted-bytes.false,
   eq-eqb _ _ c.if-wanted-eq0.true,
@@ -34,8 +30,8 @@ returns-then-wanted-eq0 c = rw (
 pub returns-then-is_past_end : goal.returns-then-is_past_end
 unfolding check_write
 returns-then-is_past_end c = rw (
-  ← c.reach_regular-answer.ensures,
-  c.in-At.is,
+  ← c.reach_regular.ensures,
+  c.in_ok-o.was,
   part_length _ _ _ c.requires.length_in_bounds_2,
   eq-eqb _ _ c.if-wanted-bytes.false,
   ne_eqb _ _ c.if-wanted-eq0.false,
@@ -46,8 +42,8 @@ returns-then-is_past_end c = rw (
 
 pub lacks_room_for_bytes-requires : goal.lacks_room_for_bytes-requires
 lacks_room_for_bytes-requires c = let below = (regular_reached c.args.store.now (cut c.args.call.now c.args.h) _ _
-    c.in-At.is
-    c.reach_regular-answer.ensures).0.below in record {
+    c.in_ok-o.was
+    c.reach_regular.ensures).0.below in record {
       good_records = c.requires.good_records;
       used_map = c.requires.used_map;
       o_bound = below;
@@ -58,8 +54,8 @@ lacks_room_for_bytes-requires c = let below = (regular_reached c.args.store.now 
 pub returns-then-lacks_room_for_bytes : goal.returns-then-lacks_room_for_bytes
 unfolding check_write
 returns-then-lacks_room_for_bytes c = rw (
-  ← c.reach_regular-answer.ensures,
-  c.in-At.is,
+  ← c.reach_regular.ensures,
+  c.in_ok-o.was,
   part_length _ _ _ c.requires.length_in_bounds_2,
   eq-eqb _ _ c.if-wanted-bytes.false,
   ne_eqb _ _ c.if-wanted-eq0.false,
@@ -73,8 +69,8 @@ returns-then-lacks_room_for_bytes c = rw (
 pub returns : goal.returns
 unfolding check_write
 returns c = rw (
-  ← c.reach_regular-answer.ensures,
-  c.in-At.is,
+  ← c.reach_regular.ensures,
+  c.in_ok-o.was,
   part_length _ _ _ c.requires.length_in_bounds_2,
   eq-eqb _ _ c.if-wanted-bytes.false,
   ne_eqb _ _ c.if-wanted-eq0.false,

@@ -8,10 +8,6 @@ pub overflow_add-eof : goal.overflow_add-eof
 unfolding read_length
 overflow_add-eof c = omega (arith, size_few c.args.store.now c.requires.good_records c.args.o.0 c.requires.o_bound)
 
-pub returns-clause-result_value : goal.returns-clause-result_value
-unfolding read_result
-returns-clause-result_value c = rw (← c.size_of-size.ensures, ← c.read_length-n.ensures)
-
 pub returns-clause-writable : goal.returns-clause-writable
 unfolding read_result
 returns-clause-writable c = readable c.args.store.now c.args.o.0 c.args.offset c.args.count _ c.requires.good_records c.requires.o_bound c.read_length-n.ensures

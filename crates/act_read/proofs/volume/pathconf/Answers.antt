@@ -2,18 +2,6 @@ use Rattle.spec.specs.Procedures.Volume.{pathconf}
 use Rattle.check_handles.proofs.Reach.{object_showable}
 use Rattle.act_read.proofs.volume.pathconf.Goals as goal
 
-pub returns-in-At-clause-result_value : goal.returns-in-At-clause-result_value
+pub returns-in-Ok-clause-writable : goal.returns-in-Ok-clause-writable
 unfolding pathconf
-returns-in-At-clause-result_value c = rw (← c.reach-answer.ensures, c.in-At.is)
-
-pub returns-in-At-clause-writable : goal.returns-in-At-clause-writable
-unfolding pathconf
-returns-in-At-clause-writable c = object_showable _ _ _ _ c.in-At.is c.requires.good_records c.reach-answer.ensures
-
-pub returns-in-Refused-clause-result_value : goal.returns-in-Refused-clause-result_value
-unfolding pathconf
-returns-in-Refused-clause-result_value c = rw (← c.reach-answer.ensures, c.in-Refused.is) c.fail_showing.ensures.result_value
-
-pub returns-in-Refused-clause-writable : goal.returns-in-Refused-clause-writable
-unfolding pathconf
-returns-in-Refused-clause-writable c = c.fail_showing.ensures.writable
+returns-in-Ok-clause-writable c = object_showable _ _ _ _ c.in-Ok.is c.requires.good_records c.reach.ensures

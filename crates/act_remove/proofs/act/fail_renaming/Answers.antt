@@ -1,46 +1,21 @@
-use mathlib.Core.Path.{subst}
-use borrow.Author.Rules.{rules}
+use mathlib.Core.Bool.{not}
+use mathlib.Core.Path.{sym, ap, ◌∙◌}
 use Rattle.spec.specs.Procedures.Removal.{fail_renaming}
-use Rattle.results.specs.Writable.{ShowableChange}
+use Rattle.act_remove.proofs.Acts.{neither_shown, source_shown, target_shown}
+use Rattle.act_remove.proofs.act.fail_renaming.Goals.{else-is_none-via-then-is_none+else-is_none-2, else-is_none-via-else-is_none}
 use Rattle.act_remove.proofs.act.fail_renaming.Goals as goal
 
-pub returns-in-Present-clause-result_value : goal.returns-in-Present-clause-result_value
+pub returns-then-is_none-2-clause-result_value : goal.returns-then-is_none-2-clause-result_value
 unfolding fail_renaming
-returns-in-Present-clause-result_value c = rw (← c.handle_change-from.ensures.result_value, c.in-Present.is, ← c.handle_change-to.ensures.result_value)
-
-pub returns-in-Present-clause-writable : goal.returns-in-Present-clause-writable
-unfolding fail_renaming
-returns-in-Present-clause-writable c = (
-  subst (ShowableChange _) c.in-Present.is c.handle_change-from.ensures.showable_change,
-  c.handle_change-to.ensures.showable_change,
-)
-
-pub returns-in-Present-to-clause-result_value : goal.returns-in-Present-to-clause-result_value
-unfolding fail_renaming
-returns-in-Present-to-clause-result_value c = rw (
-  ← c.handle_change-from.ensures.result_value,
-  c.in_default.is,
-  ← c.handle_change-to.ensures.result_value,
-  c.in-Present-to.is,
-)
-
-pub returns-in-Present-to-clause-writable : goal.returns-in-Present-to-clause-writable
-unfolding fail_renaming
-returns-in-Present-to-clause-writable c = (
-  c.handle_change-from.ensures.showable_change,
-  subst (ShowableChange _) c.in-Present-to.is
-      c.handle_change-to.ensures.showable_change,
-)
+returns-then-is_none-2-clause-result_value c = rw (← c.handle_change-from.ensures.result_value, ← c.handle_change-to.ensures.result_value)
+    (sym (neither_shown c.args.store.now c.args.status.0 _ _ (c.is_none.ensures ∙ ap not c.if-is_none.true)
+    (c.is_none-then-is_none.ensures ∙ ap not c.if-is_none-2.true)))
 
 pub returns-clause-result_value : goal.returns-clause-result_value
 unfolding fail_renaming
-returns-clause-result_value c = rw (
-  ← c.handle_change-from.ensures.result_value,
-  c.in_default.is,
-  ← c.handle_change-to.ensures.result_value,
-  c.in_default-to.is,
-)
-
-pub returns-clause-writable : goal.returns-clause-writable
-unfolding fail_renaming
-returns-clause-writable c = tt
+returns-clause-result_value c = rw (← c.handle_change-from.ensures.result_value, ← c.handle_change-to.ensures.result_value)
+    (elim c.else-is_none.branch [
+      | else-is_none-via-then-is_none+else-is_none-2 w ↦ sym (target_shown c.args.store.now c.args.status.0 _ _
+          (w.is_none-then-is_none.ensures ∙ ap not w.if-is_none-2.false))
+      | else-is_none-via-else-is_none w ↦ sym (source_shown c.args.store.now c.args.status.0 _ _ (c.is_none.ensures ∙ ap not w.if-is_none.false))
+    ])

@@ -1,5 +1,4 @@
 use mathlib.Core.Path.{ap}
-use borrow.Author.Rules.{rules}
 use Rattle.spec.specs.Results.{changed}
 use Rattle.kinds.specs.declared.object.Change.{Change}
 use Rattle.kinds.specs.Numbers.{OK}

@@ -1,6 +1,5 @@
 use mathlib.Core.Path.{ap₂}
 use mathlib.Core.Option.{some}
-use borrow.Author.Rules.{rules}
 use Rattle.spec.specs.Procedures.{cut}
 use Rattle.spec.specs.Procedures.Removal.{rename_edit}
 use Rattle.spec.specs.Results.{renamed}
@@ -9,18 +8,6 @@ use Rattle.kinds.specs.Numbers.{OK}
 use Rattle.check_rename.specs.Meaning.{onto_of}
 use Rattle.results.proofs.Edited.{still_showable, change_made}
 use Rattle.act_remove.proofs.act.rename_entry.Goals as goal
-
-pub rename_edit-requires-clause-good_records : goal.rename_edit-requires-clause-good_records
-rename_edit-requires-clause-good_records c = c.requires.good_records
-
-pub rename_edit-requires-clause-renamable_at : goal.rename_edit-requires-clause-renamable_at
-rename_edit-requires-clause-renamable_at c = c.requires.renamable_at
-
-pub rename_edit-requires-clause-length_le_most_name_bytes : goal.rename_edit-requires-clause-length_le_most_name_bytes
-rename_edit-requires-clause-length_le_most_name_bytes c = c.requires.length_le_most_name_bytes
-
-pub rename_edit-requires-clause-length_in_bounds : goal.rename_edit-requires-clause-length_in_bounds
-rename_edit-requires-clause-length_in_bounds c = c.requires.length_in_bounds
 
 pub returns : goal.returns
 returns c = let a = c.args in

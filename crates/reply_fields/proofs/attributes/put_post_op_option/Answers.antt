@@ -6,10 +6,10 @@ pub put_post_op_attr-requires-clause-at_in_bounds : goal.put_post_op_attr-requir
 put_post_op_attr-requires-clause-at_in_bounds c = omega arith
 
 pub put_post_op_attr-requires-clause-showable : goal.put_post_op_attr-requires-clause-showable
-put_post_op_attr-requires-clause-showable c = rw c.in-Present.is at c.requires.showable_object
+put_post_op_attr-requires-clause-showable c = rw c.in-Some.is at c.requires.showable_object
 
-pub returns-in-Absent : goal.returns-in-Absent
-returns-in-Absent c = rw c.in-Absent.is (in_words _ c.put_word.ensures)
+pub returns-in-None : goal.returns-in-None
+returns-in-None c = rw c.in-None.is (in_words _ c.put_word.ensures)
 
-pub returns-in-Present : goal.returns-in-Present
-returns-in-Present c = rw c.in-Present.is (in_words _ c.put_post_op_attr.ensures)
+pub returns-in-Some : goal.returns-in-Some
+returns-in-Some c = rw c.in-Some.is (in_words _ c.put_post_op_attr.ensures)
