@@ -1,4 +1,6 @@
 -- What the edits of SETATTR and WRITE ask, and what they leave. Assumes nothing.
+use Rattle.std.specs.Prelude.{Option, Some, None}
+use Rattle.kinds.specs.declared.object.Time.{Time}
 use Prim.Native.Nat.{ℕ, ◌+◌, ◌≤◌, ◌<◌, min}
 use mathlib.Core.Path.{◌≡◌, refl}
 use mathlib.Core.Logic.{◌≢◌}
@@ -8,9 +10,7 @@ use lib.ListN.{length, take}
 use Rattle.kinds.specs.Numbers.{most_transfer_bytes}
 use Rattle.kinds.specs.declared.object.Context.{Context}
 use Rattle.kinds.specs.declared.call.Part.{Part}
-use Rattle.kinds.specs.declared.call.SetSize.{SetSize}
 use Rattle.kinds.specs.declared.call.Settable.{Settable}
-use Rattle.kinds.specs.declared.call.Guard.{Guard}
 use Rattle.kinds.specs.declared.call.Arguments.TheVariants as Arguments
 use Rattle.spec.specs.Checked.{passed}
 use Rattle.spec.specs.Image.{Store, objects, blocks, object_at}
@@ -29,19 +29,19 @@ use Rattle.act_write.specs.MayWrite.{MayWrite}
 use Rattle.act_change.specs.Makable.{Sizable}
 
 -- ---- a size, where one is given
-pub sized_still : (s : Store) (o : ℕ) (x : SetSize) → GoodRecords s → Sizable s o x → StillGood s (resize_to s o x)
-sized_still s o SetSize.Keep g z = still_refl s g
-sized_still s o (SetSize.To n) g z = resize_still s g o n z.below (z.regular refl) z.small z.room
+pub sized_still : (s : Store) (o : ℕ) (x : Option ℕ) → GoodRecords s → Sizable s o x → StillGood s (resize_to s o x)
+sized_still s o None g z = still_refl s g
+sized_still s o (Some n) g z = resize_still s g o n z.below (z.regular refl) z.small z.room
 
-pub sized_kind : (s : Store) (o : ℕ) (x : SetSize) → GoodRecords s → Sizable s o x → (i : ℕ) → i < objects s → (object_at (resize_to s o x) i).kind
+pub sized_kind : (s : Store) (o : ℕ) (x : Option ℕ) → GoodRecords s → Sizable s o x → (i : ℕ) → i < objects s → (object_at (resize_to s o x) i).kind
     ≡ (object_at s i).kind
-sized_kind s o SetSize.Keep g z i l = refl
-sized_kind s o (SetSize.To n) g z i l =
+sized_kind s o None g z i l = refl
+sized_kind s o (Some n) g z i l =
     let r = z.regular refl in
     (resize_tree s o n g.sound z.below (live_at s g o z.below (omega arith)) z.small z.room).kind i l
 
 -- ---- what the checks tell
-pub setattr_sizable : (s : Store) (h : List ℕ) (a : Settable) (g : Guard) (o : ℕ) → GoodRecords s → SetattrPassed s h a g o → Sizable s o a.size
+pub setattr_sizable : (s : Store) (h : List ℕ) (a : Settable) (g : Option Time) (o : ℕ) → GoodRecords s → SetattrPassed s h a g o → Sizable s o a.size
 setattr_sizable s h a g o r p =
     let l = p.reached.below in
     record {
@@ -64,7 +64,7 @@ write_writable s h offset count bytes o p n e z =
 
 -- ---- the stores that are left
 module _ (s : Store) (c : Context) (v : Valid s) (b : Below 256 s) (k : GoodClock c.clock) (call : List ℕ) (w : Below 256 call) where
-  pub setattr_left : (h : Part) (a : Settable) (g : Guard) (o : ℕ) → FitsSettable a → check_setattr s (cut call h) a g ≡ passed o
+  pub setattr_left : (h : Part) (a : Settable) (g : Option Time) (o : ℕ) → FitsSettable a → check_setattr s (cut call h) a g ≡ passed o
       → StillGood s (setattr_edit s c o a)
   unfolding act setattr
   setattr_left h a g o f e = rw e at (act_good s c v b k call (Arguments.Setattr h a g) w f)

@@ -1,4 +1,5 @@
 -- What the edit of CREATE and MKDIR leaves between its steps. Assumes nothing.
+use Rattle.std.specs.Prelude.{Option, Some, None}
 use Prim.Native.Nat.{ℕ}
 use mathlib.Core.Path.{◌≡◌, refl, ap, ◌∙◌}
 use mathlib.Core.List.{List}
@@ -6,7 +7,6 @@ use native.Mathlib.Omega.{arith}
 use Rattle.kinds.specs.Numbers.{DIRECTORY}
 use Rattle.kinds.specs.declared.object.Object.{Object}
 use Rattle.kinds.specs.declared.object.Context.{Context}
-use Rattle.kinds.specs.declared.call.SetSize.{SetSize}
 use Rattle.spec.specs.Edits.{mtime_and_ctime, resize, with_generation, create_object}
 use Rattle.spec.specs.Image.{Store, blocks, object_at}
 use Rattle.spec.specs.Procedures.Attributes.{resize_to}
@@ -24,7 +24,7 @@ use Rattle.store_blocks.specs.Blocks.{UsedMap}
 use Rattle.act_change.specs.Makable.{Sizable, Makable}
 use Rattle.act_change.proofs.Edited.{sized_still, sized_kind}
 
-module _ (s : Store) (c : Context) (v : Object) (x : SetSize) (o n d : ℕ) (text : List ℕ) (g : GoodRecords s) (m : Makable s c v x o n d text)
+module _ (s : Store) (c : Context) (v : Object) (x : Option ℕ) (o n d : ℕ) (text : List ℕ) (g : GoodRecords s) (m : Makable s c v x o n d text)
     (w : Below 256 text) where
   -- the store with the object in it, before it gets its size
   abbrev created : Store
@@ -90,12 +90,12 @@ module _ (s : Store) (c : Context) (v : Object) (x : SetSize) (o n d : ℕ) (tex
       mtime_and_ctime_fits mtime_and_ctime_allowed)
 
 -- the store that CREATE leaves where a file has the name
-pub existing_still : (s : Store) (c : Context) (o : ℕ) (x : SetSize) → GoodRecords s → GoodClock c.clock → Sizable s o x → StillGood s (existing_edit s c o x)
-existing_still s c o SetSize.Keep g k z = still_refl s g
-existing_still s c o (SetSize.To n) g k z =
+pub existing_still : (s : Store) (c : Context) (o : ℕ) (x : Option ℕ) → GoodRecords s → GoodClock c.clock → Sizable s o x → StillGood s (existing_edit s c o x)
+existing_still s c o None g k z = still_refl s g
+existing_still s c o (Some n) g k z =
     let t = resize s o n in
     let r = resize_still s g o n z.below (z.regular refl) z.small z.room in
-    let kind = sized_kind s o (SetSize.To n) g z o z.below ∙ z.regular refl in
-    still_trans s t (existing_edit s c o (SetSize.To n)) r
+    let kind = sized_kind s o (Some n) g z o z.below ∙ z.regular refl in
+    still_trans s t (existing_edit s c o (Some n)) r
     (set_attributes_still t r.good c.clock o mtime_and_ctime (rw r.shape.objects z.below) (omega (arith, kind)) k mtime_and_ctime_fits
     mtime_and_ctime_allowed)

@@ -14,9 +14,9 @@ use check_handles::failure::fail_changing;
 use check_settable::is_given;
 use edit_attributes::{forget_verifier, set_attributes};
 use edit_size::size::resize;
-use kinds::call::{Guard, Part, SetSize, SetTime, Settable};
+use kinds::call::{Part, SetTime, Settable};
 use kinds::numbers::{Limit, ObjectNumber, Status};
-use kinds::object::Context;
+use kinds::object::{Context, Time};
 use results::{ObjectChange, Reply};
 use store_attributes::before;
 
@@ -31,7 +31,7 @@ fn or_server(time: SetTime) -> SetTime
 }
 
 // The mtime that is set: with a size one is always set.
-fn touched(size: SetSize, mtime: SetTime) -> SetTime
+fn touched(size: Option<u64>, mtime: SetTime) -> SetTime
     ensures { result ≡ cond (is_given size) (or_server mtime) mtime }
 {
     if is_given(size) {
@@ -53,13 +53,18 @@ fn size_touches(a: Settable) -> Settable
 }
 
 // Gives a file the size, where one is given. The map says which blocks are used.
-pub fn resize_to(store: &mut [u8], used: &[u8; Limit::MOST_BLOCKS], o: ObjectNumber, size: SetSize)
+pub fn resize_to(
+    store: &mut [u8],
+    used: &[u8; Limit::MOST_BLOCKS],
+    o: ObjectNumber,
+    size: Option<u64>,
+)
     requires good_records { GoodRecords store.old }
     requires used_map { UsedMap store.old used.now }
     requires sizable { Sizable store.old o.0 size }
     ensures { store.new ≡ resize_to store.old o.0 size }
 {
-    let SetSize::To(n) = size else {
+    let Some(n) = size else {
         return;
     };
     resize(store, used, o, n as usize);
@@ -92,7 +97,7 @@ pub fn setattr(
     call: &[u8],
     h: Part,
     a: Settable,
-    g: Guard,
+    g: Option<Time>,
 ) -> Reply
     requires ready { Ready store.old used.now context }
     requires fits_settable { FitsSettable a }

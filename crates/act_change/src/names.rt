@@ -20,7 +20,7 @@ use check_settable::{only_ctime, settable_in};
 use edit_attributes::{touch, with_attributes};
 use edit_names::create_object;
 use edit_size::size::resize;
-use kinds::call::{How, NameIn, Part, SetSize, Settable};
+use kinds::call::{How, NameIn, Part, Settable};
 use kinds::numbers::{Kind, Limit, NameNumber, ObjectNumber};
 use kinds::object::{Context, Object, Time};
 use results::{ObjectChange, Reply};
@@ -80,7 +80,7 @@ fn new_edit(
     used: &[u8; Limit::MOST_BLOCKS],
     context: Context,
     v: Object,
-    size: SetSize,
+    size: Option<u64>,
     o: ObjectNumber,
     n: NameNumber,
     d: ObjectNumber,
@@ -104,14 +104,14 @@ fn existing_edit(
     used: &[u8; Limit::MOST_BLOCKS],
     context: Context,
     o: ObjectNumber,
-    size: SetSize,
+    size: Option<u64>,
 )
     requires good_records { GoodRecords store.old }
     requires used_map { UsedMap store.old used.now }
     requires sizable { Sizable store.old o.0 size }
     ensures { store.new ≡ existing_edit store.old context o.0 size }
 {
-    let SetSize::To(n) = size else {
+    let Some(n) = size else {
         return;
     };
     resize(store, used, o, n as usize);
@@ -124,7 +124,7 @@ fn make_new(
     used: &[u8; Limit::MOST_BLOCKS],
     context: Context,
     v: Object,
-    size: SetSize,
+    size: Option<u64>,
     o: ObjectNumber,
     n: NameNumber,
     d: ObjectNumber,
@@ -186,7 +186,7 @@ fn obey_size(
     context: Context,
     d: ObjectNumber,
     o: ObjectNumber,
-    size: SetSize,
+    size: Option<u64>,
 ) -> Reply
     requires good_records { GoodRecords store.old }
     requires used_map { UsedMap store.old used.now }

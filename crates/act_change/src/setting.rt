@@ -12,12 +12,13 @@ ghost use Rattle.check_handles.specs.Meaning.{reached_of};
 use check_handles::handle::{reach, reach_regular};
 use check_room::{is_past_end, lacks_room_for_bytes, lacks_room_for_size};
 use check_settable::{bad_attributes, differs, is_given};
-use kinds::call::{Guard, Part, SetSize, Settable};
+use kinds::call::{Part, Settable};
 use kinds::numbers::{Limit, ObjectNumber, Status};
+use kinds::object::Time;
 use store_records::object::{ctime_of, is_directory};
 
 // Whether a size is given for a directory.
-fn sizes_directory(store: &[u8], o: ObjectNumber, size: SetSize) -> bool
+fn sizes_directory(store: &[u8], o: ObjectNumber, size: Option<u64>) -> bool
     requires good_records { GoodRecords store.now }
     requires o_bound { o.0 < objects store.now }
     ensures { result ≡ is_given size && is_directory store.now o.0 }
@@ -33,7 +34,7 @@ pub fn check_setattr(
     call: &[u8],
     h: Part,
     a: Settable,
-    g: Guard,
+    g: Option<Time>,
 ) -> Result<ObjectNumber, Status>
     requires good_records { GoodRecords store.now }
     requires used_map { UsedMap store.now used.now }

@@ -9,19 +9,19 @@ returns-in_default c = rw c.in_default.is
 
 pub resize-requires : goal.resize-requires
 resize-requires c = let p : Sizable c.args.store.now c.args.o.0 c.args.size = c.requires.sizable in
-    let z = rw c.in-To.is at p in
+    let z = rw c.in-Some.is at p in
     record { good_records = c.requires.good_records; used_map = c.requires.used_map; o_bound = z.below; o_value = z.regular refl; size_le_most_file_bytes = z.small; o_bound_2 = z.room }
 
 pub touch-requires : goal.touch-requires
 touch-requires c = let p : Sizable c.args.store.now c.args.o.0 c.args.size = c.requires.sizable in
-    let z = rw c.in-To.is at p in
+    let z = rw c.in-Some.is at p in
     let r = resize_still c.args.store.now c.requires.good_records c.args.o.0 _ z.below (z.regular refl) z.small z.room in
     record_inside c.args.store.now c.resize.new.store c.args.o.0 c.requires.good_records
     (rw c.resize.ensures r.shape) z.below
 
 pub returns : goal.returns
 returns c = rw (
-  c.in-To.is,
+  c.in-Some.is,
   c.touch.ensures,
   c.resize.ensures,
 )
