@@ -39,16 +39,14 @@ fn steps(
     ensures { Steps store.now p o.0 result }
 {
     let mut at = o.0;
-    let mut k = 0;
-    while k <= p {
+    for k in 0..p + 1 {
         let depth = index(depths[at]);
         if depth != 0 {
             return k + depth - 1;
         }
         at = parent_of(parents, ObjectNumber(at)).0;
-        k += 1;
     }
-    k
+    p + 1
 }
 
 // Writes down the steps of object o, and of each object above it up to one whose steps are known. The store is there for the contract alone.
@@ -69,6 +67,7 @@ fn note_steps(
 {
     let mut at = o.0;
     let mut d = count;
+    // A walk up from object to object, which ends where the map says: no range is gone through.
     while depths[at] == 0 {
         depths[at] = (d + 1) as u8;
         at = parent_of(parents, ObjectNumber(at)).0;

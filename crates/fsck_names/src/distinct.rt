@@ -69,6 +69,7 @@ pub fn is_new(
 {
     let mut found = false;
     let mut k = index(head[h]);
+    // A walk along the chain, each link read from the one before: no range is gone through.
     while k != 0 {
         found = found | same_name(store, p, NameNumber(k - 1), n);
         k = index(next[k - 1]);

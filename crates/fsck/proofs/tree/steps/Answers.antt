@@ -1,6 +1,7 @@
 use Rattle.fsck.proofs.Steps.{climb_start, climb_more, climb_found, climb_lost}
 use native.Mathlib.Omega.{arith}
-use mathlib.Core.Path.{sym, ◌∙◌}
+use mathlib.Core.Path.{◌≡◌, sym, ◌∙◌}
+use Prim.Native.Nat.{◌+◌}
 use Rattle.fsck.proofs.tree.steps.Goals as goal
 
 pub loop-k-init : goal.loop-k-init
@@ -19,4 +20,5 @@ loop-k-preserved c = let a = c.args in
 
 pub returns : goal.returns
 returns c = let a = c.args in
-    climb_lost a.store.now a.p a.parents.now c.requires.parents a.o.0 c.loop-k.at c.loop-k.k c.loop-k.invariant (omega arith)
+    let e : c.loop-k.k ≡ a.p + 1 = omega arith in
+    climb_lost a.store.now a.p a.parents.now c.requires.parents a.o.0 c.loop-k.at (a.p + 1) (rw e at c.loop-k.invariant) (omega arith)
