@@ -10,7 +10,6 @@ ghost use Rattle.fsck.specs.Tree.{Parents, Known, Steps, Depth, Leads, TreePasse
 
 use kinds::numbers::{Limit, ObjectNumber};
 use store_records::object::is_live;
-use wire::hash::index;
 
 // The parent of an object by the map.
 fn parent_of(parents: &[u8; Limit::MOST_OBJECTS], o: ObjectNumber) -> ObjectNumber
@@ -18,7 +17,7 @@ fn parent_of(parents: &[u8; Limit::MOST_OBJECTS], o: ObjectNumber) -> ObjectNumb
     ensures { result.0 ≡ get_or parents.now o.0 0 - 1 }
 {
     let i = o.0;
-    let mark = index(parents[i]);
+    let mark = usize::from(parents[i]);
     if mark == 0 {
         return ObjectNumber(0);
     }
@@ -39,16 +38,14 @@ fn steps(
     ensures { Steps store.now p o.0 result }
 {
     let mut at = o.0;
-    let mut k = 0;
-    while k <= p {
-        let depth = index(depths[at]);
+    for k in 0..p + 1 {
+        let depth = usize::from(depths[at]);
         if depth != 0 {
             return k + depth - 1;
         }
         at = parent_of(parents, ObjectNumber(at)).0;
-        k += 1;
     }
-    k
+    p + 1
 }
 
 // Writes down the steps of object o, and of each object above it up to one whose steps are known. The store is there for the contract alone.
@@ -69,6 +66,7 @@ fn note_steps(
 {
     let mut at = o.0;
     let mut d = count;
+    // A walk up from object to object, which ends where the map says: no range is gone through.
     while depths[at] == 0 {
         depths[at] = (d + 1) as u8;
         at = parent_of(parents, ObjectNumber(at)).0;
@@ -122,9 +120,9 @@ fn leads(
     ensures { Told result store.now (Leads store.now p o.0 depths.new) }
 {
     let i = o.0;
-    let mark = index(parents[i]);
+    let mark = usize::from(parents[i]);
     if mark != 0 {
-        let depth = index(depths[mark - 1]);
+        let depth = usize::from(depths[mark - 1]);
         if depth != 0 && depth <= p {
             depths[i] = (depth + 1) as u8;
             return true;

@@ -1,5 +1,6 @@
 // That the root is never named, a file by at most 16 records, and any other object by at most one. `parents` has for each object the number of the
 // directory of its first record and 1, or 0 where nothing names it; `links` has the number of its records.
+// They are two arrays, as the callers of the check lend them: a struct here would hold two references, and each contract would name both maps as before.
 ghost use Rattle.std.specs.Prelude.{◌≡◌, ◌+◌, ◌<◌};
 ghost use Rattle.spec.specs.Image.{objects, names, object_at};
 ghost use Rattle.spec.specs.Check.{most_names};
@@ -10,7 +11,6 @@ ghost use Rattle.fsck_names.specs.Named.{NamedBy, LinkedBy, CountsFurther};
 use crate::record::{child_of, directory_of};
 use kinds::numbers::{Limit, NameNumber, ObjectNumber};
 use store_records::object::is_regular;
-use wire::hash::index;
 
 // How many names object o may have.
 fn most_names(store: &[u8], o: ObjectNumber) -> usize
@@ -31,7 +31,7 @@ fn count_further(store: &[u8], o: ObjectNumber, links: &mut [u8; Limit::MOST_OBJ
     ensures { CountsFurther store.now o.0 result links.old links.new }
 {
     let i = o.0;
-    let count = index(links[i]);
+    let count = usize::from(links[i]);
     if count >= most_names(store, o) {
         return false;
     }

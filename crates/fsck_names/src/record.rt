@@ -1,4 +1,5 @@
-// One name record by itself.
+// One name record by itself. `p`, the number of objects, is read once and handed on beside the store: a struct of the two would need the tie between
+// them, `p_value`, all the same.
 ghost use Rattle.std.specs.Prelude.{◌≡◌, ◌+◌, ◌≤◌, ◌<◌, length};
 ghost use Rattle.kinds.specs.Layout.{length_offset, name_record_length};
 ghost use Rattle.spec.specs.Image.{objects, names, name_at, name_length};

@@ -14,7 +14,7 @@ pub bounds-depths-mark : goal.bounds-depths-mark
 bounds-depths-mark c = let a = c.args in
     let s = a.store.now in
     let m = parents_by s a.p a.parents.now c.requires.framed c.requires.p_value c.requires.named_by in
-    omega (arith, m.range a.o.0, m.most, c.index-mark.ensures.0, positive _ c.if-mark-ne0.true)
+    omega (arith, m.range a.o.0, m.most, c.from-mark.ensures, positive _ c.if-mark-ne0.true)
 
 pub overflow_cast-depths : goal.overflow_cast-depths
 overflow_cast-depths c = let a = c.args in
@@ -27,17 +27,17 @@ returns-then-depth-p c = let a = c.args in
     let s = a.store.now in
     let m = parents_by s a.p a.parents.now c.requires.framed c.requires.p_value c.requires.named_by in
     let h = below_p a.o.0 a.p _ c.requires.p_value c.requires.o_lt_p in
-    let z = marked_other s a.p a.parents.now m a.o.0 c.index-mark.result c.index-mark.ensures.0
+    let z = marked_other s a.p a.parents.now m a.o.0 c.from-mark.result c.from-mark.ensures
     c.if-mark-ne0.true in
     let d = depth_next s a.p a.parents.now m a.depths.now c.requires.known a.o.0
-    c.index-mark.result c.index-depth.result c.requires.o_lt_p c.index-mark.ensures.0
-    c.if-mark-ne0.true c.index-depth.ensures.0 c.if-depth-ne0.true in
-    let e = depth_most s a.p a.parents.now m a.o.0 c.index-depth.result d
+    c.from-mark.result c.from-depth.result c.requires.o_lt_p c.from-mark.ensures
+    c.if-mark-ne0.true c.from-depth.ensures c.if-depth-ne0.true in
+    let e = depth_most s a.p a.parents.now m a.o.0 c.from-depth.result d
     c.if-depth-p.true in
     told_true (record {
-      known = known_set s a.p a.parents.now m a.depths.now c.requires.known a.o.0 c.index-depth.result
+      known = known_set s a.p a.parents.now m a.depths.now c.requires.known a.o.0 c.from-depth.result
           c.requires.o_lt_p z d;
-      named = named_live s c.requires.framed a.parents.now c.requires.named_by a.o.0 h z (λ q. c.if-mark-ne0.true (c.index-mark.ensures.0 ∙ q));
+      named = named_live s c.requires.framed a.parents.now c.requires.named_by a.o.0 h z (λ q. c.if-mark-ne0.true (c.from-mark.ensures ∙ q));
       leads = leads_yes s a.o.0 (ap (λ (n : ℕ). above s n a.o.0) (sym c.requires.p_value) ∙ e);
     })
 

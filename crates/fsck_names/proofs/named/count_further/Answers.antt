@@ -14,7 +14,7 @@ returns-then-count-most_names c = let a = c.args in
         arith,
         c.if-count-most_names.true,
         c.most_names.ensures,
-        c.index-count.ensures.0,
+        c.from-count.ensures,
       )));
       map = refl;
     }
@@ -30,7 +30,7 @@ returns c = let a = c.args in
         arith,
         c.if-count-most_names.false,
         c.most_names.ensures,
-        c.index-count.ensures.0,
+        c.from-count.ensures,
       )));
-      map = rw c.index-count.ensures.0;
+      map = rw c.from-count.ensures;
     }
