@@ -42,6 +42,7 @@ pub fn check_name(call: &[u8], name: Part) -> Result<(), Status>
     Ok(())
 }
 
+// The three below are those of wire::names, of a Part: callers there that have no Part, as fsck_names, give a place and a length.
 // Whether the name is ".".
 pub fn is_dot(call: &[u8], name: Part) -> bool
     requires { name.start + name.length ≤ length call.now }

@@ -52,12 +52,12 @@ pub fn find_naming(store: &[u8], o: ObjectNumber) -> Option<NameNumber>
     requires { Shaped store.now }
     ensures { found_name result ≡ lowest (names store.now) (is_naming store.now o.0) }
 {
-    let mut at = names_start(store);
+    let start = names_start(store);
     for i in 0..name_count(store) {
+        let at = start + NameRecord::BYTES * i;
         if is_naming(store, NameNumber(i), at, o) {
             return Some(NameNumber(i));
         }
-        at += NameRecord::BYTES;
     }
     None
 }
@@ -67,11 +67,11 @@ pub fn naming_count(store: &[u8], o: ObjectNumber) -> usize
     requires { Shaped store.now }
     ensures { result ≡ namings store.now o.0 }
 {
-    let mut at = names_start(store);
+    let start = names_start(store);
     let mut found = 0;
     for i in 0..name_count(store) {
+        let at = start + NameRecord::BYTES * i;
         found += usize::from(is_naming(store, NameNumber(i), at, o));
-        at += NameRecord::BYTES;
     }
     found
 }
@@ -136,17 +136,17 @@ fn is_subdirectory(store: &[u8], n: NameNumber, at: usize, directory: ObjectNumb
     wire::get_u32(store, at) as usize == directory.0
 }
 
-// The directories in a directory.
+// The directories in a directory. The loop is that of `naming_count`: one for both would take the test as a closure, and contracts on it.
 pub fn subdirectory_count(store: &[u8], directory: ObjectNumber) -> usize
     requires shaped { Shaped store.now }
     requires sound_names { SoundNames store.now }
     ensures { result ≡ subdirectories store.now directory.0 }
 {
-    let mut at = names_start(store);
+    let start = names_start(store);
     let mut found = 0;
     for i in 0..name_count(store) {
+        let at = start + NameRecord::BYTES * i;
         found += usize::from(is_subdirectory(store, NameNumber(i), at, directory));
-        at += NameRecord::BYTES;
     }
     found
 }

@@ -70,9 +70,10 @@ pub fn search_name(store: &[u8], directory: ObjectNumber, call: &[u8], name: Par
             compared: 0,
         };
     }
-    let mut at = names_start(store);
+    let start = names_start(store);
     let mut compared = 0;
     for i in 0..name_count(store) {
+        let at = start + NameRecord::BYTES * i;
         let record = compare_name(store, NameNumber(i), at, directory, call, name);
         compared += record.pairs;
         if record.same {
@@ -81,7 +82,6 @@ pub fn search_name(store: &[u8], directory: ObjectNumber, call: &[u8], name: Par
                 compared,
             };
         }
-        at += NameRecord::BYTES;
     }
     Search {
         found: None,

@@ -1,5 +1,4 @@
 use native.Mathlib.Omega.{arith}
-use Rattle.spec.specs.Handles.{used_bytes}
 use Rattle.store_records.proofs.Good.{size_few}
 use Rattle.store_attributes.proofs.used_bytes.Goals as goal
 
@@ -8,7 +7,3 @@ need-requires c = omega (arith, size_few c.args.store.now c.requires.good_record
 
 pub overflow_cast-result : goal.overflow_cast-result
 overflow_cast-result c = omega (arith, size_few c.args.store.now c.requires.good_records c.args.o.0 c.requires.o_bound)
-
-pub returns : goal.returns
-unfolding used_bytes
-returns c = rw (← c.size_of.ensures, ← c.need.ensures)

@@ -9,15 +9,14 @@ use Rattle.store_search.proofs.name.naming_count.Goals as goal
 
 pub loop-i-init : goal.loop-i-init
 unfolding sum
-loop-i-init c = (c.names_start-at.ensures, zero-le, refl)
+loop-i-init c = (zero-le, refl)
 
 pub loop-i-preserved : goal.loop-i-preserved
 loop-i-preserved c = let s = c.args.store.now in
     let o = c.args.o.0 in
-    let k = counted (is_naming s o) c.loop-i.i c.loop-i.found _ _ c.loop-i.invariant.2 c.loop-i.invariant.1 c.from-found.ensures c.is_naming.ensures in
-    (omega arith, k.0, k.1)
+    counted (is_naming s o) c.loop-i.i c.loop-i.found _ _ c.loop-i.invariant.1 c.loop-i.invariant.0 c.from-found.ensures c.is_naming.ensures
 
 pub returns : goal.returns
 unfolding namings
 returns c = let e : c.loop-i.i ≡ names c.args.store.now = omega arith in
-    rw e at c.loop-i.invariant.2
+    rw e at c.loop-i.invariant.1

@@ -20,7 +20,7 @@ returns-then-name-eq0 c = let a = c.args in
 
 pub loop-i-init : goal.loop-i-init
 unfolding sum lowest passing
-loop-i-init c = (c.names_start-at.ensures, zero-le, refl, refl)
+loop-i-init c = (zero-le, refl, refl)
 
 pub overflow_add-compared : goal.overflow_add-compared
 overflow_add-compared c = let a = c.args in
@@ -36,9 +36,9 @@ returns-then-record c = let a = c.args in
     let s = a.store.now in
     let d = a.directory.0 in
     let text = text_of a.call.now a.name in
-    let found = lowest_hit (is_named s d text) c.loop-i.i (names s) c.loop-i.invariant.2 (sym c.compare_name-record.ensures.same_value ∙ c.if-record.true) (omega arith) in
+    let found = lowest_hit (is_named s d text) c.loop-i.i (names s) c.loop-i.invariant.1 (sym c.compare_name-record.ensures.same_value ∙ c.if-record.true) (omega arith) in
     let next = sum_more c.loop-i.i (compared_at s d text) in
-    record { found_value = sym found; compared_value = rw found (omega (arith, c.compare_name-record.ensures.pairs_value, c.loop-i.invariant.3, next)) }
+    record { found_value = sym found; compared_value = rw found (omega (arith, c.compare_name-record.ensures.pairs_value, c.loop-i.invariant.2, next)) }
 
 pub loop-i-preserved : goal.loop-i-preserved
 loop-i-preserved c = let a = c.args in
@@ -49,13 +49,12 @@ loop-i-preserved c = let a = c.args in
     let few = compared_bound s d text c.loop-i.i in
     let next = sum_more c.loop-i.i (compared_at s d text) in (
       omega arith,
-      omega arith,
-      lowest_more _ c.loop-i.i c.loop-i.invariant.2 (sym c.compare_name-record.ensures.same_value ∙ c.if-record.false),
+      lowest_more _ c.loop-i.i c.loop-i.invariant.1 (sym c.compare_name-record.ensures.same_value ∙ c.if-record.false),
       omega arith,
     )
 
 pub returns : goal.returns
 unfolding find_name compared
 returns c = let e : c.loop-i.i ≡ names c.args.store.now = omega arith in
-    let None-found = rw e at c.loop-i.invariant.2 in
-    record { found_value = sym None-found; compared_value = rw None-found (rw e at c.loop-i.invariant.3) }
+    let None-found = rw e at c.loop-i.invariant.1 in
+    record { found_value = sym None-found; compared_value = rw None-found (rw e at c.loop-i.invariant.2) }
