@@ -37,7 +37,7 @@ fn check_entry(
     find_name(store, d, call, name).ok_or(Status::NOENT)
 }
 
-// REMOVE: "." or "..", ACCES; a directory, ACCES. RMDIR has its first two calls too, and no more: a function for both is no plainer.
+// REMOVE: "." or "..", ACCES; a directory, ACCES. RMDIR begins with the same two calls, and tests otherwise: a function for both is no plainer.
 #[tactic(auto, unfolding(spec::specs::Procedures::Removal::check_remove))]
 pub fn check_remove(
     store: &[u8],
