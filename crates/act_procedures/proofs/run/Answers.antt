@@ -1,6 +1,5 @@
 use mathlib.Core.Path.{refl, subst}
 use lib.ListN.{length}
-use borrow.Author.Rules.{rules}
 use Rattle.spec.specs.Procedures.{act}
 use Rattle.laws.proofs.Arguments.{Within}
 use Rattle.laws.proofs.ArgumentRange.{FitsArguments}
