@@ -1,4 +1,4 @@
--- Rows with one host and one path: how they are found, and that they have one digest. Assumes nothing.
+-- Rows with one host and one path: that each has the pair of the other, and one digest. Assumes nothing.
 use Rattle.std.proofs.Common.{◌≡◌, ℕ, zero, suc, ◌+◌, ◌-◌, ◌*◌, ◌%◌, ◌^◌, ◌<◌, ◌≤◌, true, List, ◌++◌, length, sym, refl, ap, ◌∙◌, ap₂, arith}
 use Rattle.kinds.specs.Mount.{rows, most_path_bytes, path_offset, table_length}
 use Rattle.spec.specs.Bytes.{part, zeros}

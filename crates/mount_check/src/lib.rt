@@ -49,16 +49,16 @@ fn sum_words(table: &[u8], at: usize, k: usize) -> usize
     requires { at + 32 * k ≤ length table.now }
     ensures { result ≡ summed table.now at k }
 {
-    let mut a = 0;
-    let mut b = 0;
-    let mut c = 0;
-    let mut d = 0;
+    let mut a = 0usize;
+    let mut b = 0usize;
+    let mut c = 0usize;
+    let mut d = 0usize;
     for i in 0..k {
         let from = at + 32 * i;
-        a = std::num::wrapping_add_usize(a, word_at(table, from));
-        b = std::num::wrapping_add_usize(b, word_at(table, from + 8));
-        c = std::num::wrapping_add_usize(c, word_at(table, from + 16));
-        d = std::num::wrapping_add_usize(d, word_at(table, from + 24));
+        a = a.wrapping_add(word_at(table, from));
+        b = b.wrapping_add(word_at(table, from + 8));
+        c = c.wrapping_add(word_at(table, from + 16));
+        d = d.wrapping_add(word_at(table, from + 24));
     }
     join(join(join(a, b), c), d)
 }

@@ -42,7 +42,7 @@ pub fn add_pair(table: &mut [u8], host: u32, call: &[u8], path: Part) -> Result<
     requires length_le_most_path_bytes { path.length ≤ most_path_bytes }
     ensures { Adds (add_pair table.old host (cut call.now path)) result table.old table.new }
 {
-    if let Some(_) = find_pair(table, host, call, path) {
+    if find_pair(table, host, call, path).is_some() {
         return Ok(());
     }
     let Some(r) = available_row(table) else {

@@ -26,16 +26,15 @@ fn put_zeros(reply: &mut [u8], at: usize, n: usize) -> usize
 }
 
 // The digit of a number below 10.
-fn digit(n: u32) -> u8
+fn digit(n: u8) -> u8
     requires { n < 10 }
     ensures { result ≡ 0x30 + n }
 {
-    b'0' + n as u8
+    b'0' + n
 }
 
-// How many digits a number below 256 has.
-fn decimal_length(n: u32) -> usize
-    requires { n < 256 }
+// How many digits a byte has in decimal.
+fn decimal_length(n: u8) -> usize
     ensures { (result ≡ length (decimal n)) × (result ≤ 3) }
 {
     if n < 10 {
@@ -47,10 +46,9 @@ fn decimal_length(n: u32) -> usize
     3
 }
 
-// A number below 256 in decimal.
-fn put_decimal(reply: &mut [u8], at: usize, n: u32) -> usize
-    requires n_bound { n < 256 }
-    requires n_in_bounds { at + length (decimal n) ≤ length reply.old }
+// A byte in decimal.
+fn put_decimal(reply: &mut [u8], at: usize, n: u8) -> usize
+    requires { at + length (decimal n) ≤ length reply.old }
     ensures { Wrote (length (decimal n)) reply.old reply.new at result (decimal n) }
 {
     if n < 10 {
@@ -65,10 +63,9 @@ fn put_decimal(reply: &mut [u8], at: usize, n: u32) -> usize
     put_byte(reply, last, digit(n % 10))
 }
 
-// A full stop, and a number below 256 in decimal.
-fn put_next(reply: &mut [u8], at: usize, n: u32) -> usize
-    requires n_bound { n < 256 }
-    requires n_in_bounds { at + (1 + length (decimal n)) ≤ length reply.old }
+// A full stop, and a byte in decimal.
+fn put_next(reply: &mut [u8], at: usize, n: u8) -> usize
+    requires { at + (1 + length (decimal n)) ≤ length reply.old }
     ensures { Wrote (1 + length (decimal n)) reply.old reply.new at result (stop ∷ decimal n) }
 {
     let next = put_byte(reply, at, b'.');
@@ -79,9 +76,8 @@ fn put_next(reply: &mut [u8], at: usize, n: u32) -> usize
 fn dotted_length(host: u32) -> usize
     ensures { (result ≡ length (dotted host)) × (result ≤ 15) }
 {
-    let front = decimal_length(host / 16777216) + decimal_length(host / 65536 % 256);
-    let back = decimal_length(host / 256 % 256) + decimal_length(host % 256);
-    front + back + 3
+    let [a, b, c, d] = host.to_be_bytes();
+    decimal_length(a) + decimal_length(b) + decimal_length(c) + decimal_length(d) + 3
 }
 
 // A host as dotted decimal.
@@ -90,10 +86,11 @@ fn put_dotted(reply: &mut [u8], at: usize, host: u32) -> usize
     requires { at + length (dotted host) ≤ length reply.old }
     ensures { Wrote (length (dotted host)) reply.old reply.new at result (dotted host) }
 {
-    let second = put_decimal(reply, at, host / 16777216);
-    let third = put_next(reply, second, host / 65536 % 256);
-    let fourth = put_next(reply, third, host / 256 % 256);
-    put_next(reply, fourth, host % 256)
+    let [a, b, c, d] = host.to_be_bytes();
+    let second = put_decimal(reply, at, a);
+    let third = put_next(reply, second, b);
+    let fourth = put_next(reply, third, c);
+    put_next(reply, fourth, d)
 }
 
 // A host as dotted decimal, as a string.
