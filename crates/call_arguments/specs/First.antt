@@ -4,7 +4,6 @@ use Rattle.spec.specs.Arguments.{Form, none, unread}
 use Rattle.call_by_handle.specs.First.{ByHandle}
 use Rattle.call_by_name.specs.First.{ByName}
 use Rattle.call_arguments.specs.declared.First.{First}
-use Rattle.call_arguments.specs.declared.First.TheVariants as First
 
 -- arguments of this form begin so
 abbrev pub Begins : Form → First → Type 0

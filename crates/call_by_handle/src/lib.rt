@@ -2,152 +2,98 @@
 #![tactic(auto)]
 
 ghost use Rattle.std.specs.Prelude.{◌≡◌};
+ghost use Rattle.kinds.specs.Reading.{read_of};
 ghost use Rattle.spec.specs.Arguments.{setattr_arguments, access_arguments, read_arguments, write_arguments, link_arguments, readdir_arguments, commit_arguments, whole, arguments};
-ghost use Rattle.call_end.specs.Reading.{arguments_of};
 ghost use Rattle.call_by_handle.specs.First.{HandleFirst};
 
 use call_end::finish;
-use call_end::reading::ArgumentsRead;
-use call_types::reading::{GuardRead, NameInRead, SettableRead};
 use call_types::types::{guard, handle, name_in, settable, unbounded};
 use kinds::call::{Arguments, Cursor, Part};
 use kinds::numbers::Procedure;
-use kinds::reading::{LongRead, PartRead, WordRead};
+use kinds::reading::Read;
 use xdr::read::{choice, long, word};
 
 // SETATTR3args after the handle.
-fn setattr(s: &[u8], c: Cursor, object: Part) -> ArgumentsRead
-    ensures { arguments_of result ≡ whole (setattr_arguments object) s.now c.at }
+fn setattr(s: &[u8], c: Cursor, object: Part) -> Read<Arguments>
+    ensures { read_of result ≡ whole (setattr_arguments object) s.now c.at }
 {
-    let answer = settable(s, c);
-    let SettableRead::Got(attributes, c1) = answer else {
-        return ArgumentsRead::Bad(answer.place());
-    };
-    let answer = guard(s, c1);
-    let GuardRead::Got(given, c2) = answer else {
-        return ArgumentsRead::Bad(answer.place());
-    };
-    finish(s, c2, Arguments::Setattr(object, attributes, given))
+    let (attributes, c) = settable(s, c)?;
+    let (given, c) = guard(s, c)?;
+    finish(s, c, Arguments::Setattr(object, attributes, given))
 }
 
 // ACCESS3args after the handle.
-fn access(s: &[u8], c: Cursor, object: Part) -> ArgumentsRead
-    ensures { arguments_of result ≡ whole (access_arguments object) s.now c.at }
+fn access(s: &[u8], c: Cursor, object: Part) -> Read<Arguments>
+    ensures { read_of result ≡ whole (access_arguments object) s.now c.at }
 {
-    let answer = word(s, c);
-    let WordRead::Got(bits, c1) = answer else {
-        return ArgumentsRead::Bad(answer.place());
-    };
-    finish(s, c1, Arguments::Access(object, bits))
+    let (bits, c) = word(s, c)?;
+    finish(s, c, Arguments::Access(object, bits))
 }
 
 // READ3args after the handle.
-fn read(s: &[u8], c: Cursor, file: Part) -> ArgumentsRead
-    ensures { arguments_of result ≡ whole (read_arguments file) s.now c.at }
+fn read(s: &[u8], c: Cursor, file: Part) -> Read<Arguments>
+    ensures { read_of result ≡ whole (read_arguments file) s.now c.at }
 {
-    let answer = long(s, c);
-    let LongRead::Got(offset, c1) = answer else {
-        return ArgumentsRead::Bad(answer.place());
-    };
-    let answer = word(s, c1);
-    let WordRead::Got(count, c2) = answer else {
-        return ArgumentsRead::Bad(answer.place());
-    };
-    finish(s, c2, Arguments::Read(file, offset, count))
+    let (offset, c) = long(s, c)?;
+    let (count, c) = word(s, c)?;
+    finish(s, c, Arguments::Read(file, offset, count))
 }
 
 // WRITE3args after the handle.
-fn write(s: &[u8], c: Cursor, file: Part) -> ArgumentsRead
-    ensures { arguments_of result ≡ whole (write_arguments file) s.now c.at }
+fn write(s: &[u8], c: Cursor, file: Part) -> Read<Arguments>
+    ensures { read_of result ≡ whole (write_arguments file) s.now c.at }
 {
-    let answer = long(s, c);
-    let LongRead::Got(offset, c1) = answer else {
-        return ArgumentsRead::Bad(answer.place());
-    };
-    let answer = word(s, c1);
-    let WordRead::Got(count, c2) = answer else {
-        return ArgumentsRead::Bad(answer.place());
-    };
-    let answer = choice(s, c2, 2);
-    let WordRead::Got(_, c3) = answer else {
-        return ArgumentsRead::Bad(answer.place());
-    };
-    let answer = unbounded(s, c3);
-    let PartRead::Got(bytes, c4) = answer else {
-        return ArgumentsRead::Bad(answer.place());
-    };
-    finish(s, c4, Arguments::Write(file, offset, count, bytes))
+    let (offset, c) = long(s, c)?;
+    let (count, c) = word(s, c)?;
+    let (_, c) = choice(s, c, 2)?;
+    let (bytes, c) = unbounded(s, c)?;
+    finish(s, c, Arguments::Write(file, offset, count, bytes))
 }
 
 // LINK3args after the handle.
-fn link(s: &[u8], c: Cursor, file: Part) -> ArgumentsRead
-    ensures { arguments_of result ≡ whole (link_arguments file) s.now c.at }
+fn link(s: &[u8], c: Cursor, file: Part) -> Read<Arguments>
+    ensures { read_of result ≡ whole (link_arguments file) s.now c.at }
 {
-    let answer = name_in(s, c);
-    let NameInRead::Got(place, c1) = answer else {
-        return ArgumentsRead::Bad(answer.place());
-    };
-    finish(s, c1, Arguments::Link(file, place))
+    let (place, c) = name_in(s, c)?;
+    finish(s, c, Arguments::Link(file, place))
 }
 
 // READDIR3args after the handle.
-fn readdir(s: &[u8], c: Cursor, directory: Part) -> ArgumentsRead
-    ensures { arguments_of result ≡ whole (readdir_arguments directory) s.now c.at }
+fn readdir(s: &[u8], c: Cursor, directory: Part) -> Read<Arguments>
+    ensures { read_of result ≡ whole (readdir_arguments directory) s.now c.at }
 {
-    let answer = long(s, c);
-    let LongRead::Got(cookie, c1) = answer else {
-        return ArgumentsRead::Bad(answer.place());
-    };
-    let answer = long(s, c1);
-    let LongRead::Got(verifier, c2) = answer else {
-        return ArgumentsRead::Bad(answer.place());
-    };
-    let answer = word(s, c2);
-    let WordRead::Got(count, c3) = answer else {
-        return ArgumentsRead::Bad(answer.place());
-    };
-    finish(
-        s,
-        c3,
-        Arguments::Readdir(directory, cookie, verifier, count),
-    )
+    let (cookie, c) = long(s, c)?;
+    let (verifier, c) = long(s, c)?;
+    let (count, c) = word(s, c)?;
+    finish(s, c, Arguments::Readdir(directory, cookie, verifier, count))
 }
 
 // COMMIT3args after the handle.
-fn commit(s: &[u8], c: Cursor, file: Part) -> ArgumentsRead
-    ensures { arguments_of result ≡ whole (commit_arguments file) s.now c.at }
+fn commit(s: &[u8], c: Cursor, file: Part) -> Read<Arguments>
+    ensures { read_of result ≡ whole (commit_arguments file) s.now c.at }
 {
-    let answer = long(s, c);
-    let LongRead::Got(_, c1) = answer else {
-        return ArgumentsRead::Bad(answer.place());
-    };
-    let answer = word(s, c1);
-    let WordRead::Got(_, c2) = answer else {
-        return ArgumentsRead::Bad(answer.place());
-    };
-    finish(s, c2, Arguments::Commit(file))
+    let (_, c) = long(s, c)?;
+    let (_, c) = word(s, c)?;
+    finish(s, c, Arguments::Commit(file))
 }
 
 // The arguments of GETATTR, SETATTR, ACCESS, READ, WRITE, LINK, READDIR, FSSTAT, FSINFO, PATHCONF or COMMIT, which end the call.
-pub fn of_handle(s: &[u8], c: Cursor, procedure: u32) -> ArgumentsRead
+pub fn of_handle(s: &[u8], c: Cursor, procedure: u32) -> Read<Arguments>
     requires { HandleFirst procedure }
-    ensures { arguments_of result ≡ arguments procedure s.now c.at }
+    ensures { read_of result ≡ arguments procedure s.now c.at }
 {
-    let answer = handle(s, c);
-    let PartRead::Got(object, c1) = answer else {
-        return ArgumentsRead::Bad(answer.place());
-    };
+    let (object, c) = handle(s, c)?;
     match procedure {
-        Procedure::GETATTR => finish(s, c1, Arguments::Getattr(object)),
-        Procedure::SETATTR => setattr(s, c1, object),
-        Procedure::ACCESS => access(s, c1, object),
-        Procedure::READ => read(s, c1, object),
-        Procedure::WRITE => write(s, c1, object),
-        Procedure::LINK => link(s, c1, object),
-        Procedure::READDIR => readdir(s, c1, object),
-        Procedure::FSSTAT => finish(s, c1, Arguments::Fsstat(object)),
-        Procedure::FSINFO => finish(s, c1, Arguments::Fsinfo(object)),
-        Procedure::PATHCONF => finish(s, c1, Arguments::Pathconf(object)),
-        _ => commit(s, c1, object),
+        Procedure::GETATTR => finish(s, c, Arguments::Getattr(object)),
+        Procedure::SETATTR => setattr(s, c, object),
+        Procedure::ACCESS => access(s, c, object),
+        Procedure::READ => read(s, c, object),
+        Procedure::WRITE => write(s, c, object),
+        Procedure::LINK => link(s, c, object),
+        Procedure::READDIR => readdir(s, c, object),
+        Procedure::FSSTAT => finish(s, c, Arguments::Fsstat(object)),
+        Procedure::FSINFO => finish(s, c, Arguments::Fsinfo(object)),
+        Procedure::PATHCONF => finish(s, c, Arguments::Pathconf(object)),
+        _ => commit(s, c, object),
     }
 }

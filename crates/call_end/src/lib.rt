@@ -1,25 +1,18 @@
-// What reading arguments answers, and the end of the call after them.
+// The end of a call, after its arguments.
 #![tactic(auto)]
 
 ghost use Rattle.std.specs.Prelude.{◌≡◌};
-ghost use Rattle.spec.specs.Arguments.{whole};
-ghost use Rattle.spec.specs.Xdr.{done};
-ghost use Rattle.call_end.specs.Reading.{arguments_of};
+ghost use Rattle.kinds.specs.Reading.{read_of};
+ghost use Rattle.call_end.specs.Ends.{ends};
 
-pub mod reading; // what reading arguments answers
-
-use crate::reading::ArgumentsRead;
-use kinds::call::{Arguments, Cursor};
-use kinds::reading::SkipRead;
+use kinds::call::Cursor;
+use kinds::reading::Read;
 use xdr::read::end;
 
 // What was read of the arguments, where the call ends after it.
-pub fn finish(s: &[u8], c: Cursor, read: Arguments) -> ArgumentsRead
-    ensures { arguments_of result ≡ whole (done read) s.now c.at }
+pub fn finish<A: Copy>(s: &[u8], c: Cursor, read: A) -> Read<A>
+    ensures { read_of result ≡ ends read s.now c.at }
 {
-    let ending = end(s, c);
-    let SkipRead::Got(last) = ending else {
-        return ArgumentsRead::Bad(ending.place());
-    };
-    ArgumentsRead::Got(read, last)
+    let (_, c) = end(s, c)?;
+    Ok((read, c))
 }

@@ -1,159 +1,113 @@
 // The XDR types that arguments are made of, each read at a cursor.
 ghost use Rattle.std.specs.Prelude.{◌≡◌};
-ghost use Rattle.kinds.specs.Reading.{part_of};
+ghost use Rattle.kinds.specs.Reading.{read_of};
 ghost use Rattle.spec.specs.Arguments.{handle, unbounded, name_in, time, set_number, set_size, set_time, settable, guard, how};
-ghost use Rattle.call_types.specs.Reading.{name_in_of, time_of, set_number_of, set_size_of, set_time_of, settable_of, guard_of, how_of};
 
-use crate::reading::{
-    GuardRead, HowRead, NameInRead, SetNumberRead, SetSizeRead, SetTimeRead, SettableRead, TimeRead,
-};
-use kinds::call::{Cursor, Guard, How, NameIn, SetNumber, SetSize, SetTime, Settable};
+use kinds::call::{Cursor, Guard, How, NameIn, Part, SetNumber, SetSize, SetTime, Settable};
 use kinds::numbers::Limit;
 use kinds::object::Time;
-use kinds::reading::{FlagRead, LongRead, PartRead, WordRead};
+use kinds::reading::Read;
 use xdr::read::{choice, flag, long, opaque, word};
 
 // The maximum of opaque data that has none.
 const NO_MAXIMUM: usize = 4294967295;
 
 // nfs_fh3.
-pub fn handle(s: &[u8], c: Cursor) -> PartRead
-    ensures { part_of result ≡ handle s.now c.at }
+#[tactic(auto, unfolding(spec::specs::Arguments::handle))]
+pub fn handle(s: &[u8], c: Cursor) -> Read<Part>
+    ensures { read_of result ≡ handle s.now c.at }
 {
     opaque(s, c, Limit::MOST_HANDLE_BYTES)
 }
 
 // filename3, and the data of WRITE.
-pub fn unbounded(s: &[u8], c: Cursor) -> PartRead
-    ensures { part_of result ≡ unbounded s.now c.at }
+#[tactic(auto, unfolding(spec::specs::Arguments::unbounded))]
+pub fn unbounded(s: &[u8], c: Cursor) -> Read<Part>
+    ensures { read_of result ≡ unbounded s.now c.at }
 {
     opaque(s, c, NO_MAXIMUM)
 }
 
 // diropargs3.
-pub fn name_in(s: &[u8], c: Cursor) -> NameInRead
-    ensures { name_in_of result ≡ name_in s.now c.at }
+#[tactic(auto, unfolding(spec::specs::Arguments::name_in))]
+pub fn name_in(s: &[u8], c: Cursor) -> Read<NameIn>
+    ensures { read_of result ≡ name_in s.now c.at }
 {
-    let answer = handle(s, c);
-    let PartRead::Got(directory, c1) = answer else {
-        return NameInRead::Bad(answer.place());
-    };
-    let answer = unbounded(s, c1);
-    let PartRead::Got(name, c2) = answer else {
-        return NameInRead::Bad(answer.place());
-    };
-    NameInRead::Got(NameIn { directory, name }, c2)
+    let (directory, c) = handle(s, c)?;
+    let (name, c) = unbounded(s, c)?;
+    Ok((NameIn { directory, name }, c))
 }
 
 // nfstime3.
-pub fn time(s: &[u8], c: Cursor) -> TimeRead
-    ensures { time_of result ≡ time s.now c.at }
+#[tactic(auto, unfolding(spec::specs::Arguments::time))]
+pub fn time(s: &[u8], c: Cursor) -> Read<Time>
+    ensures { read_of result ≡ time s.now c.at }
 {
-    let answer = word(s, c);
-    let WordRead::Got(seconds, c1) = answer else {
-        return TimeRead::Bad(answer.place());
-    };
-    let answer = word(s, c1);
-    let WordRead::Got(nanoseconds, c2) = answer else {
-        return TimeRead::Bad(answer.place());
-    };
-    TimeRead::Got(
+    let (seconds, c) = word(s, c)?;
+    let (nanoseconds, c) = word(s, c)?;
+    Ok((
         Time {
             seconds,
             nanoseconds,
         },
-        c2,
-    )
+        c,
+    ))
 }
 
 // set_mode3, set_uid3, set_gid3.
-pub fn set_number(s: &[u8], c: Cursor) -> SetNumberRead
-    ensures { set_number_of result ≡ set_number s.now c.at }
+#[tactic(auto, unfolding(spec::specs::Arguments::set_number))]
+pub fn set_number(s: &[u8], c: Cursor) -> Read<SetNumber>
+    ensures { read_of result ≡ set_number s.now c.at }
 {
-    let answer = flag(s, c);
-    let FlagRead::Got(given, c1) = answer else {
-        return SetNumberRead::Bad(answer.place());
-    };
-    if given {
-        let answer = word(s, c1);
-        let WordRead::Got(n, c2) = answer else {
-            return SetNumberRead::Bad(answer.place());
-        };
-        SetNumberRead::Got(SetNumber::To(n), c2)
-    } else {
-        SetNumberRead::Got(SetNumber::Keep, c1)
+    let (given, c) = flag(s, c)?;
+    if !given {
+        return Ok((SetNumber::Keep, c));
     }
+    let (n, c) = word(s, c)?;
+    Ok((SetNumber::To(n), c))
 }
 
 // set_size3.
-pub fn set_size(s: &[u8], c: Cursor) -> SetSizeRead
-    ensures { set_size_of result ≡ set_size s.now c.at }
+#[tactic(auto, unfolding(spec::specs::Arguments::set_size))]
+pub fn set_size(s: &[u8], c: Cursor) -> Read<SetSize>
+    ensures { read_of result ≡ set_size s.now c.at }
 {
-    let answer = flag(s, c);
-    let FlagRead::Got(given, c1) = answer else {
-        return SetSizeRead::Bad(answer.place());
-    };
-    if given {
-        let answer = long(s, c1);
-        let LongRead::Got(n, c2) = answer else {
-            return SetSizeRead::Bad(answer.place());
-        };
-        SetSizeRead::Got(SetSize::To(n), c2)
-    } else {
-        SetSizeRead::Got(SetSize::Keep, c1)
+    let (given, c) = flag(s, c)?;
+    if !given {
+        return Ok((SetSize::Keep, c));
     }
+    let (n, c) = long(s, c)?;
+    Ok((SetSize::To(n), c))
 }
 
 // set_atime, set_mtime.
-pub fn set_time(s: &[u8], c: Cursor) -> SetTimeRead
-    ensures { set_time_of result ≡ set_time s.now c.at }
+#[tactic(auto, unfolding(spec::specs::Arguments::set_time))]
+pub fn set_time(s: &[u8], c: Cursor) -> Read<SetTime>
+    ensures { read_of result ≡ set_time s.now c.at }
 {
-    let answer = choice(s, c, 2);
-    let WordRead::Got(manner, c1) = answer else {
-        return SetTimeRead::Bad(answer.place());
-    };
-    if manner == 0 {
-        return SetTimeRead::Got(SetTime::Keep, c1);
+    let (manner, c) = choice(s, c, 2)?;
+    match manner {
+        0 => Ok((SetTime::Keep, c)),
+        1 => Ok((SetTime::ToServer, c)),
+        _ => {
+            let (t, c) = time(s, c)?;
+            Ok((SetTime::ToClient(t), c))
+        }
     }
-    if manner == 1 {
-        return SetTimeRead::Got(SetTime::ToServer, c1);
-    }
-    let answer = time(s, c1);
-    let TimeRead::Got(t, c2) = answer else {
-        return SetTimeRead::Bad(answer.place());
-    };
-    SetTimeRead::Got(SetTime::ToClient(t), c2)
 }
 
 // sattr3.
-pub fn settable(s: &[u8], c: Cursor) -> SettableRead
-    ensures { settable_of result ≡ settable s.now c.at }
+#[tactic(auto, unfolding(spec::specs::Arguments::settable))]
+pub fn settable(s: &[u8], c: Cursor) -> Read<Settable>
+    ensures { read_of result ≡ settable s.now c.at }
 {
-    let answer = set_number(s, c);
-    let SetNumberRead::Got(mode, c1) = answer else {
-        return SettableRead::Bad(answer.place());
-    };
-    let answer = set_number(s, c1);
-    let SetNumberRead::Got(uid, c2) = answer else {
-        return SettableRead::Bad(answer.place());
-    };
-    let answer = set_number(s, c2);
-    let SetNumberRead::Got(gid, c3) = answer else {
-        return SettableRead::Bad(answer.place());
-    };
-    let answer = set_size(s, c3);
-    let SetSizeRead::Got(size, c4) = answer else {
-        return SettableRead::Bad(answer.place());
-    };
-    let answer = set_time(s, c4);
-    let SetTimeRead::Got(atime, c5) = answer else {
-        return SettableRead::Bad(answer.place());
-    };
-    let answer = set_time(s, c5);
-    let SetTimeRead::Got(mtime, c6) = answer else {
-        return SettableRead::Bad(answer.place());
-    };
-    SettableRead::Got(
+    let (mode, c) = set_number(s, c)?;
+    let (uid, c) = set_number(s, c)?;
+    let (gid, c) = set_number(s, c)?;
+    let (size, c) = set_size(s, c)?;
+    let (atime, c) = set_time(s, c)?;
+    let (mtime, c) = set_time(s, c)?;
+    Ok((
         Settable {
             mode,
             uid,
@@ -162,51 +116,37 @@ pub fn settable(s: &[u8], c: Cursor) -> SettableRead
             atime,
             mtime,
         },
-        c6,
-    )
+        c,
+    ))
 }
 
 // sattrguard3.
-pub fn guard(s: &[u8], c: Cursor) -> GuardRead
-    ensures { guard_of result ≡ guard s.now c.at }
+#[tactic(auto, unfolding(spec::specs::Arguments::guard))]
+pub fn guard(s: &[u8], c: Cursor) -> Read<Guard>
+    ensures { read_of result ≡ guard s.now c.at }
 {
-    let answer = flag(s, c);
-    let FlagRead::Got(given, c1) = answer else {
-        return GuardRead::Bad(answer.place());
-    };
-    if given {
-        let answer = time(s, c1);
-        let TimeRead::Got(t, c2) = answer else {
-            return GuardRead::Bad(answer.place());
-        };
-        GuardRead::Got(Guard::Ctime(t), c2)
-    } else {
-        GuardRead::Got(Guard::Absent, c1)
+    let (given, c) = flag(s, c)?;
+    if !given {
+        return Ok((Guard::Absent, c));
     }
+    let (t, c) = time(s, c)?;
+    Ok((Guard::Ctime(t), c))
 }
 
 // createhow3.
-pub fn how(s: &[u8], c: Cursor) -> HowRead
-    ensures { how_of result ≡ how s.now c.at }
+#[tactic(auto, unfolding(spec::specs::Arguments::how))]
+pub fn how(s: &[u8], c: Cursor) -> Read<How>
+    ensures { read_of result ≡ how s.now c.at }
 {
-    let answer = choice(s, c, 2);
-    let WordRead::Got(mode, c1) = answer else {
-        return HowRead::Bad(answer.place());
-    };
+    let (mode, c) = choice(s, c, 2)?;
     if mode == 2 {
-        let answer = long(s, c1);
-        let LongRead::Got(verifier, c2) = answer else {
-            return HowRead::Bad(answer.place());
-        };
-        return HowRead::Got(How::Exclusive(verifier), c2);
+        let (verifier, c) = long(s, c)?;
+        return Ok((How::Exclusive(verifier), c));
     }
-    let answer = settable(s, c1);
-    let SettableRead::Got(attributes, c2) = answer else {
-        return HowRead::Bad(answer.place());
-    };
+    let (attributes, c) = settable(s, c)?;
     if mode == 0 {
-        HowRead::Got(How::Unchecked(attributes), c2)
+        Ok((How::Unchecked(attributes), c))
     } else {
-        HowRead::Got(How::Guarded(attributes), c2)
+        Ok((How::Guarded(attributes), c))
     }
 }

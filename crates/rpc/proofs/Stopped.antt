@@ -4,14 +4,14 @@ use mathlib.Core.List.{List}
 use mathlib.Core.Path.{◌≡◌, sym, ap, ◌∙◌}
 use lib.Dec.{eqb, lit≤}
 use lib.ListN.{length, length-append}
+use Rattle.std.specs.Prelude.{Result, Ok, Err}
 use Rattle.kinds.specs.declared.call.CallHeader.{CallHeader}
 use Rattle.spec.specs.Checked.{refused, passed}
 use Rattle.spec.specs.Rpc.{Program, PROG_MISMATCH, accepted, judge, mismatch}
 use Rattle.laws.proofs.Count.{by_bool}
 use Rattle.laws.proofs.Words.{words_length}
 use Rattle.rpc.specs.Meaning.{judged_of}
-use Rattle.rpc.specs.declared.outcome.Judged.{Judged}
-use Rattle.rpc.specs.declared.outcome.Judged.TheVariants as Judged
+use Rattle.rpc.specs.declared.outcome.AcceptStat.{AcceptStat}
 
 -- the head of an accepted reply is 24 bytes
 pub accepted_length : (xid stat : ℕ) (body : List ℕ) → length (accepted xid stat body) ≡ 24 + length body
@@ -26,9 +26,9 @@ stopped_short p xid stat =
     (by_bool (eqb stat PROG_MISMATCH) (λ t. rw (t, words_length) (lit≤ tt)) (λ t. rw t (lit≤ tt)))
 
 -- ---- what a program that was judged tells of the program that is expected
-module _ (p expected : Program) (h : CallHeader) (j : Judged) where
-  pub judged_runs : judged_of j ≡ judge p h → p ≡ expected → j ≡ Judged.Runs → judge expected h ≡ passed tt
+module _ (p expected : Program) (h : CallHeader) (j : Result (Unit {0}) AcceptStat) where
+  pub judged_runs : judged_of j ≡ judge p h → p ≡ expected → j ≡ Ok tt → judge expected h ≡ passed tt
   judged_runs e f g = sym (ap (λ (q : Program). judge q h) f) ∙ sym e ∙ ap judged_of g
 
-  pub judged_stops : (stat : ℕ) → judged_of j ≡ judge p h → p ≡ expected → j ≡ Judged.Stopped stat → judge expected h ≡ refused stat
+  pub judged_stops : (stat : AcceptStat) → judged_of j ≡ judge p h → p ≡ expected → j ≡ Err stat → judge expected h ≡ refused stat.0
   judged_stops stat e f g = sym (ap (λ (q : Program). judge q h) f) ∙ sym e ∙ ap judged_of g

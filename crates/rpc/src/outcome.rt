@@ -31,29 +31,35 @@ impl Program {
     }
 }
 
-#[derive(Clone, Copy)]
-pub enum Judged {
-    Runs,
-    Stopped(u32),
+// An accept_stat: why the procedure of an accepted call does not run.
+#[derive(Clone, Copy, Debug, PartialEq, Eq)]
+pub struct AcceptStat(pub u32);
+
+impl AcceptStat {
+    pub const PROG_UNAVAIL: AcceptStat = AcceptStat(Message::PROG_UNAVAIL);
+
+    pub const PROG_MISMATCH: AcceptStat = AcceptStat(Message::PROG_MISMATCH);
+
+    pub const PROC_UNAVAIL: AcceptStat = AcceptStat(Message::PROC_UNAVAIL);
+
+    pub const GARBAGE_ARGS: AcceptStat = AcceptStat(Message::GARBAGE_ARGS);
 }
 
 // Whether the procedure of a call runs, or the accept_stat.
-pub fn judge(p: Program, h: CallHeader) -> Judged
+#[tactic(auto, unfolding(spec::specs::Rpc::judge))]
+pub fn judge(p: Program, h: CallHeader) -> Result<(), AcceptStat>
     ensures { judged_of result ≡ judge (program_of p) h }
 {
     if h.program != p.number {
-        return Judged::Stopped(Message::PROG_UNAVAIL);
+        return Err(AcceptStat::PROG_UNAVAIL);
     }
-    if h.version < p.lowest {
-        return Judged::Stopped(Message::PROG_MISMATCH);
-    }
-    if p.highest < h.version {
-        return Judged::Stopped(Message::PROG_MISMATCH);
+    if h.version < p.lowest || p.highest < h.version {
+        return Err(AcceptStat::PROG_MISMATCH);
     }
     if p.last < h.procedure {
-        return Judged::Stopped(Message::PROC_UNAVAIL);
+        return Err(AcceptStat::PROC_UNAVAIL);
     }
-    Judged::Runs
+    Ok(())
 }
 
 // The reply to a call of another RPC version than 2.

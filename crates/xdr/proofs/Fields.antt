@@ -12,9 +12,9 @@ use lib.Dec.{leb}
 use Rattle.kinds.specs.Reading.{Read, got, bad, place_of}
 use Rattle.kinds.specs.declared.call.Part.{Part}
 use Rattle.spec.specs.Bytes.{be_at}
-use Rattle.spec.specs.Xdr.{bind, only_if, placed, number, bytes}
+use Rattle.spec.specs.Xdr.{bind, only_if, placed, number, word, bytes}
 use Rattle.laws.proofs.Bytes.{lt_or_le}
-use Rattle.laws.proofs.Xdr.{only_if_got}
+use Rattle.laws.proofs.Xdr.{only_if_got, only_if_bad}
 
 -- a field whose value is v, by the same field whose value is x
 revalued : {A B : Type 0} (t : Bool) (p q : ℕ) (x : A) (v : B) → only_if t p (got v q) ≡ bind (only_if t p (got x q)) (λ _ next. got v next)
@@ -43,6 +43,11 @@ bytes_cut n s at q e = ⊎_elim (λ (h : length s < at + n). h) (λ (h : at + n 
   where
     apart : {x : Part} {k : ℕ} → ◌≡◌ {A = Read Part} (got x k) (bad q) → ⊥
     apart e = let z : ◌≡◌ {A = ℕ} 0 1 = cc in omega arith
+
+-- a word is refused where it starts
+pub word_start : (s : List ℕ) (at q : ℕ) → word s at ≡ bad q → q ≡ at
+unfolding word number
+word_start s at q e = sym (only_if_bad (leb (at + 4) (length s)) at (be_at s at 4) (at + 4) q e)
 
 -- n bytes and p bytes of padding behind them: where all stand in the call, the n bytes are read
 pub padded_fits : (n p : ℕ) (s : List ℕ) (at : ℕ) → at + (n + p) ≤ length s

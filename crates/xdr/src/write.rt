@@ -17,11 +17,9 @@ pub fn put_words(reply: &mut [u8], at: usize, ws: &[u32]) -> usize
     requires { at + 4 * length ws.now ≤ length reply.old }
     ensures { Wrote (4 * length ws.now) reply.old reply.new at result (words ws.now) }
 {
-    let mut i = 0;
     let mut next = at;
-    while i < ws.len() {
-        next = put_word(reply, next, ws[i]);
-        i += 1;
+    for &w in ws {
+        next = put_word(reply, next, w);
     }
     next
 }

@@ -11,14 +11,8 @@ of_name-requires c = subst (Begins _) c.in-Name.is c.first_of.ensures
 
 pub returns-in-Nothing : goal.returns-in-Nothing
 unfolding arguments
-returns-in-Nothing c = rw (c.null.ensures, subst (Begins _) c.in-Nothing.is c.first_of.ensures)
-
-pub returns-in-Handle : goal.returns-in-Handle
-returns-in-Handle c = c.of_handle.ensures
-
-pub returns-in-Name : goal.returns-in-Name
-returns-in-Name c = c.of_name.ensures
+returns-in-Nothing c = rw (c.finish.ensures, subst (Begins _) c.in-Nothing.is c.first_of.ensures)
 
 pub returns-in-Unread : goal.returns-in-Unread
 unfolding arguments
-returns-in-Unread c = rw (c.unserved.ensures, subst (Begins _) c.in-Unread.is c.first_of.ensures)
+returns-in-Unread c = rw (subst (Begins _) c.in-Unread.is c.first_of.ensures)

@@ -1,22 +1,18 @@
-use mathlib.Core.Path.{sym, ap, ◌∙◌}
-use Rattle.call_types.specs.Reading.{name_in_of}
+use Rattle.std.proofs.Common.{rules, sym}
 use Rattle.spec.specs.Arguments.{form, arguments}
 use Rattle.call_by_name.proofs.First.{refused, last}
 use Rattle.call_by_name.proofs.of_name.Goals as goal
 
-pub returns-in_default : goal.returns-in_default
+pub returns-in_err-place : goal.returns-in_err-place
 unfolding arguments
-returns-in_default c = rw (c.place.ensures, c.in_default.is)
-    (refused (form c.args.procedure) c.requires c.args.s.now c.args.c.at _
-    (sym c.name_in-answer.ensures ∙ ap name_in_of c.in_default.is))
+returns-in_err-place c = rw (← refused (form c.args.procedure) c.requires c.args.s.now c.args.c.at _ (sym c.in_err-place.ensures)) (search rules)
 
 pub returns-in-3 : goal.returns-in-3
 unfolding arguments form
 returns-in-3 c = rw (
   c.in-3.is,
   c.finish.ensures,
-  ← c.name_in-answer.ensures,
-  c.in-Got.is,
+  ← c.in_ok-place.ensures,
 )
 
 pub returns-in-8 : goal.returns-in-8
@@ -24,8 +20,7 @@ unfolding arguments form
 returns-in-8 c = rw (
   c.in-8.is,
   c.create.ensures,
-  ← c.name_in-answer.ensures,
-  c.in-Got.is,
+  ← c.in_ok-place.ensures,
 )
 
 pub returns-in-9 : goal.returns-in-9
@@ -33,8 +28,7 @@ unfolding arguments form
 returns-in-9 c = rw (
   c.in-9.is,
   c.mkdir.ensures,
-  ← c.name_in-answer.ensures,
-  c.in-Got.is,
+  ← c.in_ok-place.ensures,
 )
 
 pub returns-in-12 : goal.returns-in-12
@@ -42,8 +36,7 @@ unfolding arguments form
 returns-in-12 c = rw (
   c.in-12.is,
   c.finish-in-12.ensures,
-  ← c.name_in-answer.ensures,
-  c.in-Got.is,
+  ← c.in_ok-place.ensures,
 )
 
 pub returns-in-13 : goal.returns-in-13
@@ -51,15 +44,13 @@ unfolding arguments form
 returns-in-13 c = rw (
   c.in-13.is,
   c.finish-in-13.ensures,
-  ← c.name_in-answer.ensures,
-  c.in-Got.is,
+  ← c.in_ok-place.ensures,
 )
 
-pub returns-in_default-procedure : goal.returns-in_default-procedure
+pub returns-in_default : goal.returns-in_default
 unfolding arguments
-returns-in_default-procedure c = rw (
-  last c.args.procedure c.requires c.in_default-procedure.in_default-procedure-own.rest,
+returns-in_default c = rw (
+  last c.args.procedure c.requires c.in_default.in_default-own.rest,
   c.rename.ensures,
-  ← c.name_in-answer.ensures,
-  c.in-Got.is,
+  ← c.in_ok-place.ensures,
 )
