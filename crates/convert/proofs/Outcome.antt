@@ -5,6 +5,7 @@ use mathlib.Core.List.{List}
 use Prim.Native.Nat.{ℕ, ◌+◌, ◌-◌, ◌*◌}
 use native.Mathlib.Omega.{arith}
 use lib.ListN.{length}
+use Rattle.std.specs.Prelude.{Some, None}
 use Rattle.kinds.specs.Layout.{object_length, old_object_length}
 use Rattle.spec.specs.Bytes.{part}
 use Rattle.spec.specs.Count.{every}
@@ -17,7 +18,6 @@ use Rattle.laws.proofs.Converted.{OldShaped, new_length, keeps, old_shaped, conv
 use Rattle.fsck.specs.Found.{old_counts, shape_of}
 use Rattle.fsck.specs.Format.{Leaves}
 use Rattle.fsck.specs.declared.shape.Counts.{Counts}
-use Rattle.fsck.specs.declared.shape.Found.TheVariants.{Bad, Good}
 use Rattle.fsck.proofs.Shapes.{old_shape_is, found_no, found_yes}
 
 -- ---- the shape
@@ -30,10 +30,10 @@ pub record GoodShape (old : List ℕ) (k : Counts) : Type 0 where
   pub blocks : k.blocks ≡ old_blocks old
 
 module _ (old : List ℕ) where
-  pub shape_no : shape_of old_object_length old ≡ Bad → old_shape old ≡ false
+  pub shape_no : shape_of old_object_length old ≡ None → old_shape old ≡ false
   shape_no e = found_no (old_shape old) (old_counts old) (sym (old_shape_is old) ∙ e)
 
-  pub shape_yes : (k : Counts) → shape_of old_object_length old ≡ Good k → GoodShape old k
+  pub shape_yes : (k : Counts) → shape_of old_object_length old ≡ Some k → GoodShape old k
   shape_yes k e =
       let f = found_yes (old_shape old) (old_counts old) k (sym (old_shape_is old) ∙ e) in
       record {

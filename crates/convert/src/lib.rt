@@ -16,7 +16,7 @@ ghost use Rattle.convert.specs.Room.{most_records};
 ghost use Rattle.convert.specs.Links.{has_one_name};
 
 use fsck::check::records_pass;
-use fsck::shape::{Found, shape};
+use fsck::shape::shape;
 use kinds::layout::{Image, NameRecord, ObjectRecord};
 use kinds::numbers::{Answer, Limit};
 
@@ -92,8 +92,7 @@ fn becomes_good(old: &[u8], p: usize, q: usize, r: usize, room: &mut [u8]) -> bo
 pub fn convert_store(old: &[u8], store: &mut [u8], room: &mut [u8; MOST_RECORDS]) -> u32
     ensures { Leaves (convert old.now store.old) result store.new }
 {
-    let found = shape(old, ObjectRecord::OLD_BYTES);
-    let Found::Good(counts) = found else {
+    let Some(counts) = shape(old, ObjectRecord::OLD_BYTES) else {
         return Answer::STORE;
     };
     let p = counts.objects;

@@ -7,6 +7,7 @@ use native.Mathlib.Omega.{arith}
 use lib.Dec.{eqb}
 use lib.ListN.{length}
 use borrow.Author.Tests.{eqb-true, eq-eqb}
+use Rattle.std.specs.Prelude.{Some, None}
 use Rattle.kinds.specs.Layout.{object_count_offset, objects_head, names_head, object_length, old_object_length, name_record_length}
 use Rattle.kinds.specs.Numbers.{most_objects, most_name_records, most_blocks}
 use Rattle.spec.specs.Bytes.{be_at}
@@ -17,7 +18,6 @@ use Rattle.laws.proofs.Count.{by_bool, and_both}
 use Rattle.laws.proofs.Valid.{counts_by, counts_true}
 use Rattle.fsck.specs.Found.{counts_of, old_counts, found_if, names_with, blocks_with, length_with, good_with, shape_of}
 use Rattle.fsck.specs.declared.shape.Counts.{Counts}
-use Rattle.fsck.specs.declared.shape.Found.TheVariants.{Bad, Good}
 
 -- ---- the shape in each layout
 pub shape_is : (s : Store) → shape_of object_length s ≡ found_if (good_shape s) (counts_of s)
@@ -29,14 +29,14 @@ unfolding shape_of good_with names_with blocks_with old_shape old_names old_bloc
 old_shape_is b = refl
 
 -- ---- what an answer tells
-good_bad : {A : Type 0} (k : Counts) → Good k ≡ Bad → A
+good_bad : {A : Type 0} (k : Counts) → Some k ≡ None → A
 good_bad k e = let z : ◌≡◌ {A = ℕ} 0 1 = cc in absurd (omega arith)
 
-pub found_no : (t : Bool) (k : Counts) → found_if t k ≡ Bad → t ≡ false
+pub found_no : (t : Bool) (k : Counts) → found_if t k ≡ None → t ≡ false
 found_no true k e = good_bad k e
 found_no false k e = refl
 
-pub found_yes : (t : Bool) (k n : Counts) → found_if t k ≡ Good n → (t ≡ true) × (n ≡ k)
+pub found_yes : (t : Bool) (k n : Counts) → found_if t k ≡ Some n → (t ≡ true) × (n ≡ k)
 found_yes true k n e = (refl, cc)
 found_yes false k n e = good_bad n (sym e)
 
@@ -77,14 +77,14 @@ module _ (width : ℕ) (b : List ℕ) where
       )
 
   -- ---- an image that is not shaped so, and one that is, with the counts that were read
-  pub shape_bad : (ShapedWith width b → ⊥) → Bad ≡ shape_of width b
+  pub shape_bad : (ShapedWith width b → ⊥) → None ≡ shape_of width b
   unfolding shape_of
   shape_bad f =
       by_bool (good_with width b) (λ e. absurd (f (shaped_with e)))
       (λ e. sym (ap (λ (t : Bool). found_if t (record { objects = objects b; names = names_with width b; blocks = blocks_with width b })) e))
 
   pub shape_counts : (p q r : ℕ) → p ≡ objects b → q ≡ names_with width b → r ≡ blocks_with width b → ShapedWith width b
-      → Good (record { objects = p; names = q; blocks = r }) ≡ shape_of width b
+      → Some (record { objects = p; names = q; blocks = r }) ≡ shape_of width b
   unfolding shape_of
   shape_counts p q r i j k h = rw (i, j, k, with_true h)
 

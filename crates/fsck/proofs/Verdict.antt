@@ -6,6 +6,7 @@ use Prim.Native.Nat.{ℕ, ◌≤◌}
 use native.Mathlib.Omega.{arith}
 use lib.Dec.{eqb}
 use borrow.Author.Tests.{eqb-true, eqb-false}
+use Rattle.std.specs.Prelude.{Some, None}
 use Rattle.kinds.specs.Layout.{object_length}
 use Rattle.spec.specs.Count.{bit}
 use Rattle.spec.specs.Image.{Store, objects, names}
@@ -26,14 +27,13 @@ use Rattle.fsck.proofs.Shapes.{shape_is, found_no, found_yes}
 use Rattle.fsck.specs.Tree.{TreePasses}
 use Rattle.fsck.specs.Verdict.{NamesAndTreePass, RecordVerdict, Verdict}
 use Rattle.fsck.specs.declared.shape.Counts.{Counts}
-use Rattle.fsck.specs.declared.shape.Found.TheVariants.{Bad, Good}
 
 -- ---- the shape
-pub shape_no : (s : Store) → shape_of object_length s ≡ Bad → passes s ≡ false
+pub shape_no : (s : Store) → shape_of object_length s ≡ None → passes s ≡ false
 unfolding passes
 shape_no s e = rw (found_no (good_shape s) (counts_of s) (sym (shape_is s) ∙ e))
 
-pub shape_yes : (s : Store) (k : Counts) → shape_of object_length s ≡ Good k → (good_shape s ≡ true) × (k ≡ counts_of s)
+pub shape_yes : (s : Store) (k : Counts) → shape_of object_length s ≡ Some k → (good_shape s ≡ true) × (k ≡ counts_of s)
 shape_yes s k e = found_yes (good_shape s) (counts_of s) k (sym (shape_is s) ∙ e)
 
 -- ---- the names and the tree
@@ -87,20 +87,20 @@ shape_records : (s : Store) → good_shape s ≡ true → passes s ≡ records_p
 unfolding passes
 shape_records s g = rw g
 
-pub checked_bad : (s : Store) (used : List ℕ) → passes s ≡ false → Verdict s Bad used
+pub checked_bad : (s : Store) (used : List ℕ) → passes s ≡ false → Verdict s None used
 checked_bad s used e = record { is = sym (ap (λ (t : Bool). found_if t (counts_of s)) e); map = λ t. true_false (sym t ∙ e) }
 
-pub checked_records_bad : (s : Store) (used : List ℕ) → good_shape s ≡ true → records_pass s ≡ false → Verdict s Bad used
+pub checked_records_bad : (s : Store) (used : List ℕ) → good_shape s ≡ true → records_pass s ≡ false → Verdict s None used
 checked_records_bad s used g e = checked_bad s used (shape_records s g ∙ e)
 
 pub checked_good : (s : Store) (k : Counts) (used : List ℕ) → good_shape s ≡ true → k ≡ counts_of s → records_pass s ≡ true → UsedMap s used
-    → Verdict s (Good k) used
+    → Verdict s (Some k) used
 checked_good s k used g e y m =
-    record { is = ap (λ (c : Counts). Good c) e ∙ sym (ap (λ (x : Bool). found_if x (counts_of s)) (shape_records s g ∙ y)); map = λ q. m }
+    record { is = ap (λ (c : Counts). Some c) e ∙ sym (ap (λ (x : Bool). found_if x (counts_of s)) (shape_records s g ∙ y)); map = λ q. m }
 
 -- ---- what callers read off the verdict
-pub bad_fails : (s : Store) → Bad ≡ found_if (passes s) (counts_of s) → passes s ≡ false
+pub bad_fails : (s : Store) → None ≡ found_if (passes s) (counts_of s) → passes s ≡ false
 bad_fails s e = found_no (passes s) (counts_of s) (sym e)
 
-pub good_passes : (s : Store) (k : Counts) → Good k ≡ found_if (passes s) (counts_of s) → passes s ≡ true
+pub good_passes : (s : Store) (k : Counts) → Some k ≡ found_if (passes s) (counts_of s) → passes s ≡ true
 good_passes s k e = (found_yes (passes s) (counts_of s) k (sym e)).0

@@ -1,6 +1,6 @@
--- What the check answers: that the store fails, or its counts. Where an image states them depends on the length of an object record: `width` is
--- objectLength, or for an image of document 01 oldObjectLength.
-use Rattle.std.specs.Prelude.{ℕ, ◌+◌, ◌*◌, ◌≤◌, ◌≡◌, Bool, true, false, ◌&&◌, List, eqb, length}
+-- What the check answers: the counts of a store, or none where it fails. Where an image states them depends on the length of an object record:
+-- `width` is object_length, or for an image of document 01 old_object_length.
+use Rattle.std.specs.Prelude.{Option, Some, None, ℕ, ◌+◌, ◌*◌, ◌≤◌, ◌≡◌, Bool, true, false, ◌&&◌, List, eqb, length}
 use Rattle.kinds.specs.Layout.{objects_head, names_head, blocks_head, object_length, name_record_length, block_length}
 use Rattle.kinds.specs.Numbers.{most_objects}
 use Rattle.spec.specs.Bytes.{be_at}
@@ -8,8 +8,6 @@ use Rattle.spec.specs.Image.{Store, volumes, objects, names, blocks}
 use Rattle.spec.specs.Check.{good_counts}
 use Rattle.spec.specs.Convert.{old_names, old_blocks}
 use Rattle.fsck.specs.declared.shape.Counts.{Counts}
-use Rattle.fsck.specs.declared.shape.Found.{Found}
-use Rattle.fsck.specs.declared.shape.Found.TheVariants.{Bad, Good}
 
 -- the counts that a store states, and those that an image of document 01 states
 abbrev pub counts_of : Store → Counts
@@ -19,9 +17,9 @@ abbrev pub old_counts : List ℕ → Counts
 old_counts b = record { objects = objects b; names = old_names b; blocks = old_blocks b }
 
 -- the counts where a test holds
-abbrev pub found_if : Bool → Counts → Found
-found_if true k = Good k
-found_if false k = Bad
+abbrev pub found_if : Bool → Counts → Option Counts
+found_if true k = Some k
+found_if false k = None
 
 -- Q and R, the length, and the demands on all of these, over the length of an object record
 unfoldable pub names_with : ℕ → List ℕ → ℕ
@@ -39,7 +37,7 @@ good_with width b =
     && eqb (length b) (length_with width (objects b) (names_with width b) (blocks_with width b))
 
 -- what the shape of an image tells: proofs/Shapes.antt says what it is in each layout
-unfoldable pub shape_of : ℕ → List ℕ → Found
+unfoldable pub shape_of : ℕ → List ℕ → Option Counts
 shape_of width b = found_if (good_with width b) (record { objects = objects b; names = names_with width b; blocks = blocks_with width b })
 
 -- the first demands on the shape hold, the object records are no longer than those of a full store, and the count of names lies in the image

@@ -7,7 +7,7 @@ ghost use Rattle.fsck_objects.specs.Told.{Told};
 ghost use Rattle.fsck_objects.specs.Objects.{Blank, Inside};
 ghost use Rattle.fsck.specs.Verdict.{NamesAndTreePass, RecordVerdict, Verdict};
 
-use crate::shape::{Found, shape};
+use crate::shape::{Counts, shape};
 use crate::tree::tree_passes;
 use fsck_blocks::objects::objects_pass;
 use fsck_names::names::names_pass;
@@ -92,21 +92,18 @@ pub fn check_store(
     used: &mut [u8; Limit::MOST_BLOCKS],
     parents: &mut [u8; Limit::MOST_OBJECTS],
     links: &mut [u8; Limit::MOST_OBJECTS],
-) -> Found
+) -> Option<Counts>
     requires blank { Blank most_blocks used.old }
     requires blank_2 { Blank most_objects parents.old }
     requires blank_3 { Blank most_objects links.old }
     ensures { Verdict store.now result used.new }
 {
-    let found = shape(store, ObjectRecord::BYTES);
-    let Found::Good(counts) = found else {
-        return Found::Bad;
-    };
+    let counts = shape(store, ObjectRecord::BYTES)?;
     let p = counts.objects;
     let q = counts.names;
     let r = counts.blocks;
     if !records_pass(store, p, q, r, used, parents, links) {
-        return Found::Bad;
+        return None;
     }
-    Found::Good(counts)
+    Some(counts)
 }

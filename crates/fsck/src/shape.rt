@@ -15,60 +15,53 @@ pub struct Counts {
     pub blocks: usize,
 }
 
-// What was found of a store: that it fails, or its counts.
-#[derive(Clone, Copy)]
-pub enum Found {
-    Bad,
-    Good(Counts),
-}
-
-// The counts of a store of a good shape.
-pub fn shape(store: &[u8], width: usize) -> Found
+// The counts of a store of a good shape; none where the shape fails.
+pub fn shape(store: &[u8], width: usize) -> Option<Counts>
     requires { width ≤ object_length }
     ensures { result ≡ shape_of width store.now }
 {
     let length = store.len();
     if length < Image::BLOCKS_HEAD {
-        return Found::Bad;
+        return None;
     }
     if wire::get_u32(store, 0) != 1 {
-        return Found::Bad;
+        return None;
     }
     let objects = wire::get_u32(store, Image::OBJECT_COUNT) as usize;
     if objects < 1 {
-        return Found::Bad;
+        return None;
     }
     if objects > Limit::MOST_OBJECTS {
-        return Found::Bad;
+        return None;
     }
     if length < Image::BLOCKS_HEAD + width * objects {
-        return Found::Bad;
+        return None;
     }
     rest_of_shape(store, width, objects)
 }
 
 // The same, with the number of objects, which is in range, and after which the count of names lies.
-fn rest_of_shape(store: &[u8], width: usize, objects: usize) -> Found
+fn rest_of_shape(store: &[u8], width: usize, objects: usize) -> Option<Counts>
     requires { First store.now width objects }
     ensures { result ≡ shape_of width store.now }
 {
     let length = store.len();
     let names = wire::get_u32(store, Image::OBJECTS_HEAD + width * objects) as usize;
     if names > Limit::MOST_NAME_RECORDS {
-        return Found::Bad;
+        return None;
     }
     let start = Image::BLOCKS_HEAD + width * objects + NameRecord::BYTES * names;
     if length < start {
-        return Found::Bad;
+        return None;
     }
     let blocks = wire::get_u32(store, start - 4) as usize;
     if blocks > Limit::MOST_BLOCKS {
-        return Found::Bad;
+        return None;
     }
     if length != start + Block::BYTES * blocks {
-        return Found::Bad;
+        return None;
     }
-    Found::Good(Counts {
+    Some(Counts {
         objects,
         names,
         blocks,

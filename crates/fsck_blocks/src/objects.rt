@@ -7,7 +7,7 @@ ghost use Rattle.laws.proofs.Valid.{Framed};
 ghost use Rattle.fsck_objects.specs.Told.{Told};
 ghost use Rattle.fsck_objects.specs.Objects.{Blank, Inside, AreMarks, ObjectsPass};
 
-use fsck_objects::object::{Uses, object_uses};
+use fsck_objects::object::object_uses;
 use kinds::numbers::{Limit, ObjectNumber};
 
 // The sum of n bytes of a map from `from` on, which are 0 or 1.
@@ -60,8 +60,7 @@ pub fn objects_pass(
     let mut total = 0;
     let mut o = 0;
     while o < count {
-        let found = object_uses(store, inside, ObjectNumber(o), limit, used);
-        let Uses::Blocks(n) = found else {
+        let Some(n) = object_uses(store, inside, ObjectNumber(o), limit, used) else {
             return false;
         };
         total += n;

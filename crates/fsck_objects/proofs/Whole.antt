@@ -7,6 +7,7 @@ use native.Mathlib.Omega.{arith}
 use lib.Dec.{eqb, leb, ltb}
 use lib.ListN.{length}
 use mathlib.Core.List.{List}
+use Rattle.std.specs.Prelude.{Some, None}
 use Rattle.kinds.specs.Layout.{mode_offset, verifier_offset, exclusive_offset, object_length}
 use Rattle.kinds.specs.Numbers.{file_blocks, most_file_bytes, spent_generation, most_mode}
 use Rattle.kinds.specs.declared.object.Object.{Object}
@@ -20,7 +21,6 @@ use Rattle.laws.proofs.Valid.{size_good, need_few}
 use Rattle.laws.proofs.Zeros.{zero_add, zero_number}
 use Rattle.fsck_objects.specs.Told.{Told}
 use Rattle.fsck_objects.specs.Objects.{good_fields, LiveAt, MarkedBy, MarkedTo, ObjectPasses, Counted}
-use Rattle.fsck_objects.specs.declared.object.Uses.TheVariants.{Bad, Blocks}
 use Rattle.fsck_objects.proofs.Passes.{fails_object, told_true, told_false}
 use Rattle.fsck_objects.proofs.Marks.{free_held, mark_free, mark_end, held_end}
 
@@ -83,9 +83,9 @@ told_live s o count used true a m e =
 told_live s o count used false a m e = told_false (fails_object s o a.below (live_is s o a.live ∙ rw a.fields (sym e)))
 
 -- what the check of an object tells
-pub counted_bad : {s : Store} {facts : ℕ → Type 0} → records_pass s ≡ false → Counted Bad s facts
+pub counted_bad : {s : Store} {facts : ℕ → Type 0} → records_pass s ≡ false → Counted None s facts
 counted_bad f = record { yes = λ n e. let z : ◌≡◌ {A = ℕ} 0 1 = cc in absurd (omega arith); no = λ e. f }
 
-pub counted_blocks : {s : Store} {facts : ℕ → Type 0} (n : ℕ) → facts n → Counted (Blocks n) s facts
+pub counted_blocks : {s : Store} {facts : ℕ → Type 0} (n : ℕ) → facts n → Counted (Some n) s facts
 counted_blocks {s} {facts} n f =
     record { yes = λ k e. let w : n ≡ k = cc in rw w at f; no = λ e. let z : ◌≡◌ {A = ℕ} 0 1 = cc in absurd (omega arith) }

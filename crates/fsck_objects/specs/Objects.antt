@@ -1,13 +1,11 @@
 -- What the pass over the objects keeps: the fields of a live object, and the map of used blocks.
-use Rattle.std.specs.Prelude.{ℕ, zero, suc, ◌+◌, ◌≤◌, ◌<◌, ◌≡◌, Bool, true, false, ◌&&◌, ◌||◌, List, eqb, leb, ltb, length, take, get_or}
+use Rattle.std.specs.Prelude.{Option, Some, None, ℕ, zero, suc, ◌+◌, ◌≤◌, ◌<◌, ◌≡◌, Bool, true, false, ◌&&◌, ◌||◌, List, eqb, leb, ltb, length, take, get_or}
 use Rattle.kinds.specs.Numbers.{most_blocks, file_blocks, spent_generation, most_mode}
 use Rattle.kinds.specs.declared.object.Object.{Object}
 use Rattle.spec.specs.Count.{sum, every, times}
 use Rattle.spec.specs.Image.{Store, objects, blocks, object_at}
 use Rattle.spec.specs.Check.{good_time, good_size, good_verifier, good_block, good_object, records_pass}
 use Rattle.spec.specs.Room.{held, need, is_live}
-use Rattle.fsck_objects.specs.declared.object.Uses.{Uses}
-use Rattle.fsck_objects.specs.declared.object.Uses.TheVariants.{Bad, Blocks}
 
 -- what a live object's numbers, times and verifier must be: all of its demands but those on its blocks
 unfoldable pub good_fields : Object → Bool
@@ -67,9 +65,9 @@ pub record ObjectsPass (s : Store) (o : ℕ) (used : List ℕ) : Type 0 where
   pub good : every o (good_object s) ≡ true
 
 -- what the check of an object tells: its facts for the number of its blocks, else that a demand on the records does not hold
-pub record Counted (found : Uses) (s : Store) (facts : ℕ → Type 0) : Type 0 where
-  pub yes : (n : ℕ) → found ≡ Blocks n → facts n
-  pub no : found ≡ Bad → records_pass s ≡ false
+pub record Counted (found : Option ℕ) (s : Store) (facts : ℕ → Type 0) : Type 0 where
+  pub yes : (n : ℕ) → found ≡ Some n → facts n
+  pub no : found ≡ None → records_pass s ≡ false
 
 -- 32 ones and then zeros: from 32 - n on it tells of each of 32 bytes whether it is one of the first n
 pub record Inside (inside : List ℕ) : Type 0 where

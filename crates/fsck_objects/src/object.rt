@@ -18,13 +18,6 @@ use store_records::object::{
     block_of, exclusive_of, generation_of, kind_of, mode_of, size_of, verifier_of,
 };
 
-// What was found of an object: that it fails, or how many blocks it has.
-#[derive(Clone, Copy)]
-pub enum Uses {
-    Bad,
-    Blocks(usize),
-}
-
 // Whether the size of an object is one that its type may have.
 fn good_size(store: &[u8], o: ObjectNumber) -> bool
     requires { object_start o.0 + object_length ≤ length store.now }
@@ -252,14 +245,14 @@ fn good_free(store: &[u8], o: ObjectNumber) -> bool
     verifier_of(store, o) == 0 && exclusive_of(store, o) == 0
 }
 
-// How many blocks object o has, if it passes; marks them.
+// How many blocks object o has; none where it fails. Marks the blocks of one that passes.
 pub fn object_uses(
     store: &[u8],
     inside: &[u8; 64],
     o: ObjectNumber,
     limit: usize,
     used: &mut [u8; Limit::MOST_BLOCKS],
-) -> Uses
+) -> Option<usize>
     requires framed { Framed store.now }
     requires inside { Inside inside.now }
     requires o_bound { o.0 < objects store.now }
@@ -269,16 +262,16 @@ pub fn object_uses(
 {
     if kind_of(store, o) == Kind::FREE {
         if !good_free(store, o) {
-            return Uses::Bad;
+            return None;
         }
-        return Uses::Blocks(0);
+        return Some(0);
     }
     if !good_fields(store, o) {
-        return Uses::Bad;
+        return None;
     }
     let count = need(size_of(store, o) as usize);
     if !blocks_pass(store, inside, o, count, limit, used) {
-        return Uses::Bad;
+        return None;
     }
-    Uses::Blocks(count)
+    Some(count)
 }

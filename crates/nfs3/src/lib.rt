@@ -10,7 +10,6 @@ use entry_reply::respond;
 use entry_tests::{Opened, open};
 use fsck::check::check_store;
 use fsck::format::format_store;
-use fsck::shape::Found;
 use kinds::numbers::{Answer, Limit};
 use kinds::object::{Context, Time};
 
@@ -52,12 +51,12 @@ pub fn nfs3_check(store: &[u8]) -> Answer
     let mut links = [0u8; Limit::MOST_OBJECTS];
     let found = check_store(store, &mut used, &mut parents, &mut links);
     match found {
-        Found::Bad => Answer {
+        None => Answer {
             number: Answer::STORE,
             length: 0,
             offset: 0,
         },
-        Found::Good(_) => Answer {
+        Some(_) => Answer {
             number: Answer::DONE,
             length: 0,
             offset: 0,

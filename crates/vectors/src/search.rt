@@ -2,7 +2,6 @@
 ghost use Rattle.std.specs.Prelude.{◌≤◌};
 
 use fsck::check::check_store;
-use fsck::shape::Found;
 use kinds::call::Part;
 use kinds::numbers::{Answer, Limit, ObjectNumber};
 use store_search::found::FoundName;
@@ -23,9 +22,7 @@ pub fn search(numbers: &mut Numbers, store: &[u8], call: &[u8]) -> Option<Answer
     let mut used = [0u8; Limit::MOST_BLOCKS];
     let mut parents = [0u8; Limit::MOST_OBJECTS];
     let mut links = [0u8; Limit::MOST_OBJECTS];
-    let Found::Good(_) = check_store(store, &mut used, &mut parents, &mut links) else {
-        return None;
-    };
+    check_store(store, &mut used, &mut parents, &mut links)?;
     let directory = ObjectNumber(numbers[Tag::DIRECTORY] as usize);
     let name = Part {
         start: 0,

@@ -15,10 +15,10 @@ check_store-found-requires-clause-blank_2 c = blank_of most_objects
 pub check_store-found-requires-clause-blank_3 : goal.check_store-found-requires-clause-blank_3
 check_store-found-requires-clause-blank_3 c = blank_of most_objects
 
-pub returns-in-Bad : goal.returns-in-Bad
-returns-in-Bad c = let s = c.args.store.now in
-    answer_bad s (bad_fails s (sym c.in-Bad.is ∙ c.check_store-found.ensures.is))
+pub returns-in-None : goal.returns-in-None
+returns-in-None c = let s = c.args.store.now in
+    answer_bad s (bad_fails s (sym c.in-None.is ∙ c.check_store-found.ensures.is))
 
-pub returns-in-Good : goal.returns-in-Good
-returns-in-Good c = let s = c.args.store.now in
-    answer_good s (good_passes s _ (sym c.in-Good.is ∙ c.check_store-found.ensures.is))
+pub returns-in-Some : goal.returns-in-Some
+returns-in-Some c = let s = c.args.store.now in
+    answer_good s (good_passes s _ (sym c.in-Some.is ∙ c.check_store-found.ensures.is))

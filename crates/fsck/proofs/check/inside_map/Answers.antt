@@ -1,5 +1,5 @@
 use native.Mathlib.Omega.{arith}
-use Prim.Native.Nat.{◌*◌, ◌-◌, zero-le}
+use Prim.Native.Nat.{◌*◌, zero-le}
 use Rattle.kinds.specs.Numbers.{most_name_bytes}
 use Rattle.fsck.proofs.Filled.{blank_of, filled_none, filled_more, filled_all}
 use Rattle.fsck.proofs.check.inside_map.Goals as goal

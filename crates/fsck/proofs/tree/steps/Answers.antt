@@ -1,7 +1,6 @@
 use Rattle.fsck.proofs.Steps.{climb_start, climb_more, climb_found, climb_lost}
 use native.Mathlib.Omega.{arith}
 use mathlib.Core.Path.{sym, ◌∙◌}
-use Prim.Native.Nat.{◌-◌}
 use Rattle.fsck.proofs.tree.steps.Goals as goal
 
 pub loop-k-init : goal.loop-k-init

@@ -5,7 +5,7 @@ use Rattle.fsck_objects.proofs.Passes.{told_true, told_false}
 use Rattle.fsck.proofs.Steps.{known_start}
 use native.Mathlib.Omega.{arith}
 use mathlib.Core.Path.{◌≡◌, refl}
-use Prim.Native.Nat.{◌-◌, zero-le}
+use Prim.Native.Nat.{zero-le}
 use Rattle.fsck.proofs.tree.tree_passes.Goals as goal
 
 pub loop-o-init : goal.loop-o-init

@@ -1,6 +1,6 @@
 use native.Mathlib.Omega.{arith}
 use mathlib.Core.Path.{◌≡◌, refl}
-use Prim.Native.Nat.{◌-◌, zero-le}
+use Prim.Native.Nat.{zero-le}
 use lib.ListN.{length}
 use Rattle.spec.specs.Count.{sum, every}
 use Rattle.spec.specs.Room.{held}
@@ -14,31 +14,31 @@ pub loop-o-init : goal.loop-o-init
 unfolding every sum
 loop-o-init c = (zero-le, refl, zero-le, mark_none c.args.store.now c.args.used.now c.requires.blank, refl)
 
-pub object_uses-found-requires-clause-framed : goal.object_uses-found-requires-clause-framed
-object_uses-found-requires-clause-framed c = c.requires.framed
+pub object_uses-requires-clause-framed : goal.object_uses-requires-clause-framed
+object_uses-requires-clause-framed c = c.requires.framed
 
-pub object_uses-found-requires-clause-inside : goal.object_uses-found-requires-clause-inside
-object_uses-found-requires-clause-inside c = c.requires.inside
+pub object_uses-requires-clause-inside : goal.object_uses-requires-clause-inside
+object_uses-requires-clause-inside c = c.requires.inside
 
-pub object_uses-found-requires-clause-o_bound : goal.object_uses-found-requires-clause-o_bound
-object_uses-found-requires-clause-o_bound c = omega arith
+pub object_uses-requires-clause-o_bound : goal.object_uses-requires-clause-o_bound
+object_uses-requires-clause-o_bound c = omega arith
 
-pub object_uses-found-requires-clause-limit_value : goal.object_uses-found-requires-clause-limit_value
-object_uses-found-requires-clause-limit_value c = c.requires.limit_value
+pub object_uses-requires-clause-limit_value : goal.object_uses-requires-clause-limit_value
+object_uses-requires-clause-limit_value c = c.requires.limit_value
 
-pub object_uses-found-requires-clause-marked_by : goal.object_uses-found-requires-clause-marked_by
-object_uses-found-requires-clause-marked_by c = c.loop-o.invariant.3
+pub object_uses-requires-clause-marked_by : goal.object_uses-requires-clause-marked_by
+object_uses-requires-clause-marked_by c = c.loop-o.invariant.3
 
 pub returns-in_default : goal.returns-in_default
-returns-in_default c = told_false (c.object_uses-found.ensures.no c.in_default.is)
+returns-in_default c = told_false (c.object_uses.ensures.no c.in_default.is)
 
 pub overflow_add-total : goal.overflow_add-total
-overflow_add-total c = let f = c.object_uses-found.ensures.yes _ c.in-Blocks.is in
+overflow_add-total c = let f = c.object_uses.ensures.yes _ c.in-Some.is in
     omega (arith, f.few, c.loop-o.invariant.2)
 
 pub loop-o-preserved : goal.loop-o-preserved
 loop-o-preserved c = let s = c.args.store.now in
-    let f = c.object_uses-found.ensures.yes _ c.in-Blocks.is in
+    let f = c.object_uses.ensures.yes _ c.in-Some.is in
     let p = sum_more c.loop-o.o (λ i. length (held s i)) in (
       omega arith,
       omega (arith, c.loop-o.invariant.1, f.has),

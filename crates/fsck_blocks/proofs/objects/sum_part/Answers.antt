@@ -1,6 +1,6 @@
 use native.Mathlib.Omega.{arith}
 use mathlib.Core.Path.{◌≡◌, refl}
-use Prim.Native.Nat.{◌+◌, ◌-◌, zero-le}
+use Prim.Native.Nat.{◌+◌, zero-le}
 use lib.ListN.{get_or}
 use Rattle.spec.specs.Count.{sum}
 use Rattle.laws.proofs.Count.{sum_more}

@@ -1,5 +1,4 @@
 use Rattle.fsck_names.proofs.Chained.{Walked}
-use Prim.Native.Nat.{◌-◌}
 use Rattle.fsck_names.proofs.distinct.is_new.Given as goal
 
 abbrev pub invariant-loop-k : goal.invariant-loop-k

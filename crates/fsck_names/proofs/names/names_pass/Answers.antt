@@ -2,7 +2,7 @@ use Rattle.fsck_objects.proofs.Passes.{told_true, told_false}
 use Rattle.fsck_names.proofs.Whole.{names_none}
 use native.Mathlib.Omega.{arith}
 use mathlib.Core.Path.{◌≡◌}
-use Prim.Native.Nat.{◌-◌, zero-le}
+use Prim.Native.Nat.{zero-le}
 use Rattle.fsck_names.proofs.names.names_pass.Goals as goal
 
 pub loop-n-init : goal.loop-n-init

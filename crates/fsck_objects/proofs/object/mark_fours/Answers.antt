@@ -1,6 +1,6 @@
 use native.Mathlib.Omega.{arith}
 use mathlib.Core.Path.{◌≡◌}
-use Prim.Native.Nat.{◌+◌, ◌-◌, ◌*◌, ◌/◌, zero-le}
+use Prim.Native.Nat.{◌+◌, ◌*◌, ◌/◌, zero-le}
 use Rattle.fsck_objects.proofs.Passes.{told_true, told_false}
 use Rattle.fsck_objects.proofs.Marks.{mark_start}
 use Rattle.fsck_objects.proofs.object.mark_fours.Goals as goal

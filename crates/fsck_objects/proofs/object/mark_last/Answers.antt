@@ -1,6 +1,5 @@
 use native.Mathlib.Omega.{arith}
 use mathlib.Core.Path.{◌≡◌}
-use Prim.Native.Nat.{◌-◌}
 use Rattle.fsck_objects.proofs.Passes.{told_true, told_false}
 use Rattle.fsck_objects.proofs.Marks.{mark_more, mark_out}
 use Rattle.fsck_objects.proofs.object.mark_last.Goals as goal

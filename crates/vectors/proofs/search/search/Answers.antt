@@ -16,9 +16,9 @@ check_store-requires-clause-blank_3 c = blank_of most_objects
 pub search_name-result-requires-clause-shaped : goal.search_name-result-requires-clause-shaped
 search_name-result-requires-clause-shaped c =
     let s = c.args.store.now in
-    good_shaped s (good_records s _ c.in-Good.ensures.is (λ k. (c.type_inv.store k).fits))
+    good_shaped s (good_records s _ c.in-Some.ensures.is (λ k. (c.type_inv.store k).fits))
 
 pub search_name-result-requires-clause-sound_names : goal.search_name-result-requires-clause-sound_names
 search_name-result-requires-clause-sound_names c =
     let s = c.args.store.now in
-    good_names_sound s (good_records s _ c.in-Good.ensures.is (λ k. (c.type_inv.store k).fits))
+    good_names_sound s (good_records s _ c.in-Some.ensures.is (λ k. (c.type_inv.store k).fits))
