@@ -19,6 +19,13 @@ const TYPE_START: usize = 4;
 
 const TYPE_END: usize = 8;
 
+// A call, as far as it was read: its header, and the arguments after it.
+#[derive(Clone, Copy)]
+pub struct CallRead<A> {
+    pub header: Read<Header>,
+    pub arguments: Read<A>,
+}
+
 // The number of the procedure that a header names, or one that no procedure has.
 #[tactic(auto, unfolding(crate::specs::Meaning::procedure_of))]
 pub fn procedure_of(h: Read<Header>) -> u32
