@@ -78,6 +78,7 @@ fn commit(s: &[u8], c: Cursor, file: Part) -> Read<Arguments>
 }
 
 // The arguments of GETATTR, SETATTR, ACCESS, READ, WRITE, LINK, READDIR, FSSTAT, FSINFO, PATHCONF or COMMIT, which end the call.
+#[tactic(auto, unfolding(spec::specs::Arguments::arguments, spec::specs::Arguments::form))]
 pub fn of_handle(s: &[u8], c: Cursor, procedure: u32) -> Read<Arguments>
     requires { HandleFirst procedure }
     ensures { read_of result ≡ arguments procedure s.now c.at }

@@ -37,6 +37,7 @@ fn rename(s: &[u8], c: Cursor, old: NameIn) -> Read<Arguments>
 }
 
 // The arguments of LOOKUP, CREATE, MKDIR, REMOVE, RMDIR or RENAME, which end the call.
+#[tactic(auto, unfolding(spec::specs::Arguments::arguments, spec::specs::Arguments::form))]
 pub fn of_name(s: &[u8], c: Cursor, procedure: u32) -> Read<Arguments>
     requires { NameFirst procedure }
     ensures { read_of result ≡ arguments procedure s.now c.at }
