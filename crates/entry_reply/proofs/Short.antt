@@ -22,7 +22,6 @@ use Rattle.results.specs.Writable.{Writable}
 use Rattle.results.specs.declared.HandleChange.{HandleChange}
 use Rattle.results.specs.declared.HandleObject.{HandleObject}
 use Rattle.results.specs.declared.Reply.{Reply}
-use Rattle.results.specs.declared.Reply.TheVariants as Reply
 use Rattle.reply_bodies.proofs.Sizes.{change_small, object_small}
 use Rattle.reply_fields.proofs.ZeroWords.{zero_words_small}
 

@@ -7,8 +7,12 @@ use native.Mathlib.Omega.{arith}
 use lib.ListN.{length}
 use borrow.Author.Tests.{lt-ltb, le-ltb}
 use Rattle.kinds.specs.Numbers.{least_reply_bytes, most_call_bytes, nanoseconds_end}
-use Rattle.kinds.specs.Reading.{got, bad, place_of}
+use Rattle.std.specs.Prelude.{Result}
+use Rattle.kinds.specs.Reading.{got, bad, place_of, read_of}
+use Rattle.kinds.specs.declared.call.Arguments.{Arguments}
+use Rattle.kinds.specs.declared.call.Cursor.{Cursor}
 use Rattle.kinds.specs.declared.call.Header.{Header}
+use Rattle.kinds.specs.declared.reading.BadField.{BadField}
 use Rattle.kinds.specs.declared.object.Context.{Context}
 use Rattle.spec.specs.Check.{good_time, passes}
 use Rattle.spec.specs.Header.{header, fault, header_fault}
@@ -20,8 +24,6 @@ use Rattle.laws.proofs.Range.{Below}
 use Rattle.laws.proofs.Valid.{valid}
 use Rattle.store_blocks.specs.Blocks.{UsedMap}
 use Rattle.rpc.specs.Meaning.{procedure_of}
-use Rattle.call_end.specs.declared.reading.ArgumentsRead.{ArgumentsRead}
-use Rattle.call_end.specs.Reading.{arguments_of}
 use Rattle.call_whole.specs.After.{arguments_after}
 use Rattle.entry_tests.specs.Opens.{Hears}
 
@@ -67,7 +69,7 @@ module _ (call : List ℕ) (s : Store) (space : List ℕ) (c : Context) where
             q,
           )
 
-          pub hears : (used : List ℕ) (h : Header) (at : ℕ) (x : ArgumentsRead) → header call 0 ≡ got h at → arguments_of x ≡ arguments_after call (header call 0)
+          pub hears : (used : List ℕ) (h : Header) (at : ℕ) (x : Result (Arguments × Cursor) BadField) → header call 0 ≡ got h at → read_of x ≡ arguments_after call (header call 0)
               → UsedMap s used → Below 256 s → GoodClock c.clock → Hears call s space c used h at x
           unfolding procedure_of
           hears used h at x q y m w k =

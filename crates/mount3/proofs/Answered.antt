@@ -3,16 +3,16 @@ use mathlib.Core.Path.{◌≡◌, refl}
 use mathlib.Core.List.{List}
 use Prim.Native.Nat.{ℕ}
 use Rattle.kinds.specs.declared.numbers.Answer.{Answer}
-use Rattle.spec.specs.Header.{fault}
+use Rattle.kinds.specs.declared.numbers.Fault.{Fault}
 use Rattle.mount_spec.specs.Serve.{MountOutcome, MountSent, refuse_mount, send_mount}
 use Rattle.mount_spec.specs.Table.{Table}
 use Rattle.mount3.specs.Answers.{ServesMount}
 use Rattle.mount3.specs.Sends.{SendsMount}
 
 -- a call that is refused changes nothing
-pub serves_refused : (o : MountOutcome) (number offset : ℕ) (space : List ℕ) (t : Table) → o ≡ refuse_mount (fault number offset) space t
-    → ServesMount o (record { number = number; length = 0; offset = offset }) space t
-serves_refused o number offset space t e = rw e (record { number = refl; length = refl; offset = refl; space = refl; leaves = refl })
+pub serves_refused : (o : MountOutcome) (f : Fault) (space : List ℕ) (t : Table) → o ≡ refuse_mount f space t
+    → ServesMount o (record { number = f.number; length = 0; offset = f.offset }) space t
+serves_refused o f space t e = rw e (record { number = refl; length = refl; offset = refl; space = refl; leaves = refl })
 
 -- a call that is answered
 pub serves_sent : (o : MountOutcome) (m : MountSent) (r : Answer) (space after : List ℕ) (left : Table) → o ≡ send_mount space m

@@ -1,5 +1,4 @@
 pub mod Fitting
-pub mod Within
 pub mod Short
 pub mod Sent
 pub mod Tested

@@ -8,9 +8,13 @@ use lib.ListN.{length}
 use borrow.Author.Tests.{lt-ltb, le-ltb}
 use Rattle.kinds.specs.Mount.{least_mount_reply_bytes}
 use Rattle.kinds.specs.Numbers.{most_call_bytes}
-use Rattle.kinds.specs.Reading.{got, bad, place_of}
+use Rattle.std.specs.Prelude.{Result}
+use Rattle.kinds.specs.Reading.{got, bad, place_of, read_of}
 use Rattle.kinds.specs.declared.numbers.Fault.{Fault}
+use Rattle.kinds.specs.declared.call.Cursor.{Cursor}
 use Rattle.kinds.specs.declared.call.Header.{Header}
+use Rattle.kinds.specs.declared.mount.MountArguments.{MountArguments}
+use Rattle.kinds.specs.declared.reading.BadField.{BadField}
 use Rattle.spec.specs.Check.{passes}
 use Rattle.spec.specs.Header.{header, fault, header_fault}
 use Rattle.spec.specs.Image.{Store}
@@ -22,8 +26,7 @@ use Rattle.rpc.specs.Meaning.{procedure_of}
 use Rattle.mount_spec.specs.Serve.{refuse_mount, send_mount, respond_mount, serve_mount}
 use Rattle.mount_spec.specs.Table.{Table, passes_table}
 use Rattle.mount_laws.proofs.Paths.{inside_arguments}
-use Rattle.mount_call.specs.Reading.{mount_read_of, mount_arguments_after}
-use Rattle.mount_call.specs.declared.MountRead.{MountRead}
+use Rattle.mount_call.specs.Reading.{mount_arguments_after}
 use Rattle.mount3.specs.Opens.{HearsMount}
 use Rattle.mount3.proofs.Fitting.{table_fits}
 
@@ -62,7 +65,7 @@ module _ (call : List ℕ) (s : Store) (t : Table) (space : List ℕ) where
           unfolding serve_mount
           heard h at q host = rw (le-ltb (length space) least_mount_reply_bytes a, le-ltb most_call_bytes (length call) b, d, e, q)
 
-          pub hears : (h : Header) (at : ℕ) (x : MountRead) → header call 0 ≡ got h at → mount_read_of x ≡ mount_arguments_after call (header call 0)
+          pub hears : (h : Header) (at : ℕ) (x : Result (MountArguments × Cursor) BadField) → header call 0 ≡ got h at → read_of x ≡ mount_arguments_after call (header call 0)
               → Below 256 s → HearsMount call s t space h at x
           unfolding procedure_of
           hears h at x q y w =

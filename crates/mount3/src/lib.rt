@@ -8,8 +8,8 @@ pub mod tests; // the tests of a call before anything is written
 pub mod reply; // the reply to a call
 
 use crate::reply::respond;
-use crate::tests::{MountOpened, open};
-use kinds::numbers::Answer;
+use crate::tests::open;
+use kinds::numbers::{Answer, Fault};
 
 // Answers a call of MOUNT: 2, 4, 1, 12, 5, 7, 8 or 9, which change nothing, or 0 with the length of the reply. 8, 9 and GARBAGE_ARGS come with the byte
 // at which the field starts that cannot be read.
@@ -22,13 +22,12 @@ pub fn mount3_call(
 ) -> Answer
     ensures { ServesMount (serve_mount call.now store.now table.old reply.old host) result reply.new table.new }
 {
-    let opened = open(call, store, table, reply);
-    match opened {
-        MountOpened::Refused(number, offset) => Answer {
+    match open(call, store, table, reply) {
+        Ok(heard) => respond(store, table, reply, host, call, heard),
+        Err(Fault { number, offset }) => Answer {
             number,
             length: 0,
             offset,
         },
-        MountOpened::Heard(h, c, read) => respond(store, table, reply, host, call, h, c, read),
     }
 }

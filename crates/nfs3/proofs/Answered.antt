@@ -6,7 +6,7 @@ use Prim.Native.Nat.{ℕ}
 use Rattle.spec.specs.Image.{Store}
 use Rattle.spec.specs.Check.{passes}
 use Rattle.kinds.specs.declared.numbers.Answer.{Answer}
-use Rattle.spec.specs.Header.{fault}
+use Rattle.kinds.specs.declared.numbers.Fault.{Fault}
 use Rattle.spec.specs.Serve.{Outcome, Written, Sent, refuse, send, check}
 use Rattle.fsck.specs.Format.{Leaves}
 use Rattle.entry_reply.specs.Sends.{Sends}
@@ -27,9 +27,9 @@ writes_by w number s l = record { answers = ap answer_of l.answers; leaves = l.l
 
 -- ---- a call
 -- a call that is refused changes nothing
-pub serves_refused : (o : Outcome) (number offset : ℕ) (space : List ℕ) (s : Store) → o ≡ refuse (fault number offset) space s
-    → Serves o (record { number = number; length = 0; offset = offset }) space s
-serves_refused o number offset space s e = rw e (record { number = refl; length = refl; offset = refl; space = refl; leaves = refl })
+pub serves_refused : (o : Outcome) (f : Fault) (space : List ℕ) (s : Store) → o ≡ refuse f space s
+    → Serves o (record { number = f.number; length = 0; offset = f.offset }) space s
+serves_refused o f space s e = rw e (record { number = refl; length = refl; offset = refl; space = refl; leaves = refl })
 
 -- a call that is answered
 pub serves_sent : (o : Outcome) (t : Sent) (r : Answer) (space after left : List ℕ) → o ≡ send space t → Sends t r space after left

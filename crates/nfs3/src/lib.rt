@@ -7,10 +7,10 @@ ghost use Rattle.nfs3.specs.Answers.{answer_of, clock_of, context_of, Writes, Se
 
 use convert::{MOST_RECORDS, convert_store};
 use entry_reply::respond;
-use entry_tests::{Opened, open};
+use entry_tests::open;
 use fsck::check::check_store;
 use fsck::format::format_store;
-use kinds::numbers::{Answer, Limit};
+use kinds::numbers::{Answer, Fault, Limit};
 use kinds::object::{Context, Time};
 
 // Answers a call: 2, 3, 4, 1, 5, 7, 8 or 9, which change nothing, or 0 with the length of the reply. 8, 9 and GARBAGE_ARGS come with the byte at which
@@ -31,14 +31,13 @@ pub fn nfs3_call(
     };
     let context = Context { clock, verifier };
     let mut used = [0u8; Limit::MOST_BLOCKS];
-    let opened = open(call, store, reply, context, &mut used);
-    match opened {
-        Opened::Refused(number, offset) => Answer {
+    match open(call, store, reply, context, &mut used) {
+        Ok(heard) => respond(store, reply, &used, context, call, heard),
+        Err(Fault { number, offset }) => Answer {
             number,
             length: 0,
             offset,
         },
-        Opened::Heard(h, c, read) => respond(store, reply, &used, context, call, h, c, read),
     }
 }
 

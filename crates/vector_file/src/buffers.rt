@@ -1,5 +1,7 @@
-// Work on whole buffers: filling, comparing, and the digest.
+// The buffers that the rows fill and the entries are lent, and the digest of a buffer.
 ghost use Rattle.std.specs.Prelude.{◌<◌};
+
+use crate::numbers::Numbers;
 
 // The room for each buffer.
 pub const STORE_ROOM: usize = 535829;
@@ -12,43 +14,32 @@ pub const REPLY_ROOM: usize = 33800;
 
 pub const TABLE_ROOM: usize = 33056;
 
-pub type Store = [u8; STORE_ROOM];
-
-pub type Old = [u8; OLD_ROOM];
-
-pub type Call = [u8; CALL_ROOM];
-
 pub type Reply = [u8; REPLY_ROOM];
-
-pub type Table = [u8; TABLE_ROOM];
 
 // The last place of a reply space.
 pub const LAST_PLACE: usize = REPLY_ROOM - 1;
 
-// Gives every byte of buf this value.
-pub fn fill(buf: &mut [u8], value: u8) {
-    for byte in buf.iter_mut() {
-        *byte = value;
-    }
+// The table of numbers, the buffers, and the reply that is wanted. How much is lent of each buffer is a number of the table, since a row of the file
+// sets it.
+#[derive(Drop)]
+pub struct Buffers {
+    pub numbers: Numbers,
+    pub store: [u8; STORE_ROOM],
+    pub call: [u8; CALL_ROOM],
+    pub reply: Reply,
+    pub want: Reply,
+    pub old: [u8; OLD_ROOM],
+    pub table: [u8; TABLE_ROOM],
 }
 
 // The first place at which two reply spaces differ, or their last.
 pub fn first_difference(a: &Reply, b: &Reply) -> usize
     ensures { result < 33800 }
 {
-    for i in 0..LAST_PLACE {
-        if a[i] != b[i] {
-            return i;
-        }
-    }
-    LAST_PLACE
-}
-
-// A byte as a number of 32 bits.
-pub fn wide(x: u8) -> u32
-    ensures { result < 256 }
-{
-    x as u32
+    a.iter()
+        .zip(b)
+        .position(|(x, y)| x != y)
+        .unwrap_or(LAST_PLACE)
 }
 
 // The two lanes of a digest.
@@ -60,15 +51,12 @@ pub struct Lanes {
 
 // The digest of a buffer.
 pub fn digest(bytes: &[u8]) -> Lanes {
-    let mut a: u64 = 2166136261;
-    let mut b: u64 = 1;
+    let mut first: u32 = 2166136261;
+    let mut second: u32 = 1;
     for byte in bytes {
-        let byte = wide(*byte) as u64;
-        a = (a * 16777619 + byte) % 4294967296;
-        b = (b * 2246822519 + byte + 1) % 4294967296;
+        let byte = u32::from(*byte);
+        first = first.wrapping_mul(16777619).wrapping_add(byte);
+        second = second.wrapping_mul(2246822519).wrapping_add(byte + 1);
     }
-    Lanes {
-        first: a as u32,
-        second: b as u32,
-    }
+    Lanes { first, second }
 }

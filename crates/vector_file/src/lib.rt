@@ -3,7 +3,7 @@
 
 pub mod tags; // what the rows name
 pub mod numbers; // the table of numbers
-pub mod buffers; // filling, comparing, and the digest of a buffer
+pub mod buffers; // the buffers, and the digest of one
 pub mod report; // what is printed
 pub mod rows; // reading the file row by row
 pub mod judge; // what came back against what is wanted

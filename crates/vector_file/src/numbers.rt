@@ -15,8 +15,3 @@ pub fn count(numbers: &mut Numbers, tag: usize)
 pub fn hyper(high: u32, low: u32) -> u64 {
     high as u64 * 4294967296 + low as u64
 }
-
-// A number of the table as a length.
-pub fn size(n: u32) -> usize {
-    n as usize
-}

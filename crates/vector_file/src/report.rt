@@ -3,68 +3,48 @@ use crate::numbers::{Numbers, count};
 use crate::tags::Tag;
 use std::io;
 
-// Prints a text and a number after it.
-fn print(rt: &impl Print, text: &str, n: u32) -> io::Result<()> {
-    print!(rt; "{text}{n}")
-}
-
-// Prints the first n bytes of a text, if it has as many.
-pub fn print_front(rt: &impl Print, text: &[u8], n: usize) -> io::Result<()> {
-    if n <= text.len() {
-        rt.write_all(&text[0..n])?;
-    }
-    Ok(())
-}
-
-// Starts a line on the step that is under way.
-fn print_step(rt: &impl Print, numbers: &Numbers, text: &str, n: u32) -> io::Result<()> {
-    print(rt, "run ", numbers[Tag::RUN])?;
-    print(rt, ", step ", numbers[Tag::STEP])?;
-    print(rt, text, n)
-}
-
 // Counts and prints a number that did not come back as wanted.
 pub fn print_difference(
     rt: &impl Print,
     numbers: &mut Numbers,
-    tag: u32,
+    tag: usize,
     found: u32,
     wanted: u32,
 ) -> io::Result<()> {
     count(numbers, Tag::DIFFERENCES);
-    print_step(rt, numbers, ": number ", tag)?;
-    print(rt, " is ", found)?;
-    print(rt, ", not ", wanted)?;
-    println!(rt)
+    let run = numbers[Tag::RUN];
+    let step = numbers[Tag::STEP];
+    println!(rt; "run {run}, step {step}: number {tag} is {found}, not {wanted}")
 }
 
 // Ends a line by what the last search found and how many byte pairs it compared.
 pub fn print_search(rt: &impl Print, numbers: &Numbers) -> io::Result<()> {
-    let answer = numbers[Tag::SEARCHED];
-    if answer == 0 {
-        print!(rt; " no record")?;
-    } else {
-        print(rt, " record ", answer - 1)?;
+    let pairs = numbers[Tag::PAIRS + Tag::FOUND];
+    match numbers[Tag::SEARCHED].checked_sub(1) {
+        Some(record) => println!(rt; " record {record}, {pairs} pairs"),
+        None => println!(rt; " no record, {pairs} pairs"),
     }
-    print(rt, ", ", numbers[Tag::PAIRS + Tag::FOUND])?;
-    println!(rt; " pairs")
 }
 
 // The last line where a row is at fault: the file is cut, the tag is unknown, or the word does not fit the buffers or the runs so far.
-pub fn print_fault(rt: &impl Print, numbers: &Numbers, tag: u32) -> io::Result<()> {
-    print_step(rt, numbers, ": the file is at fault in a row of tag ", tag)?;
-    println!(rt)
+pub fn print_fault(rt: &impl Print, numbers: &Numbers, tag: u8) -> io::Result<()> {
+    let run = numbers[Tag::RUN];
+    let step = numbers[Tag::STEP];
+    println!(rt; "run {run}, step {step}: the file is at fault in a row of tag {tag}")
 }
 
 // The last line: how many steps of each kind there were.
 pub fn print_total(rt: &impl Print, numbers: &Numbers) -> io::Result<()> {
-    print(rt, "total: ", numbers[Tag::RUN])?;
-    print(rt, " runs, ", numbers[Tag::CALL_ENTRY])?;
-    print(rt, " calls, ", numbers[Tag::FORMAT_ENTRY])?;
-    print(rt, " formats, ", numbers[Tag::CHECK_ENTRY])?;
-    print(rt, " checks, ", numbers[Tag::CONVERT_ENTRY])?;
-    print(rt, " conversions, ", numbers[Tag::SEARCH_ENTRY])?;
-    print(rt, " searches, ", numbers[Tag::MOUNT_ENTRY])?;
-    print(rt, " mounts, ", numbers[Tag::DIFFERENCES])?;
-    println!(rt; " differences")
+    let runs = numbers[Tag::RUN];
+    let calls = numbers[Tag::CALL_ENTRY];
+    let formats = numbers[Tag::FORMAT_ENTRY];
+    let checks = numbers[Tag::CHECK_ENTRY];
+    print!(rt; "total: {runs} runs, {calls} calls, {formats} formats, {checks} checks, ")?;
+    let conversions = numbers[Tag::CONVERT_ENTRY];
+    let searches = numbers[Tag::SEARCH_ENTRY];
+    let mounts = numbers[Tag::MOUNT_ENTRY];
+    let differences = numbers[Tag::DIFFERENCES];
+    println!(rt;
+        "{conversions} conversions, {searches} searches, {mounts} mounts, {differences} differences"
+    )
 }

@@ -1,9 +1,7 @@
 // Reading the file row by row.
-ghost use Rattle.std.specs.Prelude.{◌<◌, IfOk};
-
-use crate::buffers::{Call, Old, Reply, Store, Table, fill, wide};
-use crate::numbers::{Numbers, count};
-use crate::report::{print_front, print_search};
+use crate::buffers::Buffers;
+use crate::numbers::count;
+use crate::report::print_search;
 use crate::tags::Tag;
 use std::io;
 use std::io::{ErrorKind, Read};
@@ -13,7 +11,7 @@ const STORE_BYTE: u8 = 0xA5;
 
 #[derive(Clone, Copy)]
 pub struct Row {
-    pub tag: usize,
+    pub tag: u8,
     pub word: u32,
 }
 
@@ -26,21 +24,16 @@ fn read_full<R: Read>(reader: &mut R, buf: &mut [u8]) -> io::Result<bool> {
     }
 }
 
-// The next row, or one of no tag where the file has ended.
-pub fn read_row<R: Read>(reader: &mut R) -> io::Result<Row>
-    ensures { IfOk result (λ row. row.tag < 256) }
-{
+// The next row; none where the file has ended.
+pub fn read_row<R: Read>(reader: &mut R) -> io::Result<Option<Row>> {
     let mut bytes = [0u8; 5];
     if !read_full(reader, &mut bytes)? {
-        return Ok(Row {
-            tag: Tag::NONE,
-            word: 0,
-        });
+        return Ok(None);
     }
-    Ok(Row {
-        tag: wide(bytes[0]) as usize,
+    Ok(Some(Row {
+        tag: bytes[0],
         word: wire::get_u32(&bytes, 1),
-    })
+    }))
 }
 
 // Reads n bytes to buf from this place on, inside what is lent of it.
@@ -64,12 +57,15 @@ const TEXT_ROOM: usize = 160;
 
 // Prints the n bytes that follow in the file.
 fn copy_text<R: Read>(rt: &impl Print, reader: &mut R, n: u32) -> io::Result<bool> {
-    let mut text = [0u8; TEXT_ROOM];
-    let good = read_bytes(reader, &mut text, 0, n, n)?;
-    if good {
-        print_front(rt, &text, n as usize)?;
+    let mut room = [0u8; TEXT_ROOM];
+    let Some(text) = room.get_mut(..n as usize) else {
+        return Ok(false);
+    };
+    if !read_full(reader, text)? {
+        return Ok(false);
     }
-    Ok(good)
+    rt.write_all(text)?;
+    Ok(true)
 }
 
 // Takes a row that calls no entry: false where it is at fault.
@@ -77,44 +73,52 @@ pub fn take<R: Read>(
     rt: &impl Print,
     reader: &mut R,
     row: Row,
-    numbers: &mut Numbers,
-    store: &mut Store,
-    call: &mut Call,
-    want: &mut Reply,
-    old: &mut Old,
-    table: &mut Table,
-) -> io::Result<bool>
-    requires { row.tag < 256 }
-{
-    let tag = row.tag;
+    buffers: &mut Buffers,
+) -> io::Result<bool> {
+    let tag = row.tag as usize;
     let word = row.word;
-    let place = numbers[Tag::PLACE];
+    let place = buffers.numbers[Tag::PLACE];
     match tag {
         0..=Tag::LAST_GIVEN | Tag::FIRST_WANTED..=Tag::LAST_WANTED => {
-            numbers[tag] = word;
+            buffers.numbers[tag] = word;
             Ok(true)
         }
-        Tag::STORE => read_bytes(reader, store, place, word, numbers[Tag::STORE_LENGTH]),
-        Tag::CALL => read_bytes(reader, call, place, word, numbers[Tag::CALL_LENGTH]),
-        Tag::REPLY => read_bytes(reader, want, place, word, numbers[Tag::REPLY_LENGTH]),
-        Tag::OLD => read_bytes(reader, old, place, word, numbers[Tag::OLD_LENGTH]),
+        Tag::STORE => {
+            let lent = buffers.numbers[Tag::STORE_LENGTH];
+            read_bytes(reader, &mut buffers.store, place, word, lent)
+        }
+        Tag::CALL => {
+            let lent = buffers.numbers[Tag::CALL_LENGTH];
+            read_bytes(reader, &mut buffers.call, place, word, lent)
+        }
+        Tag::REPLY => {
+            let lent = buffers.numbers[Tag::REPLY_LENGTH];
+            read_bytes(reader, &mut buffers.want, place, word, lent)
+        }
+        Tag::OLD => {
+            let lent = buffers.numbers[Tag::OLD_LENGTH];
+            read_bytes(reader, &mut buffers.old, place, word, lent)
+        }
         Tag::TEXT => copy_text(rt, reader, word),
-        Tag::TABLE => read_bytes(reader, table, place, word, numbers[Tag::TABLE_LENGTH]),
+        Tag::TABLE => {
+            let lent = buffers.numbers[Tag::TABLE_LENGTH];
+            read_bytes(reader, &mut buffers.table, place, word, lent)
+        }
         Tag::SHOW => {
-            print_search(rt, numbers)?;
+            print_search(rt, &buffers.numbers)?;
             Ok(word == 0)
         }
         Tag::CLEAR_TABLE => {
-            fill(table, 0);
+            buffers.table.fill(0);
             Ok(word == 0)
         }
         Tag::RUN => {
-            count(numbers, Tag::RUN);
-            numbers[Tag::STEP] = 0;
-            fill(store, STORE_BYTE);
-            Ok(numbers[Tag::RUN] == word)
+            count(&mut buffers.numbers, Tag::RUN);
+            buffers.numbers[Tag::STEP] = 0;
+            buffers.store.fill(STORE_BYTE);
+            Ok(buffers.numbers[Tag::RUN] == word)
         }
-        Tag::END => Ok(numbers[Tag::RUN] == word),
+        Tag::END => Ok(buffers.numbers[Tag::RUN] == word),
         _ => Ok(false),
     }
 }

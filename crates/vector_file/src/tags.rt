@@ -110,10 +110,11 @@ impl Tag {
     // What the last search answered: 0, or one more than the number of the record that it found.
     pub const SEARCHED: usize = 252;
 
-    // The steps of the run, and how many things differed; a row that is not there.
+    // The steps of the run, and how many things differed.
     pub const STEP: usize = 253;
 
     pub const DIFFERENCES: usize = 254;
 
-    pub const NONE: usize = 255;
+    // What is named where a row is not there.
+    pub const NONE: u8 = 255;
 }

@@ -11,11 +11,9 @@ use std::fs::File;
 use std::io;
 use std::io::{BufReader, Read};
 use std::rt::Files;
-use vector_file::buffers::{
-    CALL_ROOM, Call, OLD_ROOM, Old, REPLY_ROOM, Reply, STORE_ROOM, Store, TABLE_ROOM, Table,
-};
+use vector_file::buffers::{Buffers, CALL_ROOM, OLD_ROOM, REPLY_ROOM, STORE_ROOM, TABLE_ROOM};
 use vector_file::judge::{SPACE_BYTE, goes_on};
-use vector_file::numbers::Numbers;
+use vector_file::report::print_fault;
 use vector_file::rows::{read_row, take};
 use vector_file::tags::Tag;
 
@@ -50,51 +48,40 @@ fn print_not_opened(
 }
 
 // Takes the next row of the file, and says whether there is more to read.
-fn turn<R: Read>(
-    rt: &impl Print,
-    reader: &mut R,
-    numbers: &mut Numbers,
-    store: &mut Store,
-    call: &mut Call,
-    reply: &mut Reply,
-    want: &mut Reply,
-    old: &mut Old,
-    table: &mut Table,
-) -> io::Result<bool> {
-    let row = read_row(reader)?;
-    let good = if row.tag < Tag::FIRST_ENTRY {
-        take(rt, reader, row, numbers, store, call, want, old, table)?
-    } else {
-        step(row.tag, numbers, store, call, reply, old, table)
+fn turn<R: Read>(rt: &impl Print, reader: &mut R, buffers: &mut Buffers) -> io::Result<bool> {
+    let Some(row) = read_row(reader)? else {
+        print_fault(rt, &buffers.numbers, Tag::NONE)?;
+        return Ok(false);
     };
-    goes_on(rt, row, good, numbers, reply, want)
+    let tag = row.tag as usize;
+    let good = if tag < Tag::FIRST_ENTRY {
+        take(rt, reader, row, buffers)?
+    } else {
+        step(tag, buffers).is_some()
+    };
+    if !good {
+        print_fault(rt, &buffers.numbers, row.tag)?;
+        return Ok(false);
+    }
+    goes_on(rt, row, buffers)
 }
 
 // The most rows that are read of a file.
 const MOST_ROWS: u32 = 10000000;
 
-// Runs the rows of the file. The arrays are lent as slices below this function only.
+// Runs the rows of the file.
 fn run<R: Read>(rt: &impl Print, reader: &mut R) -> io::Result<()> {
-    let mut numbers = [0u32; 256];
-    let mut store = [0u8; STORE_ROOM];
-    let mut call = [0u8; CALL_ROOM];
-    let mut reply = [SPACE_BYTE; REPLY_ROOM];
-    let mut want = [SPACE_BYTE; REPLY_ROOM];
-    let mut old = [0u8; OLD_ROOM];
-    let mut table = [0u8; TABLE_ROOM];
+    let mut buffers = Buffers {
+        numbers: [0; 256],
+        store: [0; STORE_ROOM],
+        call: [0; CALL_ROOM],
+        reply: [SPACE_BYTE; REPLY_ROOM],
+        want: [SPACE_BYTE; REPLY_ROOM],
+        old: [0; OLD_ROOM],
+        table: [0; TABLE_ROOM],
+    };
     for _ in 0..MOST_ROWS {
-        let has_more = turn(
-            rt,
-            reader,
-            &mut numbers,
-            &mut store,
-            &mut call,
-            &mut reply,
-            &mut want,
-            &mut old,
-            &mut table,
-        )?;
-        if !has_more {
+        if !turn(rt, reader, &mut buffers)? {
             break;
         }
     }
