@@ -5,6 +5,8 @@ use mathlib.Core.Path.{◌≡◌, refl}
 use native.Mathlib.Omega.{arith}
 use lib.Dec.{lit≤}
 use lib.ListN.{length, take, length-append, length-replicate}
+use Rattle.std.specs.Prelude.{Option}
+use Rattle.kinds.specs.declared.numbers.ObjectNumber.{ObjectNumber}
 use Rattle.kinds.specs.Numbers.{OK, least_reply_bytes, most_transfer_bytes, listing_cost}
 use Rattle.spec.specs.Bytes.{bytes_of, words, opaque_bytes}
 use Rattle.spec.specs.Edits.{read_file}
@@ -19,8 +21,7 @@ use Rattle.laws.proofs.Words.{words_length, opaque_length}
 use Rattle.rpc.proofs.Stopped.{accepted_length}
 use Rattle.results.specs.Meaning.{handle_attributes_in, handle_change_in, result_of}
 use Rattle.results.specs.Writable.{Writable}
-use Rattle.results.specs.declared.HandleChange.{HandleChange}
-use Rattle.results.specs.declared.HandleObject.{HandleObject}
+use Rattle.results.specs.declared.ObjectChange.{ObjectChange}
 use Rattle.results.specs.declared.Reply.{Reply}
 use Rattle.reply_bodies.proofs.Sizes.{change_small, object_small}
 use Rattle.reply_fields.proofs.ZeroWords.{zero_words_small}
@@ -29,14 +30,14 @@ use Rattle.reply_fields.proofs.ZeroWords.{zero_words_small}
 abbrev Short : List ℕ → Type 0
 Short results = 24 + length results ≤ least_reply_bytes
 
-renamed_short : (s : Store) (status : ℕ) (c d : HandleChange)
+renamed_short : (s : Store) (status : ℕ) (c d : Option ObjectChange)
     → Short (words (status ∷ wcc_option (handle_change_in s c) ++ wcc_option (handle_change_in s d)))
 renamed_short s status c d =
     let k = change_small s c in
     let l = change_small s d in
     rw (words_length, length-append) (omega arith)
 
-linked_short : (s : Store) (status : ℕ) (o : HandleObject) (c : HandleChange)
+linked_short : (s : Store) (status : ℕ) (o : Option ObjectNumber) (c : Option ObjectChange)
     → Short (words (status ∷ post_op_option (handle_attributes_in s o) ++ wcc_option (handle_change_in s c)))
 linked_short s status o c =
     let k = object_small s o in

@@ -4,7 +4,6 @@ ghost use Rattle.std.specs.Prelude.{◌≤◌};
 use fsck::check::check_store;
 use kinds::call::Part;
 use kinds::numbers::{Answer, Limit, ObjectNumber};
-use store_search::found::FoundName;
 use store_search::search::search_name;
 use vector_file::numbers::Numbers;
 use vector_file::tags::Tag;
@@ -29,10 +28,9 @@ pub fn search(numbers: &mut Numbers, store: &[u8], call: &[u8]) -> Option<Answer
         length: call.len(),
     };
     let result = search_name(store, directory, call, name);
-    let found = result.found;
-    let number = match found {
-        FoundName::Nothing => 0,
-        FoundName::At(n) => narrow(n.0) + 1,
+    let number = match result.found {
+        None => 0,
+        Some(n) => narrow(n.0) + 1,
     };
     numbers[Tag::SEARCHED] = number;
     numbers[Tag::PAIRS + Tag::FOUND] = narrow(result.compared);
