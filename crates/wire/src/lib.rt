@@ -81,7 +81,7 @@ pub fn put_u64(s: &mut [u8], at: usize, v: u64)
     s[at..at + 8].copy_from_slice(&v.to_be_bytes());
 }
 
-// How many bytes are copied at a time. As one, a copy of some hundred thousand bytes takes four times as many instructions: `memcpy` moves it byte by byte.
+// How many bytes are copied at a time. All at once, the conversion of a full store takes four times as many instructions: `memcpy` moves a long copy byte by byte.
 const PIECE: usize = 1024;
 
 // Copies the len bytes of src from `from` into dst from `at`.
@@ -155,7 +155,7 @@ fn compare_four(a: &[u8], at: usize, b: &[u8], from: usize) -> Compared
 
 // Compares the len bytes of a from `at` with those of b from `from`, pair by pair, up to the first difference. No byte behind it is
 // read (document 02, E4), so that whole words are not compared. Four in a row are written out, and the loop goes on by four: with a loop over single bytes
-// alone, a LOOKUP of the last name of a full store takes 17 % more instructions.
+// alone, a LOOKUP of the last name of a full store takes 29 % more instructions.
 pub fn compare_bytes(a: &[u8], at: usize, b: &[u8], from: usize, len: usize) -> Compared
     requires len_in_bounds { at + len ≤ length a.now }
     requires len_in_bounds_2 { from + len ≤ length b.now }
