@@ -14,7 +14,6 @@ use Rattle.mount_spec.specs.Table.{Table, passes_table}
 use Rattle.mount_laws.proofs.Checked.{table_passes}
 use Rattle.mount_laws.proofs.Good.{row_short}
 use Rattle.mount_results.specs.declared.MountReply.{MountReply}
-use Rattle.mount_results.specs.declared.MountReply.TheVariants as MountReply
 use Rattle.mount_act.specs.Acts.{Acts, Mountable}
 use Rattle.mount_reply.specs.Fits.{Fits, WritableMount}
 

@@ -18,7 +18,6 @@ use Rattle.mount_spec.specs.Table.{Table, row_start, path_length, row_at, is_use
 use Rattle.mount_laws.proofs.Paths.{part_most}
 use Rattle.mount_results.specs.Meaning.{result_of}
 use Rattle.mount_results.specs.declared.MountReply.{MountReply}
-use Rattle.mount_results.specs.declared.MountReply.TheVariants as MountReply
 use Rattle.mount_reply.specs.Fits.{Fits, WritableMount, most_mount_bytes}
 use Rattle.mount_reply.proofs.Decimals.{dotted_length}
 

@@ -1,5 +1,4 @@
 use native.Mathlib.Omega.{arith}
-use borrow.Author.Rules.{rules}
 use Rattle.mount3.proofs.Fitting.{acts_writable}
 use Rattle.mount3.proofs.Sent.{sends_done}
 use Rattle.mount3.proofs.Short.{reply_short}

@@ -1,7 +1,5 @@
 use mathlib.Core.Path.{sym, ap, ◌∙◌}
 use native.Mathlib.Omega.{arith}
-use borrow.Author.Rules.{rules}
-use borrow.Author.Tests.{not-true, not-false}
 use Rattle.kinds.specs.Numbers.{most_blocks, most_objects}
 use Rattle.fsck.proofs.Filled.{blank_of}
 use Rattle.fsck.proofs.Verdict.{bad_fails, good_passes}
