@@ -1,5 +1,6 @@
 -- A row as the code finds it: whether it is used, its digest, and whether it passes by itself, test by test. Assumes nothing.
 use Rattle.std.proofs.Common.{◌≡◌, ℕ, zero, suc, ◌+◌, ◌-◌, ◌<◌, ◌≤◌, true, false, ◌&&◌, eqb, leb, List, length, get_or, arith, eq-eqb, ne_eqb}
+use Rattle.std.specs.Int.{div_ceil}
 use Rattle.kinds.specs.Mount.{most_path_bytes, path_offset}
 use Rattle.spec.specs.Bytes.{part}
 use Rattle.spec.specs.Check.{is_zero}
@@ -15,6 +16,10 @@ starts : (b : List ℕ) (at n : ℕ) → 1 ≤ n → at < length b → starts_wi
 unfolding starts_with_slash
 starts b at zero h l = absurd (omega arith)
 starts b at (suc n) h l = rw (part_cons b at n l)
+
+-- how many groups hold n bytes
+pub groups : (n k : ℕ) → k ≡ div_ceil n 32 → k ≡ groups_of n
+groups n k e = omega arith
 
 module _ (t : Table) (r n : ℕ) (m : n ≡ path_length t r) where
   pub free_by : n ≡ 0 → is_used_row t r ≡ false

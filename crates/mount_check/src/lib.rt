@@ -111,7 +111,7 @@ fn row_passes(table: &[u8], r: RowNumber, digests: &mut [usize; Row::COUNT]) -> 
     if n == 0 {
         return true;
     }
-    let own = sum_words(table, row_place(r) + Row::PATH, (n + 31) / 32);
+    let own = sum_words(table, row_place(r) + Row::PATH, n.div_ceil(32));
     if !is_new_pair(table, r, own, digests) {
         return false;
     }
