@@ -22,6 +22,7 @@ use results::{ObjectChange, Reply};
 use store_attributes::before;
 
 // A failure shows the file and the directory, each where its handle is live.
+// Not one function with act_remove's fail_renaming: other types, another variant of Reply and another clause, so that all three would be parameters.
 fn fail_linking(store: &[u8], call: &[u8], file: Part, directory: Part, status: Status) -> Reply
     requires good_records { GoodRecords store.now }
     requires length_in_bounds { file.start + file.length ≤ length call.now }

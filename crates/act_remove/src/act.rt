@@ -56,6 +56,7 @@ pub fn remove(store: &mut [u8], context: Context, call: &[u8], p: NameIn) -> Rep
     }
 }
 
+// Not one function with remove: only the match is shared, and a function for both would take the check and its procedure of the specification.
 #[tactic(auto, unfolding(spec::specs::Procedures::Removal::rmdir, spec::specs::Procedures::Removal::remove_from))]
 pub fn rmdir(store: &mut [u8], context: Context, call: &[u8], p: NameIn) -> Reply
     requires valid { Valid store.old }

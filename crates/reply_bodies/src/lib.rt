@@ -102,6 +102,7 @@ pub fn put_renamed(
 }
 
 // LINK, whole: the status, the post_op_attr of the file and the wcc_data of the directory.
+// Not one function with put_renamed: the first parts have two types, each with its own writer and its own clauses.
 pub fn put_linked(
     reply: &mut [u8],
     at: usize,
