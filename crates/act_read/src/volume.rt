@@ -61,6 +61,7 @@ pub fn fsinfo(store: &[u8], call: &[u8], h: Part) -> Reply
     }
 }
 
+// Not one function with fsinfo: only the match is shared, as with every procedure that shows an object.
 #[tactic(auto, unfolding(spec::specs::Procedures::Volume::pathconf))]
 pub fn pathconf(store: &[u8], call: &[u8], h: Part) -> Reply
     requires good_records { GoodRecords store.now }

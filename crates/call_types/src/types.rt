@@ -67,7 +67,7 @@ pub fn set_number(s: &[u8], c: Cursor) -> Read<Option<u32>>
     Ok((Some(n), c))
 }
 
-// set_size3.
+// set_size3. Not one function with set_number and guard: they share three lines, and it would take the reader of the value as a closure, with clauses on it.
 #[tactic(auto, unfolding(spec::specs::Arguments::set_size))]
 pub fn set_size(s: &[u8], c: Cursor) -> Read<Option<u64>>
     ensures { read_of result ≡ set_size s.now c.at }

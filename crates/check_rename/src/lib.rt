@@ -68,7 +68,7 @@ fn check_onto(
         return Ok(Onto::NewName);
     };
     let other = name_child(store, m);
-    if other.0 == o.0 {
+    if other == o {
         return Ok(Onto::SameObject);
     }
     if !is_replaceable(store, o, other) {

@@ -45,7 +45,7 @@ fn same_name(store: &[u8], p: usize, m: NameNumber, n: NameNumber) -> bool
 {
     let directory = directory_of(store, p, m);
     let other = directory_of(store, p, n);
-    let same = directory.0 == other.0;
+    let same = directory == other;
     same & same_text(
         store,
         name_place(p, m) + NameRecord::TEXT,

@@ -20,7 +20,7 @@ use mount_reply::result::put_mount_result;
 use rpc::admit::{Heard, admit, replied};
 use rpc::outcome::Program;
 
-// MOUNT version 3.
+// MOUNT version 3: the numbers of MOUNT, as those of NFS stand in rpc.
 fn program() -> Program
     ensures { program_of result ≡ mount3 }
 {

@@ -121,7 +121,7 @@ pub fn put_linked(
     put_wcc_option(reply, behind, store, c)
 }
 
-// GETATTR, whole: OK, and the fattr3 of the object.
+// GETATTR, whole: OK, and the fattr3 of the object. Not one function with put_post_op_attr: its word is a status, that one a boolean.
 pub fn put_got_attributes(reply: &mut [u8], at: usize, store: &[u8], o: ObjectNumber) -> usize
     requires at_in_bounds { at + 88 ≤ length reply.old }
     requires showable { Showable store.now o.0 }

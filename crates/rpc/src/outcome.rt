@@ -79,7 +79,7 @@ pub fn put_denied(reply: &mut [u8], xid: u32) -> usize
     put_words(reply, 0, &ws)
 }
 
-// The head of an accepted reply.
+// The head of an accepted reply. The accept_stat is the number that the reply holds: SUCCESS, or that of an AcceptStat.
 pub fn put_head(reply: &mut [u8], xid: u32, stat: u32) -> usize
     requires { 24 ≤ length reply.old }
     ensures { Wrote 24 reply.old reply.new 0 result (head xid stat) }

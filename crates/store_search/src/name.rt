@@ -107,12 +107,13 @@ pub fn parent_table(store: &[u8]) -> [u8; Limit::MOST_OBJECTS]
 }
 
 // Whether a record is used, and in a directory.
+#[tactic(auto, unfolding(spec::specs::Room::is_in))]
 pub fn is_in(store: &[u8], n: NameNumber, directory: ObjectNumber) -> bool
     requires { name_start store.now n.0 + name_record_length ≤ length store.now }
     ensures { result ≡ is_in store.now directory.0 n.0 }
 {
     let d = name_directory(store, n);
-    if d.0 != directory.0 {
+    if d != directory {
         return false;
     }
     is_used_name(store, n)

@@ -9,7 +9,7 @@ pub fn index(x: u8) -> usize
     x as usize
 }
 
-// The number in the eight bytes from `at`, least significant first: one load for the compiler.
+// The number in the eight bytes from `at`, least significant first, unlike get_u64: one load for the compiler.
 pub fn word_at(s: &[u8], at: usize) -> usize
     requires { at + 8 ≤ length s.now }
     ensures { result ≡ word_at s.now at }

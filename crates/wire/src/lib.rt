@@ -40,7 +40,7 @@ pub fn get_u32(s: &[u8], at: usize) -> u32
     u32::from_be_bytes([s[at], s[at + 1], s[at + 2], s[at + 3]])
 }
 
-// Writes v into the two bytes from `at`.
+// Writes v into the two bytes from `at`. This, put_u32 and put_u64 are a line each: one function over the type would take a trait of `to_be_bytes` for it.
 pub fn put_u16(s: &mut [u8], at: usize, v: u16)
     requires { at + 2 ≤ length s.old }
     ensures { s.new ≡ overlay s.old at (bytes_of 2 v) }

@@ -44,7 +44,7 @@ pub fn word(s: &[u8], c: Cursor) -> Read<u32>
     Ok((wire::get_u32(s, c.at), next))
 }
 
-// An unsigned hyper, or 8 bytes of fixed-length opaque data as a number.
+// An unsigned hyper, or 8 bytes of fixed-length opaque data as a number. Not one function with word: of its two lines each names the width.
 #[tactic(auto, unfolding(spec::specs::Xdr::long, spec::specs::Xdr::number, spec::specs::Xdr::bytes))]
 pub fn long(s: &[u8], c: Cursor) -> Read<u64>
     ensures { read_of result ≡ long s.now c.at }
