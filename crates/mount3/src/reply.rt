@@ -32,7 +32,8 @@ fn program() -> Program
     }
 }
 
-// Runs a procedure, and writes its reply.
+// Runs a procedure, and writes its reply. Not one function with that of entry_reply: the procedures, the buffers they write and the promise differ, and
+// what is left in common is `replied`.
 fn finish(
     store: &[u8],
     table: &mut [u8],

@@ -10,7 +10,8 @@ use rpc::admit::Heard;
 use rpc::header::fault;
 
 // Tests the reply space, the call's length, the store, the table and the header, in this order: the call as it was heard, or the number and the offset
-// of the answer that refuses it.
+// of the answer that refuses it. Not one function with that of entry_tests: the clock stands there between the first two tests, the table here after the
+// store.
 pub fn open(
     call: &[u8],
     store: &[u8],

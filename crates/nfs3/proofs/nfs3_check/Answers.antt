@@ -3,7 +3,6 @@ use Rattle.kinds.specs.Numbers.{most_blocks, most_objects}
 use Rattle.fsck.proofs.Filled.{blank_of}
 use Rattle.fsck.proofs.Verdict.{bad_fails, good_passes}
 use Rattle.nfs3.proofs.Answered.{answer_bad, answer_good}
-use borrow.Author.Rules.{rules}
 use Rattle.nfs3.proofs.nfs3_check.Goals as goal
 
 pub check_store-found-requires-clause-blank : goal.check_store-found-requires-clause-blank

@@ -1,5 +1,4 @@
 use Rattle.nfs3.proofs.Answered.{writes_by}
-use borrow.Author.Rules.{rules}
 use Rattle.nfs3.proofs.nfs3_convert.Goals as goal
 
 pub returns : goal.returns
