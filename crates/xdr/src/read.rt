@@ -76,25 +76,24 @@ pub fn flag(s: &[u8], c: Cursor) -> Read<bool>
 }
 
 // Variable-length opaque data of at most `most` bytes, with its padding, which may be any bytes.
-#[tactic(auto, unfolding(spec::specs::Xdr::opaque))]
 pub fn opaque(s: &[u8], c: Cursor, most: usize) -> Read<Part>
     ensures { read_of result ≡ opaque most s.now c.at }
 {
     let refused = Err(BadField(c.at));
-    let Ok((n, next)) = word(s, c) else {
+    let Ok((n, c1)) = word(s, c) else {
         return refused;
     };
     let length = n as usize;
     if most < length {
         return refused;
     }
-    let Ok((part, next)) = bytes(s, next, length) else {
+    // At once: the part and then its padding take 1 % more instructions of a small call.
+    let rest = padding(length);
+    let Ok((_, next)) = bytes(s, c1, length + rest) else {
         return refused;
     };
-    let Ok((_, next)) = bytes(s, next, padding(length)) else {
-        return refused;
-    };
-    Ok((part, next))
+    let start = c1.at;
+    Ok((Part { start, length }, next))
 }
 
 // The end of the call: nothing is left over.
