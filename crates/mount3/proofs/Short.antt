@@ -19,7 +19,6 @@ use Rattle.mount_laws.proofs.Paths.{part_most}
 use Rattle.mount_results.specs.Meaning.{result_of}
 use Rattle.mount_results.specs.declared.MountReply.{MountReply}
 use Rattle.mount_reply.specs.Fits.{Fits, WritableMount, most_mount_bytes}
-use Rattle.mount_reply.proofs.Decimals.{dotted_length}
 
 -- ---- the list of mounts
 -- a number in decimal has at most three digits, and a host as dotted decimal at most fifteen bytes
@@ -28,15 +27,13 @@ unfolding decimal
 decimal_short n = by_bool (ltb n 10) (λ a. rw a (lit≤ tt)) (λ a. by_bool (ltb n 100) (λ b. rw (a, b) (lit≤ tt)) (λ b. rw (a, b) (lit≤ tt)))
 
 dotted_short : (host : ℕ) → length (dotted host) ≤ 15
+unfolding dotted
 dotted_short host =
-    omega (
-      arith,
-      dotted_length host,
-      decimal_short (host / 16777216),
-      decimal_short (host / 65536 % 256),
-      decimal_short (host / 256 % 256),
-      decimal_short (host % 256),
-    )
+    let a = decimal_short (host / 16777216) in
+    let b = decimal_short (host / 65536 % 256) in
+    let c = decimal_short (host / 256 % 256) in
+    let d = decimal_short (host % 256) in
+    simp length-append (omega arith)
 
 -- a string whose bytes fit into k words
 opaque_short : (xs : List ℕ) (k : ℕ) → length xs ≤ 4 * k → length (opaque_bytes xs) ≤ 4 + 4 * k
