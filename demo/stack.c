@@ -5,8 +5,7 @@
  * depth, a table that is filled, listed and emptied, and damaged ones.
  *
  * Each function runs alone on a stack of its own that was filled with one byte before; the lowest byte that differs afterwards tells how far it
- * went. What is counted has the frame of `run` here in it, and, where the loader binds memset and memmove at their first call, what it takes in that
- * call; demo/stack has it bind them before.
+ * went. What is counted has the frame of `run` here in it, and in the first call what the dynamic linker needs to find memset.
  */
 #define _XOPEN_SOURCE 700
 #include "mount3.h"

@@ -239,8 +239,7 @@ extern "C" {
  * The stack that a function uses at most, but for nfs3_convert. Measured: about 2,700 bytes for a call, 2,000 for the check and 140 for a format,
  * the most over all calls, checks and formats of the vectors in crates/vectors/data, each run on a stack that was filled with one byte before;
  * demo/stack does so and fails where the bound is not twice as much. The frames of these functions in the library's machine code, added up,
- * have below 5,000 bytes; there is no recursion, and nothing outside the library is called but memset and memmove. Where these are bound at their
- * first call, the loader takes some 2,700 bytes in that call; demo/stack has them bound at the start.
+ * have below 5,000 bytes; there is no recursion, and nothing outside the library is called but memset.
  */
 #define NFS3_STACK 8192
 

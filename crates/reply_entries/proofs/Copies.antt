@@ -1,16 +1,14 @@
--- Bytes that are put in the place of a part, and names with the zeros that pad them. Assumes nothing.
+-- Words that are copied one after the other, and names with the zeros that pad them. Assumes nothing.
 use mathlib.Core.Logic.{◌⊎◌}
 use mathlib.Core.Path.{◌≡◌, refl, sym, ap, ◌∙◌}
 use mathlib.Core.List.{List, [], ◌∷◌, ◌++◌, append_assoc}
-use Prim.Native.Nat.{ℕ, zero, suc, ◌+◌, ◌*◌, ◌-◌, ◌/◌, ◌<◌}
+use Prim.Native.Nat.{ℕ, zero, suc, ◌+◌, ◌*◌, ◌-◌, ◌/◌, ◌≤◌, ◌<◌}
 use native.Mathlib.Omega.{arith}
-use borrow.Rule.Slice.PartMut.{put_mid}
 use lib.Dec.{lit<}
-use lib.Seq.{drop-drop}
-use lib.ListN.{length, take, drop}
+use lib.ListN.{length}
 use Rattle.kinds.specs.Layout.{text_offset}
 use Rattle.kinds.specs.Numbers.{most_name_bytes, entry_fixed_cost}
-use Rattle.spec.specs.Bytes.{part, overlay, padding, zeros, words, opaque_bytes}
+use Rattle.spec.specs.Bytes.{part, overlay, padding, zeros, bytes_of, be_at, words, opaque_bytes}
 use Rattle.spec.specs.Image.{Store, names, name_start, name_length}
 use Rattle.spec.specs.Replies.{entry_bytes}
 use Rattle.laws.proofs.Bytes.{part_add}
@@ -20,19 +18,23 @@ use Rattle.laws.proofs.RecordRange.{below_zeros}
 use Rattle.laws.proofs.Valid.{Padded, GoodNameRecord}
 use Rattle.laws.proofs.Words.{words_append}
 use Rattle.laws.proofs.Zeros.{zero_within}
+use Rattle.wire.proofs.Copies as copies
 use Rattle.xdr.specs.Wrote.{Wrote}
 use Rattle.xdr.proofs.Wrote.{and_then}
 use Rattle.reply_entries.specs.Entries.{PaddedName, entry}
 use Rattle.reply_entries.proofs.Hyper.{hyper_small}
 
--- bytes that are put in the place of a part are laid over it
-pub put_overlay : (b : List ℕ) (at n : ℕ) (xs ys : List ℕ) → ys ≡ xs → length xs ≡ n → put_mid at n b ys ≡ overlay b at xs
-unfolding overlay
-put_overlay b at n xs ys e l = rw (e, ← l, drop-drop) (sym (append_assoc (take at b) xs (drop (at + length xs) b)))
+-- one word more
+pub copy_more : (src : List ℕ) (from i : ℕ) (r : List ℕ) (at : ℕ) (r₁ r₂ : List ℕ) (w : ℕ) → Below 256 src → from + 4 * (i + 1) ≤ length src
+    → at + 4 * (i + 1) ≤ length r → r₁ ≡ overlay r at (part src from (4 * i)) → w ≡ be_at src (from + 4 * i) 4
+    → r₂ ≡ overlay r₁ (at + 4 * i) (bytes_of 4 w) → r₂ ≡ overlay r at (part src from (4 * (i + 1)))
+copy_more src from i r at r₁ r₂ w f h k p q o =
+    let e : 4 * (i + 1) ≡ 4 * i + 4 = omega arith in
+    rw e (copies.copy_more r at src from (4 * i) 4 r₁ r₂ (omega arith) (omega arith) p (copies.word_copied src (from + 4 * i) 4 w r₁ r₂ (at + 4 * i) f (omega arith) q o))
 
--- the bytes of a padded name
-pub padded_size : (n : ℕ) → (n + 3) / 4 * 4 ≡ n + padding n
-padded_size n = omega arith
+-- the words of a padded name
+pub padded_words : (n : ℕ) → 4 * ((n + 3) / 4) ≡ n + padding n
+padded_words n = omega arith
 
 -- ---- the name of a record is padded there
 record_padded : (s : Store) (n : ℕ) → GoodNameRecord s n → Padded s n

@@ -26,16 +26,19 @@ pub struct Place {
     pub left: usize,
 }
 
-// A name of len bytes, and zeros up to a multiple of four: src has both from `from`.
+// A name of len bytes, and zeros up to a multiple of four: src has both from `from`. They go word by word: of a number of bytes that the compiler does not
+// know it makes a call of memmove, and nothing outside the libraries is called but memset.
 fn put_padded(reply: &mut [u8], at: usize, src: &[u8], from: usize, len: usize) -> usize
     requires padded_name { PaddedName src.now from len }
     requires len_in_bounds { at + (len + padding len) ≤ length reply.old }
     ensures { Wrote (len + padding len) reply.old reply.new at result (part src.now from len ++ zeros (padding len)) }
 {
-    let size = (len + 3) / 4 * 4;
-    let end = at + size;
-    reply[at..end].copy_from_slice(&src[from..from + size]);
-    end
+    let count = (len + 3) / 4;
+    for k in 0..count {
+        let word = wire::get_u32(src, from + 4 * k);
+        wire::put_u32(reply, at + 4 * k, word);
+    }
+    at + 4 * count
 }
 
 // An entry: the word 1, fileid, name and cookie. The name is the len bytes of src from `from`; `number` is the entry's cookie.
