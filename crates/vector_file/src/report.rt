@@ -27,7 +27,7 @@ pub fn print_search(rt: &impl Print, numbers: &Numbers) -> io::Result<()> {
 }
 
 // The last line where a row is at fault: the file is cut, the tag is unknown, or the word does not fit the buffers or the runs so far.
-pub fn print_fault(rt: &impl Print, numbers: &Numbers, tag: u8) -> io::Result<()> {
+pub fn print_fault(rt: &impl Print, numbers: &Numbers, tag: u32) -> io::Result<()> {
     let run = numbers[Tag::RUN];
     let step = numbers[Tag::STEP];
     println!(rt; "run {run}, step {step}: the file is at fault in a row of tag {tag}")

@@ -50,7 +50,7 @@ fn print_not_opened(
 // Takes the next row of the file, and says whether there is more to read.
 fn turn<R: Read>(rt: &impl Print, reader: &mut R, buffers: &mut Buffers) -> io::Result<bool> {
     let Some(row) = read_row(reader)? else {
-        print_fault(rt, &buffers.numbers, Tag::NONE)?;
+        print_fault(rt, &buffers.numbers, u32::from(Tag::NONE))?;
         return Ok(false);
     };
     let tag = row.tag as usize;
@@ -60,7 +60,7 @@ fn turn<R: Read>(rt: &impl Print, reader: &mut R, buffers: &mut Buffers) -> io::
         step(tag, buffers).is_some()
     };
     if !good {
-        print_fault(rt, &buffers.numbers, row.tag)?;
+        print_fault(rt, &buffers.numbers, u32::from(row.tag))?;
         return Ok(false);
     }
     goes_on(rt, row, buffers)
