@@ -14,7 +14,7 @@ use Rattle.laws.proofs.Passed.{bind_passed, refuse_passed}
 use Rattle.laws.proofs.SetAttributes.{allowed}
 
 -- a name may be made only where the attributes are valid
-new_valid : (text : List ℕ) (invalid : Bool) → check_new text invalid ≡ passed tt → invalid ≡ false
+pub new_valid : (text : List ℕ) (invalid : Bool) → check_new text invalid ≡ passed tt → invalid ≡ false
 unfolding check_new
 new_valid text false e = refl
 new_valid text true e = bind_passed (check_name text) _ tt e (λ _ e₁ f₁. refuse_passed (is_dots text) EXIST _ tt f₁ (λ t f₂. cc))

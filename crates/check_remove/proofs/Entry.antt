@@ -17,7 +17,7 @@ use Rattle.check_remove.specs.Meaning.{entry_checked_of}
 
 module _ (s : Store) (g : GoodRecords s) (d : ℕ) (text : List ℕ) (dots : ℕ) (r : Result NameNumber Status) (n : NameNumber) (is : r ≡ Ok n)
     (e : entry_checked_of r ≡ check_entry s d text dots) where
-  entry_found : Entry s n.0
+  pub entry_found : Entry s n.0
   entry_found = found_entry s g d text n.0 (entry_passed s d text dots n.0 (sym e ∙ ap entry_checked_of is)).1
 
   -- it lies in the store

@@ -13,13 +13,13 @@ use Rattle.mount_spec.specs.Path.{slash, before, split, components}
 use Rattle.mount_path.specs.Steps.{Component}
 
 -- the bytes of the component from `from` have been seen up to `at`
-record Seen (call : List ℕ) (from end at : ℕ) : Type 0 where
+pub record Seen (call : List ℕ) (from end at : ℕ) : Type 0 where
   pub low : from ≤ at
   pub high : at ≤ end
   pub so_far : components (part call from (end - from)) ≡ split (part call from (at - from)) (part call at (end - at))
 
 module _ (call : List ℕ) (from end : ℕ) (inside : end ≤ length call) where
-  seen_first : from ≤ end → Seen call from end from
+  pub seen_first : from ≤ end → Seen call from end from
   unfolding components part
   seen_first h =
       let z : from - from ≡ 0 = omega arith in
@@ -32,7 +32,7 @@ module _ (call : List ℕ) (from end : ℕ) (inside : end ≤ length call) where
       rw n (rw (← m) (part_cons call at (end - suc at) (omega arith)))
 
   -- another byte than a slash
-  seen_more : (at : ℕ) → Seen call from end at → at < end → (get_or call at 0 ≡ slash → ⊥) → Seen call from end (at + 1)
+  pub seen_more : (at : ℕ) → Seen call from end at → at < end → (get_or call at 0 ≡ slash → ⊥) → Seen call from end (at + 1)
   unfolding split
   seen_more at w h d =
       let x = get_or call at 0 in
@@ -50,7 +50,7 @@ module _ (call : List ℕ) (from end : ℕ) (inside : end ≤ length call) where
       }
 
   -- a slash
-  seen_slash : (at : ℕ) → Seen call from end at → at < end → get_or call at 0 ≡ slash
+  pub seen_slash : (at : ℕ) → Seen call from end at → at < end → get_or call at 0 ≡ slash
       → components (part call from (end - from)) ≡ before (part call from (at - from)) (components (part call (at + 1) (end - (at + 1))))
   unfolding split components
   seen_slash at w h e =
@@ -61,7 +61,7 @@ module _ (call : List ℕ) (from end : ℕ) (inside : end ≤ length call) where
       w.so_far ∙ ap (split cur) (next_byte at h) ∙ step
 
   -- the end of the path
-  seen_all : (at : ℕ) → Seen call from end at → at ≡ end
+  pub seen_all : (at : ℕ) → Seen call from end at → at ≡ end
       → components (part call from (end - from)) ≡ before (part call from (at - from)) (components (part call (at + 1) (end - (at + 1))))
   unfolding split components part
   seen_all at w e =

@@ -23,14 +23,21 @@ pub decimal_three : (n : ℕ) → 100 ≤ n → decimal n ≡ digit (n / 100) �
 unfolding decimal
 decimal_three n a = rw (le-ltb n 10 (omega arith), le-ltb n 100 a)
 
--- a host as dotted decimal is the decimals of its four bytes, highest first, and three full stops
+-- a host as dotted decimal is its four numbers and three full stops
+pub dotted_length : (host : ℕ) → length (dotted host)
+    ≡ length (decimal (host / 16777216)) + (1 + length (decimal (host / 65536 % 256))) + (1 + length (decimal (host / 256 % 256)))
+    + (1 + length (decimal (host % 256)))
+unfolding dotted
+dotted_length host = rw (length-append, length-append, length-append) (omega arith)
+
+-- the four numbers are its bytes, highest first
 module _ (host : ℕ) (bytes : List ℕ) (l : host < 4294967296) (e : bytes ≡ to_be_bytes w32 host) where
   pub dotted_bytes : dotted host
       ≡ decimal (get_or bytes 0 0) ++ (stop ∷ decimal (get_or bytes 1 0)) ++ (stop ∷ decimal (get_or bytes 2 0)) ++ (stop ∷ decimal (get_or bytes 3 0))
   unfolding dotted
   dotted_bytes = let top : host / 16777216 % 256 ≡ host / 16777216 = omega arith in rw (e, top)
 
-  pub dotted_length : length (dotted host)
+  pub dotted_bytes_length : length (dotted host)
       ≡ length (decimal (get_or bytes 0 0)) + (1 + length (decimal (get_or bytes 1 0))) + (1 + length (decimal (get_or bytes 2 0)))
       + (1 + length (decimal (get_or bytes 3 0)))
-  dotted_length = rw (dotted_bytes, length-append, length-append, length-append) (omega arith)
+  dotted_bytes_length = rw (dotted_bytes, length-append, length-append, length-append) (omega arith)
