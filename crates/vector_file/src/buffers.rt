@@ -46,7 +46,7 @@ fn differs(a: &Reply, b: &Reply, from: usize) -> bool
     other
 }
 
-// The first place at which two reply spaces differ, or their last. `position` over the two takes four times as long.
+// The first place at which two reply spaces differ, or their last. `position` over the two takes several times as long.
 pub fn first_difference(a: &Reply, b: &Reply) -> usize
     ensures { result < 33800 }
 {
